@@ -1,24 +1,21 @@
 -- What a peripheral holds after it heard a packet and answered it.
-use Rattle.std.proofs.Common.{◌≡◌, ◌⊎◌, inl, inr, ℕ, ◌+◌, ◌-◌, ◌<◌, ◌≤◌, ◌&&◌, ◌||◌, Bool, true, false, not, length, Some, refl, ap, sym, subst, ◌∙◌, arith}
+use Rattle.std.proofs.Common.{◌≡◌, ◌⊎◌, inl, inr, ℕ, ◌+◌, ◌-◌, ◌<◌, ◌≤◌, ◌&&◌, ◌||◌, Bool, true, false, length, Some, refl, ap, sym, subst, ◌∙◌, arith}
 use Rattle.data_pdu.specs.Layouts.{IsCtrl}
-use Rattle.control_octets.specs.procedure_stages.Closing.{is_disconnecting, is_open}
-use Rattle.control_octets.specs.procedure_stages.declared.closing.Closing.{Closing}
 use Rattle.joint_laws.specs.joint_controls.phased_control.Taken.{response_ctrl}
-use Rattle.link_model.specs.Acknowledgement.{Acknowledgement, Pdu, is_acked, next_sent, received_by, with_accepted}
-use Rattle.link_model.specs.Data.{Data, data_acked_if, data_sent_if, is_control, is_data}
-use Rattle.link_model.specs.Events.{event_heard, event_sent}
+use Rattle.link_model.specs.Acknowledgement.{Acknowledgement, Pdu, is_acked, received_by, with_accepted}
+use Rattle.link_model.specs.Data.{Data, data_acked_if, is_control, is_data}
+use Rattle.link_model.specs.Events.{event_heard}
 use Rattle.link_model.specs.Setup.{Setup}
 use Rattle.link_model.specs.declared.events.ConnectionEvent.{ConnectionEvent}
 use Rattle.link_model.specs.declared.state.Leaving.{Leaving}
 use Rattle.link_model.specs.Facts.{Encryption, Facts}
 use Rattle.link_model.specs.Controls.{is_procedure_pdu, is_terminate}
-use Rattle.link_model.specs.Packets.{more_sent}
 use Rattle.link_model.specs.phased_end.Taking.{drawn}
 use Rattle.link_model.specs.phased_end.keyed_control.declared.material.Response.{Response}
-use Rattle.link_model.specs.Plain.{IsPlain}
 use Rattle.link_model.specs.Receiving.{accepted_if, acknowledged_if, heard_in_slot, taken_if}
-use Rattle.link_model.specs.Sending.{control_gone_if, facts_sent, fixed_sent, leaving_sent, takes_leave}
+use Rattle.link_model.specs.Sending.{control_gone_if, facts_sent, fixed_sent, takes_leave}
 use Rattle.link_pairs.specs.Ends.{HasExchange, IsAtRest, phased_of, turns_at}
+use Rattle.link_pairs.proofs.KeysHeld.{sent_as}
 use Rattle.link_pairs.proofs.PhasedKept.{PhasedKeeps}
 use Rattle.link_pairs.proofs.TakingPdus.{IsTakenBy, taken_same}
 
@@ -76,9 +73,6 @@ module _ (slot : ℕ) (more acks : Bool) (facts : Facts) where
   pub seen_fixed : seen.outgoing.fixed ≡ facts.outgoing.fixed
   seen_fixed = acked_fixed (acks && is_data facts.acknowledgement.last) facts.outgoing
 
-  seen_payload : seen.outgoing.payload ≡ facts.outgoing.payload
-  seen_payload = acked_payload (acks && is_data facts.acknowledgement.last) facts.outgoing
-
   pub fixed_again : is_acked seen.acknowledgement ≡ false → fixed.outgoing.fixed ≡ facts.outgoing.fixed
   fixed_again out = ap (λ (o : Data). o.fixed) (none_gone_if (is_acked seen.acknowledgement) seen.fixes_control slot seen out) ∙ seen_fixed
 
@@ -105,10 +99,6 @@ module _ (slot : ℕ) (more acks : Bool) (facts : Facts) (accepted : Bool) (pdu 
   pub taken_response : taken.encryption.response ≡ facts.encryption.response
   taken_response = took.response ∙ ap (λ (e : Encryption). e.response) (gone slot more acks facts).encryption
 
-  taken_payload : taken.outgoing.payload ≡ facts.outgoing.payload
-  taken_payload =
-      ap (λ (o : Data). o.payload) took.outgoing ∙ (gone slot more acks facts).payload ∙ seen_payload slot more acks facts
-
   pub all_same : is_acked taken.acknowledgement ≡ is_acked (seen slot more acks facts).acknowledgement
   all_same = ap is_acked taken_acknowledgement
 
@@ -130,24 +120,17 @@ module _ (slot : ℕ) (more acks : Bool) (facts : Facts) (accepted : Bool) (pdu 
 
   -- what it holds after it sent its last PDU again, or the next one
   abbrev pub answered_if : Bool → Facts
-  answered_if all =
-      record now {
-        event = event_sent slot (more_sent now) now.event;
-        acknowledgement = next_sent all now.outgoing.fixed now.acknowledgement;
-        outgoing = data_sent_if all now.outgoing;
-        leaving = leaving_sent now.leaving;
-      }
+  answered_if all = sent_as all slot now
 
   -- its last PDU then, as it is on the air
   pub record HasLast (all : Bool) : Type 0 where
     pub none_gone : is_control (answered_if all).outgoing.fixed ≡ false
-    pub payload : (answered_if all).outgoing.payload ≡ (answered_if all).acknowledgement.last.body
     pub fits_any : length (answered_if all).acknowledgement.last.body ≤ 251
     pub two_bits : (answered_if all).acknowledgement.last.llid < 4
 
   -- the fixed one
   pub last_next : length now.outgoing.fixed.body ≤ 251 → now.outgoing.fixed.llid < 4 → HasLast true
-  last_next fits two_bits = record { none_gone = refl; payload = refl; fits_any = fits; two_bits = two_bits }
+  last_next fits two_bits = record { none_gone = refl; fits_any = fits; two_bits = two_bits }
 
   -- the same again
   pub last_again : (setup : Setup) → IsAtRest setup (slot + 1) facts → is_acked (seen slot more acks facts).acknowledgement ≡ false → HasLast false
@@ -157,14 +140,13 @@ module _ (slot : ℕ) (more acks : Bool) (facts : Facts) (accepted : Bool) (pdu 
         none_gone =
             ap (λ (o : Data). is_control o.fixed) (took slot more acks facts accepted pdu).outgoing ∙ ap is_control (fixed_again slot more acks facts out)
             ∙ rests.none_gone;
-        payload = taken_payload slot more acks facts accepted pdu ∙ rests.payload ∙ ap (λ (x : Pdu). x.body) (sym last);
         fits_any = subst (λ (x : Pdu). length x.body ≤ 251) (sym last) rests.fits_any;
         two_bits = subst (λ (x : Pdu). x.llid < 4) (sym last) rests.two_bits;
       }
 
 module _ (setup : Setup) (slot : ℕ) (more acks : Bool) (facts : Facts) (accepted : Bool) (pdu : Pdu) (rests : IsAtRest setup (slot + 1) facts)
     (keeps : PhasedKeeps (phased_of facts) (phased_of (taken slot more acks facts accepted pdu)))
-    (plain : IsPlain setup.link.role (taken slot more acks facts accepted pdu)) (has : HasExchange slot facts)
+    (has : HasExchange slot facts)
     (ends : (acks && is_terminate facts.acknowledgement.last) ≡ false) where
   abbrev answered : Facts
   answered = taken slot more acks facts accepted pdu
@@ -192,10 +174,8 @@ module _ (setup : Setup) (slot : ℕ) (more acks : Bool) (facts : Facts) (accept
           response =
               subst (λ (r : Response). IsCtrl (response_ctrl (drawn r))) (sym (taken_response slot more acks facts accepted pdu)) rests.holds.response;
         };
-        plain = record { encryption = plain.encryption; control = plain.control };
         role = keeps.role setup.link.role rests.role;
         none_gone = last.none_gone;
-        payload = last.payload;
         fits_any = last.fits_any;
         two_bits = last.two_bits;
         slot = λ one. event_slot ∙ rests.slot has.0 ∙ sym kept.anchor;
@@ -206,6 +186,5 @@ module _ (setup : Setup) (slot : ℕ) (more acks : Bool) (facts : Facts) (accept
               let at = in_event in omega (arith, event_slot, heard_now, at),
             );
         past = omega (arith, heard_now);
-        goes = subst (λ (closing : Closing). not (is_disconnecting closing) ≡ is_open closing) (sym kept.closing) rests.goes;
         stays = taken_stays slot more acks facts accepted pdu ∙ (λ i. rests.stays i || ends i);
       }

@@ -1,66 +1,41 @@
 -- A turn begins: each end whose anchor is in it enters its next event, and both runs of the link begin the turn.
 use Rattle.std.specs.Prelude.{IfSome}
-use Rattle.std.specs.List.{All}
-use Rattle.std.proofs.Common.{◌≡◌, ◌+◌, ◌==◌, ◌++◌, ◌&&◌, ℕ, Bool, true, false, not, [], ◌∷◌, Option, Some, None, is_none, is_some, refl, sym, ap, subst, ◌∙◌, arith, if◌then◌else◌}
+use Rattle.std.proofs.Common.{◌≡◌, ◌+◌, ◌==◌, ◌++◌, ◌&&◌, ℕ, Bool, true, false, [], ◌∷◌, Option, Some, None, is_none, refl, sym, ap, subst, ◌∙◌, arith, if◌then◌else◌}
 use Rattle.std.proofs.lemmas.Bool.{and_parts, eqb-true}
 use Rattle.instants.specs.declared.track.Change.{Change}
-use Rattle.instants.specs.Track.{TrackFacts, is_due, next_anchor_of, next_number, track_changed, track_in_next, track_unchanged}
-use Rattle.control_octets.specs.procedure_stages.declared.closing.Closing.{Closing}
-use Rattle.control_octets.specs.procedure_stages.Closing.{is_disconnecting, is_open}
-use Rattle.control_octets.specs.procedure_values.declared.asks.Ask.{Ask}
-use Rattle.control_octets.specs.procedure_values.declared.asks.Ask.TheVariants.{Encrypt}
+use Rattle.instants.specs.Track.{TrackFacts, is_due, next_anchor_of, track_changed, track_in_next, track_unchanged}
 use Rattle.control_octets.specs.procedure_stages.Kinds.{role_of}
-use Rattle.control_octets.specs.procedures.Beginning.{ask_at, begin_at, place_to_begin}
-use Rattle.control_octets.specs.procedures.Going.{entered_step}
-use Rattle.control_octets.specs.procedures.Table.{TableFacts}
+use Rattle.control_octets.specs.Fitting.{FitsOctets}
 use Rattle.two_tracks.specs.TwoEnds.{after_turn, enters}
 use Rattle.control_octets.specs.control_model.Control.{Control, Enters as control_enters, after}
-use Rattle.control_octets.proofs.control_model.Calls.{any_step}
 use Rattle.control_octets.proofs.control_model.Moving.{enters_track, same_role}
 use Rattle.joint_laws.specs.joint_controls.phased_control.Phased.{Phased, ask_begun, is_quiet_now as is_quiet_phased, request_of, table_entered}
 use Rattle.joint_laws.specs.joint_controls.phased_control.Taken.{Enters, phased_after, role_now}
-use Rattle.unencrypted_ends.specs.Unencrypted.{HasNoEncryption}
-use Rattle.unencrypted_ends.proofs.Staying.{AsksNone, entered_none, wanted_here}
 use Rattle.joint_laws.specs.joint_controls.Joint.{CentralEnters, Joint, PeripheralEnters, act, after_all, is_running, may, may_all}
 use Rattle.joint_laws.specs.joint_controls.Joint.{after as joint_after}
 use Rattle.joint_laws.proofs.joint_controls.Running.{goes_on}
 use Rattle.joint_laws.specs.joint_parameters.Turns.{Begins, IsPaired, Link, link_after, step_if}
 use Rattle.joint_laws.proofs.joint_parameters.Pairing.{after_may, running_from}
+use Rattle.joint_keys.specs.KeyedJoint.{Keys}
+use Rattle.joint_keys.specs.KeyedLinks.{keys_in_step}
+use Rattle.joint_keys.proofs.PhasedRanges.{request_is}
 use Rattle.link_model.specs.Setup.{Setup}
 use Rattle.link_model.specs.Controls.{is_quiet_now}
 use Rattle.link_model.specs.Entering.{facts_entered}
 use Rattle.link_model.specs.Facts.{Facts}
-use Rattle.link_model.specs.Plain.{IsPlain}
-use Rattle.link_model.specs.Step.{EventEntered}
-use Rattle.link_model.proofs.Plain.{step_plain}
+use Rattle.link_model.specs.keyed_control.KeyedSteps.{Enters as keyed_enters}
 use Rattle.link_pairs.specs.Ends.{AreEnds, IsAtRest, IsLaterPdu, phased_of}
-use Rattle.link_pairs.specs.Shown.{Shows}
+use Rattle.link_pairs.specs.Shown.{HasKeys, HaveKeys, Shows}
 use Rattle.link_pairs.specs.Turns.{entered_in}
 use Rattle.link_pairs.proofs.ControlKept.{IsKept}
 use Rattle.link_pairs.proofs.PhasedEnds.{entered_phased}
 use Rattle.link_pairs.proofs.PhasedKept.{PhasedFits, entered_fits, entered_keeps, entered_lasts, fits_of}
-use Rattle.link_pairs.proofs.Reaching.{IsReached, comes, paired}
+use Rattle.link_pairs.proofs.KeyedRuns.{central_entered, keys_entered_if, peripheral_entered}
+use Rattle.link_pairs.proofs.KeysHeld.{has_moved, have_after}
+use Rattle.link_pairs.proofs.Reaching.{IsReached, comes, joint_at, keys_at, paired}
 use Rattle.link_pairs.proofs.Showing.{central_shows, peripheral_shows}
 
 -- ---- the control part
-
-closing_begun : (f : TableFacts) (slot : ℕ) (place : Option ℕ) (ask : Option Ask) → (begin_at f slot place ask).0.closing ≡ f.closing
-closing_begun f slot (Some place) (Some ask) = refl
-closing_begun f slot (Some place) None = refl
-closing_begun f slot None ask = refl
-
-closing_entered : (b : Bool) (f : TableFacts) → (entered_step f b).0.closing ≡ f.closing
-closing_entered true f = refl
-closing_entered false f = refl
-
--- whether the link is to end stays as it is
-enters_closing : (c : Control) (slot : ℕ) (quiet : Bool) → (after (control_enters slot quiet) c).table.closing ≡ c.table.closing
-enters_closing c slot quiet =
-    any_step (λ (d : Control). d.table.closing ≡ c.table.closing) (control_enters slot quiet) c
-    (closing_begun f slot (place_to_begin f quiet) (ask_at (place_to_begin f quiet) f.wanted) ∙ closing_entered (is_some (next_number c.track)) c.table) refl
-  where
-    f : TableFacts
-    f = (entered_step c.table (is_some (next_number c.track))).0
 
 anchor_changed : (due : Bool) (change : Change) (t : TrackFacts) → (if due then track_changed change t else track_unchanged t).anchor ≡ next_anchor_of t
 anchor_changed true change t = refl
@@ -75,23 +50,15 @@ anchor_entered (Some change) t = anchor_changed (is_due change t.entered) change
 abbrev pub entering : Bool → Setup → ℕ → Facts → Facts
 entering enters setup slot facts = if enters then facts_entered setup slot facts else facts
 
--- the request of an encryption that begins fits; as long as no link encrypts, none begins
-begun_later : (x : Phased) → HasNoEncryption x.control.table → IfSome (request_of (ask_begun (table_entered x) (is_quiet_phased x))) IsLaterPdu
-begun_later x none =
-    by (place_to_begin f (is_quiet_phased x)) (ask_at (place_to_begin f (is_quiet_phased x)) f.wanted) refl
-    (entered_none x.control.table (is_some (next_number x.control.track)) none).wanted
-  where
-    f : TableFacts
-    f = table_entered x
+-- the request of an encryption that begins fits
+begun_later : (x : Phased) → FitsOctets x.control → IfSome (request_of (ask_begun (table_entered x) (is_quiet_phased x))) IsLaterPdu
+begun_later = request_is IsLaterPdu (λ rand ediv skd_m iv_m fits. (fits, refl))
 
-    later : (ask : Ask) → AsksNone ask → IfSome (request_of (Some ask)) IsLaterPdu
-    later (Encrypt rand ediv ltk skd_m iv_m) is = absurd (cc)
-    later ask is = tt
-
-    by : (place : Option ℕ) (ask : Option Ask) → ask_at place f.wanted ≡ ask → All AsksNone f.wanted → IfSome (request_of ask) IsLaterPdu
-    by place None is all = tt
-    by None (Some ask) is all = absurd (cc)
-    by (Some place) (Some ask) is all = later ask (wanted_here place ask f.wanted is all)
+-- the keys of an end that enters, or does not
+entering_has : (enters : Bool) (setup : Setup) (slot : ℕ) (x : Phased) (keys : Keys) (facts : Facts) → x ≡ phased_of facts → HasKeys keys facts
+    → HasKeys (keys_entered_if enters slot x keys) (entering enters setup slot facts)
+entering_has true setup slot x keys facts is has = has_moved (keyed_enters slot) x keys facts (facts_entered setup slot facts) is refl refl refl refl has
+entering_has false setup slot x keys facts is has = has
 
 module _ (setup : Setup) (slot : ℕ) (facts : Facts) (lasts : facts.control.ends ≡ None) where
   pub entered_is : (enters : Bool) → (next_anchor_of facts.control.track == slot) ≡ enters
@@ -116,7 +83,7 @@ module _ (setup : Setup) (slot : ℕ) (facts : Facts) (lasts : facts.control.end
     x = phased_of facts
 
     begun : IfSome (request_of (ask_begun (table_entered x) (is_quiet_phased x))) IsLaterPdu
-    begun = begun_later x r.plain.control
+    begun = begun_later x r.fits
 
     pub entering_lasts : (enters : Bool) → (entering enters setup slot facts).control.ends ≡ None
     entering_lasts true = ap (λ (y : Phased). y.control.ends) (entered_phased setup slot facts) ∙ entered_lasts x slot lasts begun
@@ -144,30 +111,20 @@ module _ (setup : Setup) (slot : ℕ) (facts : Facts) (lasts : facts.control.end
         ∙ sym (anchor_entered facts.control.track.waits facts.control.track)
         ∙ ap (λ (t : TrackFacts). t.anchor) (sym (enters_track facts.control slot (is_quiet_now facts) lasts)) ∙ sym kept.anchor
 
-    plain_entered : IsPlain setup.link.role (facts_entered setup slot facts)
-    plain_entered =
-        subst (IsPlain setup.link.role) (λ i. if is_none (lasts i) then facts_entered setup slot facts else facts)
-        (step_plain setup facts (EventEntered slot) r.plain)
-
     pub entering_rests : (enters : Bool) → (next_anchor_of facts.control.track == slot) ≡ enters → IsAtRest setup turns (entering enters setup slot facts)
     entering_rests false is = r
     entering_rests true is =
         record {
           fits = fits.control;
           holds = record { request = fits.request; kept = fits.kept; response = r.holds.response };
-          plain = plain_entered;
           role = entered_role;
           none_gone = r.none_gone;
-          payload = r.payload;
           fits_any = r.fits_any;
           two_bits = r.two_bits;
           slot = λ entered. entered_slot is;
           number = refl;
           heard = λ heard. absurd (cc);
           past = r.past;
-          goes =
-              subst (λ (closing : Closing). not (is_disconnecting closing) ≡ is_open closing)
-              (sym (kept.closing ∙ enters_closing facts.control slot (is_quiet_now facts))) r.goes;
           stays = r.stays;
         }
 
@@ -176,17 +133,14 @@ rests_later setup turns facts r =
     record {
       fits = r.fits;
       holds = r.holds;
-      plain = r.plain;
       role = r.role;
       none_gone = r.none_gone;
-      payload = r.payload;
       fits_any = r.fits_any;
       two_bits = r.two_bits;
       slot = r.slot;
       number = r.number;
       heard = r.heard;
       past = let before = r.past in omega (arith, before);
-      goes = r.goes;
       stays = r.stays;
     }
 
@@ -299,3 +253,22 @@ module _ (central peripheral : Setup) (slot : ℕ) (answers : Bool) (l : Link) (
         (running_from next (goes_on l.joint running).stopped
         (ap (λ (x : Phased). x.control.ends) central_phased ∙ entering_lasts central slot c central_lasts slot s.central_rests _)
         (ap (λ (x : Phased). x.control.ends) peripheral_phased ∙ entering_lasts peripheral slot p peripheral_lasts slot s.peripheral_rests _))
+
+    pub begun_keys : HaveKeys (keys_at central peripheral l reached) c p
+        → HaveKeys (keys_in_step (record { step = Begins slot; ltk = [] }) l (keys_at central peripheral l reached)) (entered_in central slot c)
+        (entered_in peripheral slot p)
+    begun_keys keys =
+        let k = keys_at central peripheral l reached in
+        let one = enters l.turns.turns l.turns.central_open l.turns.central in
+        let other = enters l.turns.turns l.turns.peripheral_open l.turns.peripheral in
+        have_after [] (step_if one (CentralEnters slot) ++ step_if other (PeripheralEnters slot)) k l.joint (entered_in central slot c) (entered_in peripheral slot p)
+        (joint_at central peripheral l reached) (comes central peripheral ends (Begins slot) l reached running tt)
+        (subst (λ (x : Keys). HasKeys x (entered_in central slot c))
+        (sym (central_entered [] l.joint k.central one other slot ∙ λ i. keys_entered_if (central_at i) slot l.joint.central k.central))
+        (subst (HasKeys (keys_entered_if (next_anchor_of c.control.track == slot) slot l.joint.central k.central)) (sym (entered_is central slot c central_lasts _ refl))
+        (entering_has (next_anchor_of c.control.track == slot) central slot l.joint.central k.central c s.central_part keys.central_keys)))
+        (subst (λ (x : Keys). HasKeys x (entered_in peripheral slot p))
+        (sym (peripheral_entered [] l.joint k.peripheral one other slot ∙ λ i. keys_entered_if (peripheral_at i) slot l.joint.peripheral k.peripheral))
+        (subst (HasKeys (keys_entered_if (next_anchor_of p.control.track == slot) slot l.joint.peripheral k.peripheral))
+        (sym (entered_is peripheral slot p peripheral_lasts _ refl))
+        (entering_has (next_anchor_of p.control.track == slot) peripheral slot l.joint.peripheral k.peripheral p s.peripheral_part keys.peripheral_keys)))

@@ -1,5 +1,5 @@
 -- A central that hears the answer of the peripheral: it sees its last PDU acknowledged, and takes that of the peripheral.
-use Rattle.std.proofs.Common.{◌≡◌, ℕ, ◌+◌, ◌≤◌, ◌&&◌, ◌||◌, not, Bool, true, false, List, ◌++◌, None, is_none, refl, ap, sym, ◌∙◌, subst, if◌then◌else◌}
+use Rattle.std.proofs.Common.{◌≡◌, ◌⊎◌, inl, inr, ℕ, ◌+◌, ◌≤◌, ◌&&◌, ◌||◌, not, Bool, true, false, List, [], ◌++◌, None, is_none, refl, ap, sym, ◌∙◌, subst, if◌then◌else◌}
 use Rattle.std.proofs.lemmas.Bool.{and_from, and_parts, or_right}
 use Rattle.ble_base.specs.declared.roles.Role.{Role}
 use Rattle.ble_base.specs.declared.roles.Role.TheVariants.{Central}
@@ -13,7 +13,9 @@ use Rattle.joint_laws.specs.joint_controls.phased_control.Taken.{SeesAcknowledge
 use Rattle.joint_laws.specs.joint_controls.Ends.{outgoing_on}
 use Rattle.joint_laws.specs.joint_controls.Joint.{CentralAcked, CentralTakes, Clear, Control as control_item, Data as data_item, Item, Joint, JointStep, OnAir, Taken, Way, act, after_all, central_takes, is_free, is_last, is_running, is_taken, is_terminate, item_on_air, may_all, no_response, taking}
 use Rattle.joint_laws.proofs.joint_controls.Running.{GoesOn, goes_on, none_of}
-use Rattle.joint_laws.specs.joint_parameters.Turns.{IsAnswered, Link, LinkStep, link_after, step_if, takes_item}
+use Rattle.joint_keys.specs.KeyedJoint.{KeyedJoint, Keys}
+use Rattle.joint_keys.specs.KeyedLinks.{keys_in_step}
+use Rattle.joint_laws.specs.joint_parameters.Turns.{CentralShuts, IsAnswered, Link, LinkStep, link_after, step_if, takes_item}
 use Rattle.joint_laws.proofs.joint_parameters.Pairing.{after_may, running_from}
 use Rattle.joint_laws.proofs.joint_parameters.Runs.{after_joined}
 use Rattle.link_model.specs.phased_end.Taking.{drawn}
@@ -24,25 +26,33 @@ use Rattle.link_model.specs.Data.{is_control, is_data, is_empty}
 use Rattle.link_model.specs.Controls.{goes_on as end_goes_on, is_procedure_pdu, is_terminate as is_terminate_pdu}
 use Rattle.link_model.specs.Facts.{Facts, keyed_of}
 use Rattle.link_model.specs.Step.{PacketReceived}
-use Rattle.link_model.specs.Plain.{IsPlain}
+use Rattle.link_model.specs.Packets.{is_forged}
 use Rattle.link_model.specs.Receiving.{accepted_if, data_taken_if, facts_hearing, procedures_take_if, taken_if}
-use Rattle.link_model.proofs.Plain.{step_plain}
+use Rattle.link_model.proofs.Hearing.{IsHeardWhole}
+use Rattle.link_pairs.proofs.PlainEnds.{plain_step}
 use Rattle.link_pairs.specs.Ends.{AreEnds, heard_turns, is_lasting, phased_of}
-use Rattle.link_pairs.specs.Hearing.{IsPacketOf, received}
-use Rattle.link_pairs.specs.Shown.{AreLinked, Shows}
+use Rattle.link_pairs.specs.Hearing.{IsPacketOf, is_mixed, received}
+use Rattle.link_pairs.specs.Shown.{AreLinked, HasKeys, HaveKeys, Shows}
 use Rattle.link_pairs.specs.Ways.{IsControlPdu, ShowsWay}
 use Rattle.link_pairs.proofs.PhasedEnds.{acked_if, acked_lasts, acked_phased, data_phased, drawn_alike, takes_phased}
 use Rattle.link_pairs.proofs.PhasedKept.{PhasedKeeps, acked_keeps_if, data_keeps, fits_of, kept_then, stays_kept, taken_keeps}
 use Rattle.link_pairs.proofs.TakingPdus.{taken_same}
 use Rattle.link_pairs.proofs.TerminatesNoted.{terminates_nothing}
-use Rattle.link_pairs.proofs.SeenAcknowledged.{control_seen, ends_nothing}
+use Rattle.link_pairs.proofs.SeenAcknowledged.{control_seen, ends_nothing, keys_seen}
+use Rattle.link_pairs.proofs.Shutting.{forged_lasts_not, shut_joint}
+use Rattle.link_pairs.proofs.TakingKeys.{central_alike, took_keys}
 use Rattle.link_pairs.proofs.Counts.{Says, acknowledged_by, heard_agreed, is_fresh, says_right, turned}
 use Rattle.link_pairs.proofs.HeardFacts.{acked_facts, heard_rests, hears_shows}
 use Rattle.link_pairs.proofs.Items.{control_is_no_data, control_is_procedure, data_is_no_procedure, never}
-use Rattle.link_pairs.proofs.Lasting.{lasts_before}
 use Rattle.link_pairs.proofs.LastPdus.{last_reached}
-use Rattle.link_pairs.proofs.Reaching.{IsReached, IsShown, comes, linked_on, reached_next}
-use Rattle.link_pairs.proofs.Reading.{AreHeard, IsRead, is_read}
+use Rattle.link_pairs.proofs.Lasting.{lasts_before}
+use Rattle.link_pairs.proofs.HasSent.{sent_packet}
+use Rattle.link_pairs.proofs.KeyedRuns.{all_joined, central_acked, central_took, keys_acked_if, keys_all, keys_taken_if, peripheral_apart}
+use Rattle.link_pairs.proofs.KeysHeld.{acked_has, have_after}
+use Rattle.link_pairs.proofs.LastFits.{fits_up}
+use Rattle.link_pairs.proofs.Reaching.{IsReached, IsShown, comes, joint_at, keys_at, keys_next, linked_on, not_both, reached_next, shut_on}
+use Rattle.link_pairs.proofs.Replying.{received_forged}
+use Rattle.link_pairs.proofs.Reading.{IsRead, read_or_forged}
 use Rattle.link_pairs.proofs.Ways.{Arrival, ItemTaken, NothingTaken, arrives}
 use Rattle.link_pairs.proofs.PeripheralSteps.{may_parts, one_step}
 
@@ -144,7 +154,7 @@ module _ (central peripheral : Setup) (at_central : central.link.role ≡ Centra
       ∙ λ i. record l.joint { central = seen_part i; down = (if is_taken l.joint.down then Clear else l.joint.down) }
 
   -- its procedures take what arrived, or nothing
-  module _ (accepted : Bool) (plain : IsPlain central.link.role (taken_if accepted last slot acked))
+  module _ (accepted : Bool)
       (agreed : AreInAgreement (received_by acks accepted last c.acknowledgement) p.acknowledgement) where
     abbrev given : Facts
     given = accepted_if accepted last acked
@@ -167,7 +177,7 @@ module _ (central peripheral : Setup) (at_central : central.link.role ≡ Centra
         let took = taken_same (accepted && is_procedure_pdu last) (accepted && is_data last) last slot given in (
           λ still. let goes = goes_on j still in
               hears_shows central peripheral slot more acks fresh c p l s says accepted (phased_of now) up stopped now took refl (shown goes.stopped) free agreed
-              (heard_rests slot more acks accepted last c central now took (kept_then (phased_of c) seen (phased_of now) seen_keeps (keeps goes.stopped)) plain
+              (heard_rests slot more acks accepted last c central now took (kept_then (phased_of c) seen (phased_of now) seen_keeps (keeps goes.stopped))
               s.central_rests past entered stays_open),
           λ lasting. let parts = and_parts (end_goes_on now) (is_none now.leaving.ended_by_peer) lasting in
               let none = none_of now.control.ends parts.0 in
@@ -221,7 +231,7 @@ module _ (central peripheral : Setup) (at_central : central.link.role ≡ Centra
 
     -- it takes what arrived
     hears_by : (takes : Bool) → Arrival l.joint.up p.acknowledgement c.acknowledgement takes accepted → after_hearing (joint_by takes) now
-    hears_by takes (NothingTaken is none no_data free shown) =
+    hears_by takes (NothingTaken is none no_data no_count free shown) =
         subst (λ (b : Bool). after_hearing (joint_by b) now) (sym is) (nothing_taken none no_data free shown)
     hears_by takes (ItemTaken data_item sealed way is is_accepted item shown) =
         subst (λ (b : Bool). after_hearing (joint_by b) now) (sym is) (data_taken_now sealed way is_accepted item (shown refl))
@@ -265,7 +275,7 @@ module _ (central peripheral : Setup) (ends : AreEnds central peripheral) (slot 
       ∙ ap next_facts (accepted_by (is_fresh_pdu && has_room) (is_empty pdu) _ open_still)
 
   module _ (l : Link) (reached : IsReached central peripheral l) (running : is_running l.joint ≡ true)
-      (s : Shows central peripheral (slot + 1) true l c p) where
+      (s : Shows central peripheral (slot + 1) true l c p) (keys : HaveKeys (keys_at central peripheral l reached) c p) where
     says : Says c.acknowledgement p.acknowledgement acks_last is_fresh_pdu
     says = says_right c.acknowledgement p.acknowledgement s.agreement header read.bits read.out
 
@@ -300,16 +310,75 @@ module _ (central peripheral : Setup) (ends : AreEnds central peripheral) (slot 
     hears_now =
         let g = goes_on l.joint running in
         let is = heard_as (stays_open central peripheral ends.is_central slot header.md acks_last is_fresh_pdu c p l s says g past entered out_last) in
-        let plain : IsPlain central.link.role (next_facts (is_fresh_pdu && has_room)) =
-        subst (IsPlain central.link.role) is (step_plain central c (PacketReceived slot octets room) s.central_rests.plain) in
         subst (λ (j : Joint). heard_in j (received central slot octets room c)) (sym joint_now)
         (subst (heard_in (taking_if takes slot (acking_if (is_taken l.joint.down) l.joint))) (sym is)
         (hears_by central peripheral ends.is_central slot header.md acks_last is_fresh_pdu c p l s says g past entered out_last
-        (is_fresh_pdu && has_room) plain agreed_now takes arrival))
+        (is_fresh_pdu && has_room) agreed_now takes arrival))
 
     -- also where the run stops by it
     pub control_heard : (link_after step l).joint.central.control ≡ (received central slot octets room c).control
     control_heard = hears_now.2
+
+    -- ---- its keys
+
+    abbrev k : KeyedJoint
+    k = keys_at central peripheral l reached
+
+    abbrev acked_now : Facts
+    acked_now = acked_facts slot header.md acks_last c
+
+    acked_keys : HasKeys (keys_acked_if (is_taken l.joint.down) l.joint.central k.central) acked_now
+    acked_keys =
+        subst (λ (x : Keys). HasKeys x acked_now)
+        (keys_seen c.acknowledgement p.acknowledgement acks_last is_fresh_pdu says l.joint.down (phased_of c) k.central s.down out_last
+        ∙ ap (λ (x : Phased). keys_acked_if (is_taken l.joint.down) x k.central) (sym s.central_part))
+        (acked_has slot header.md acks_last (phased_of c) k.central c refl keys.central_keys)
+
+    abbrev keys_before : Keys
+    keys_before = keys_acked_if (is_taken l.joint.down) l.joint.central k.central
+
+    abbrev taken_now : Facts
+    taken_now = next_facts (is_fresh_pdu && has_room)
+
+    -- whatever it would draw
+    now_keys : HasKeys (keys_taken_if takes (item_on_air l.joint.up) slot no_response (phased_of acked_now) keys_before) taken_now
+    now_keys =
+        subst (λ (x : Keys). HasKeys x taken_now)
+        (central_alike takes (item_on_air l.joint.up) slot (drawn c.encryption.response) no_response (phased_of acked_now) keys_before
+        (seen_role central peripheral ends.is_central slot header.md acks_last is_fresh_pdu c p l s says (goes_on l.joint running) past entered out_last))
+        (took_keys l.joint.up p.acknowledgement c.acknowledgement takes (is_fresh_pdu && has_room) slot (phased_of acked_now) keys_before acked_now refl acked_keys arrival)
+
+    abbrev first_steps : List JointStep
+    first_steps = step_if (is_taken l.joint.down) CentralAcked
+
+    abbrev last_steps : List JointStep
+    last_steps = step_if takes (CentralTakes slot)
+
+    all_come : may_all (first_steps ++ last_steps) l.joint ≡ true
+    all_come = comes central peripheral ends step l reached running (s.replies refl)
+
+    joint_acked : after_all first_steps l.joint
+        ≡ joint_seen central peripheral ends.is_central slot header.md acks_last is_fresh_pdu c p l s says (goes_on l.joint running) past entered out_last
+    joint_acked =
+        one_by (is_taken l.joint.down) CentralAcked l.joint (may_parts first_steps last_steps l.joint all_come).0
+        ∙ joint_seen_is central peripheral ends.is_central slot header.md acks_last is_fresh_pdu c p l s says (goes_on l.joint running) past entered out_last
+
+    keys_run : keys_all Central (first_steps ++ last_steps) [] l.joint k.central
+        ≡ keys_taken_if takes (item_on_air l.joint.up) slot no_response (phased_of acked_now) keys_before
+    keys_run =
+        all_joined Central first_steps last_steps [] l.joint k.central
+        ∙ (λ i. keys_all Central last_steps [] (joint_acked i) (central_acked [] l.joint k.central (is_taken l.joint.down) i))
+        ∙ central_took []
+        (joint_seen central peripheral ends.is_central slot header.md acks_last is_fresh_pdu c p l s says (goes_on l.joint running) past entered out_last)
+        keys_before takes slot
+
+    keys_heard : HaveKeys (keys_in_step (record { step = step; ltk = [] }) l k) (received central slot octets room c) p
+    keys_heard =
+        have_after [] (first_steps ++ last_steps) k l.joint (received central slot octets room c) p (joint_at central peripheral l reached) all_come
+        (subst (HasKeys (keys_all Central (first_steps ++ last_steps) [] l.joint k.central))
+        (sym (heard_as (stays_open central peripheral ends.is_central slot header.md acks_last is_fresh_pdu c p l s says (goes_on l.joint running) past entered out_last)))
+        (subst (λ (x : Keys). HasKeys x taken_now) (sym keys_run) now_keys))
+        (subst (λ (x : Keys). HasKeys x p) (sym (peripheral_apart [] l.joint k.peripheral (is_taken l.joint.down) takes slot)) keys.peripheral_keys)
 
     pub shown_on : IsShown central peripheral (slot + 1) false (received central slot octets room c) p
     shown_on =
@@ -317,17 +386,39 @@ module _ (central peripheral : Setup) (ends : AreEnds central peripheral) (slot 
           link = link_after step l;
           reached = reached_next central peripheral step l reached running (s.replies refl) tt;
           shows = hears_now.0;
+          keys =
+              λ goes. subst (λ (x : KeyedJoint). HaveKeys x (received central slot octets room c) p)
+              (sym (keys_next central peripheral (record { step = step; ltk = [] }) l reached running (s.replies refl) tt)) keys_heard;
           lasts = λ central_lasts peripheral_lasts. hears_now.1 central_lasts;
         }
 
-pub hears : AreHeard → (central peripheral : Setup) (slot : ℕ) (c p : Facts) (channel : ℕ) (octets : List ℕ) (room : Bool)
-    → AreEnds central peripheral → AreLinked central peripheral (slot + 1) true c p → heard_turns central c ≤ slot
-    → 1 ≤ c.control.track.entered → IsPacketOf peripheral slot p channel octets → channel ≡ c.event.channel
-    → AreLinked central peripheral (slot + 1) false (received central slot octets room c) p
-hears heard central peripheral slot c p channel octets room ends linked past entered packet same =
-    linked_on central peripheral (slot + 1) (slot + 1) true false c p (received central slot octets room c) p linked
-    (lasts_before central c (PacketReceived slot octets room)) (λ is. is)
-    (λ l reached running s. shown_on central peripheral ends slot c p octets room past entered
-    (is_read heard peripheral central slot (slot + 1) p c channel octets (sym ends.one_link.fields) s.peripheral_fits s.peripheral_rests packet same
-    s.central_rests.plain)
-    l reached running s)
+-- ---- whatever is heard
+
+module _ (heard : IsHeardWhole) (central peripheral : Setup) (slot : ℕ) (c p : Facts) (channel : ℕ) (octets : List ℕ) (room : Bool)
+    (ends : AreEnds central peripheral) (linked : AreLinked central peripheral (slot + 1) true c p) (past : heard_turns central c ≤ slot)
+    (entered : 1 ≤ c.control.track.entered) (packet : IsPacketOf peripheral slot p channel octets) (same : channel ≡ c.event.channel)
+    (pure : is_mixed central c octets p.acknowledgement.last ≡ false) where
+  abbrev heard_then : Facts
+  heard_then = received central slot octets room c
+
+  module _ (l : Link) (reached : IsReached central peripheral l) (running : is_running l.joint ≡ true)
+      (s : Shows central peripheral (slot + 1) true l c p) (keys : HaveKeys (keys_at central peripheral l reached) c p) where
+    pub read : IsRead central c slot octets p.acknowledgement ⊎ (is_forged central c octets ≡ true)
+    read =
+        read_or_forged heard peripheral central slot p c channel octets (keys_at central peripheral l reached).peripheral.made (sym ends.one_link.fields) packet same
+        (fits_up central peripheral ends l reached running (slot + 1) true c p s keys (sent_packet peripheral slot p channel octets packet).out) pure
+
+    hears_on : IsRead central c slot octets p.acknowledgement ⊎ (is_forged central c octets ≡ true) → IsShown central peripheral (slot + 1) false heard_then p
+    hears_on (inl is) = shown_on central peripheral ends slot c p octets room past entered is l reached running s keys
+    hears_on (inr forged) =
+        shut_on central peripheral (slot + 1) false CentralShuts l heard_then p reached running tt tt (shut_joint l running)
+        (λ central_lasts peripheral_lasts. not_both (is_lasting heard_then)
+        (ap is_lasting (received_forged central c slot octets room forged)
+        ∙ ap (λ (b : Bool). b && is_none c.leaving.ended_by_peer) (forged_lasts_not c.control)) central_lasts)
+
+  pub hears : AreLinked central peripheral (slot + 1) false heard_then p
+  hears =
+      linked_on central peripheral (slot + 1) (slot + 1) true false c p heard_then p linked
+      (plain_step central c (PacketReceived slot octets room) linked.plain.0, linked.plain.1)
+      (lasts_before central c (PacketReceived slot octets room)) (λ is. is)
+      (λ l reached running s keys. hears_on l reached running s keys (read l reached running s keys))

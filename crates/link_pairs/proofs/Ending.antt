@@ -3,6 +3,7 @@ use Rattle.std.proofs.Common.{◌≡◌, ◌⊎◌, inl, inr, ℕ, ◌+◌, ◌-
 use Rattle.std.proofs.lemmas.Bool.{and_parts}
 use Rattle.ble_base.specs.declared.error_codes.ErrCode.{ErrCode}
 use Rattle.instants.specs.declared.track.Change.{Change}
+use Rattle.two_tracks.specs.TwoEnds.{MayReach}
 use Rattle.control_octets.specs.control_model.Control.{Control}
 use Rattle.joint_laws.specs.joint_controls.phased_control.Phased.{Phased}
 use Rattle.joint_laws.specs.joint_controls.phased_control.Taken.{Response}
@@ -19,19 +20,24 @@ use Rattle.joint_laws.proofs.joint_parameters.Runs.{after_joined, range_joined}
 use Rattle.link_model.specs.Data.{is_data}
 use Rattle.link_model.specs.Setup.{Setup, first_anchor, first_params}
 use Rattle.link_model.specs.Facts.{Facts}
+use Rattle.link_model.specs.Packets.{is_forged}
 use Rattle.link_model.specs.Receiving.{replies_of}
+use Rattle.link_model.proofs.Hearing.{IsHeardWhole}
 use Rattle.link_pairs.specs.Ends.{AreEnds, heard_turns, is_lasting}
-use Rattle.link_pairs.specs.Hearing.{IsPacketOf, answered, received}
-use Rattle.link_pairs.specs.Shown.{AreLinked, Shows}
-use Rattle.link_pairs.specs.Sound.{EndsForInstant, first_joint, is_instant_passed}
+use Rattle.link_pairs.specs.Hearing.{IsPacketOf, answered, is_mixed, received}
+use Rattle.link_pairs.specs.Shown.{AreLinked, HaveKeys, Shows}
+use Rattle.link_pairs.specs.Sound.{EndsForInstant, EndsForged, first_joint, is_instant_passed}
 use Rattle.link_pairs.specs.Turns.{HaveBegun}
 use Rattle.link_pairs.proofs.CentralHears as central_hears
 use Rattle.link_pairs.proofs.EndingNothing.{sent_ends_nothing}
 use Rattle.link_pairs.proofs.JointRuns.{HasRun, has_run, step_in_range}
-use Rattle.link_pairs.proofs.PeripheralHears.{TakesAt, takes_now}
+use Rattle.link_pairs.proofs.PeripheralHeard.{reaches_now, read, takes_now}
+use Rattle.link_pairs.proofs.PeripheralHears.{TakesAt}
 use Rattle.link_pairs.proofs.PeripheralSteps.{one_step}
-use Rattle.link_pairs.proofs.Reaching.{IsReached, comes}
-use Rattle.link_pairs.proofs.Reading.{AreHeard, IsRead, is_read}
+use Rattle.link_pairs.proofs.Reaching.{IsReached, comes, keys_at}
+use Rattle.link_pairs.proofs.Reading.{IsRead}
+use Rattle.link_pairs.proofs.Replying.{received_forged}
+use Rattle.link_pairs.proofs.Shutting.{forged_code}
 use Rattle.link_pairs.proofs.Sounding.{link_now, reached_now, runs}
 
 -- ---- steps of a joint run
@@ -79,28 +85,48 @@ module _ (central peripheral : Setup) (ends : AreEnds central peripheral) (slot 
     (past : heard_turns central c ≤ slot) (entered : 1 ≤ c.control.track.entered)
     (read : IsRead central c slot octets p.acknowledgement)
     (l : Link) (reached : IsReached central peripheral l) (running : is_running l.joint ≡ true)
-    (s : Shows central peripheral (slot + 1) true l c p) where
+    (s : Shows central peripheral (slot + 1) true l c p) (keys : HaveKeys (keys_at central peripheral l reached) c p) where
   abbrev step : LinkStep
-  step = central_hears.step central peripheral ends slot c p octets room past entered read l reached running s
+  step = central_hears.step central peripheral ends slot c p octets room past entered read l reached running s keys
 
   central_goes_on : (received central slot octets room c).control.ends ≡ None
   central_goes_on =
-      ap (λ (k : Control). k.ends) (sym (central_hears.control_heard central peripheral ends slot c p octets room past entered read l reached running s))
+      ap (λ (k : Control). k.ends) (sym (central_hears.control_heard central peripheral ends slot c p octets room past entered read l reached running s keys))
       ∙ central_steps central peripheral (joint_steps step l) l.joint (step_in_range step l tt) (has_run central peripheral ends l reached)
       (comes central peripheral ends step l reached running (s.replies refl)) (goes_on l.joint running).central
 
-pub central_lasts : AreHeard → (central peripheral : Setup) (slot : ℕ) (c p : Facts) (channel : ℕ) (octets : List ℕ) (room : Bool)
+module _ (heard : IsHeardWhole) (central peripheral : Setup) (slot : ℕ) (c p : Facts) (channel : ℕ) (octets : List ℕ) (room : Bool)
+    (ends : AreEnds central peripheral) (linked : AreLinked central peripheral (slot + 1) true c p) (past : heard_turns central c ≤ slot)
+    (entered : 1 ≤ c.control.track.entered) (packet : IsPacketOf peripheral slot p channel octets) (same : channel ≡ c.event.channel)
+    (pure : is_mixed central c octets p.acknowledgement.last ≡ false)
+    (l : Link) (reached : IsReached central peripheral l) (running : is_running l.joint ≡ true)
+    (s : Shows central peripheral (slot + 1) true l c p) (keys : HaveKeys (keys_at central peripheral l reached) c p) where
+  abbrev after_it : Option ErrCode
+  after_it = (received central slot octets room c).control.ends
+
+  ends_by : IsRead central c slot octets p.acknowledgement ⊎ (is_forged central c octets ≡ true) → (after_it ≡ None) ⊎ EndsForged central c octets after_it
+  ends_by (inl is) = inl (central_goes_on central peripheral ends slot c p octets room past entered is l reached running s keys)
+  ends_by (inr forged) =
+      inr (
+        forged,
+        ap (λ (f : Facts). f.control.ends) (received_forged central c slot octets room forged)
+            ∙ forged_code c.control (ap (λ (x : Phased). x.control.ends) (sym s.central_part) ∙ (goes_on l.joint running).central),
+      )
+
+  central_ends : (after_it ≡ None) ⊎ EndsForged central c octets after_it
+  central_ends =
+      ends_by (central_hears.read heard central peripheral slot c p channel octets room ends linked past entered packet same pure l reached running s keys)
+
+pub central_lasts : IsHeardWhole → (central peripheral : Setup) (slot : ℕ) (c p : Facts) (channel : ℕ) (octets : List ℕ) (room : Bool)
     → AreEnds central peripheral → AreLinked central peripheral (slot + 1) true c p → is_lasting c ≡ true → is_lasting p ≡ true
     → heard_turns central c ≤ slot → 1 ≤ c.control.track.entered → IsPacketOf peripheral slot p channel octets → channel ≡ c.event.channel
-    → (received central slot octets room c).control.ends ≡ None
-central_lasts heard central peripheral slot c p channel octets room ends linked c_lasts p_lasts past entered packet same =
+    → is_mixed central c octets p.acknowledgement.last ≡ false
+    → let after_it = (received central slot octets room c).control.ends in (after_it ≡ None) ⊎ EndsForged central c octets after_it
+central_lasts heard central peripheral slot c p channel octets room ends linked c_lasts p_lasts past entered packet same pure =
     let running = runs central peripheral ends (slot + 1) true c p linked c_lasts p_lasts in
-    let s = linked.shows running in
-    central_goes_on central peripheral ends slot c p octets room past entered
-    (is_read heard peripheral central slot (slot + 1) p c channel octets (sym ends.one_link.fields) s.peripheral_fits s.peripheral_rests packet same
-    s.central_rests.plain)
+    central_ends heard central peripheral slot c p channel octets room ends linked past entered packet same pure
     (link_now central peripheral ends (slot + 1) true c p linked c_lasts p_lasts)
-    (reached_now central peripheral ends (slot + 1) true c p linked c_lasts p_lasts) running s
+    (reached_now central peripheral ends (slot + 1) true c p linked c_lasts p_lasts) running (linked.shows running) (linked.keys running)
 
 -- ---- the peripheral hears the central
 
@@ -144,17 +170,75 @@ pub answered_ends : (peripheral : Setup) (slot : ℕ) (octets : List ℕ) (room 
 answered_ends peripheral slot octets room p =
     (sent_ends_nothing (replies_of peripheral p slot octets room) peripheral slot (received peripheral slot octets room p)).procedures
 
-pub peripheral_lasts : AreHeard → (central peripheral : Setup) (slot : ℕ) (c p : Facts) (channel : ℕ) (octets : List ℕ) (room : Bool)
+-- the PDU is taken or not, or the packet is forged
+module _ (heard : IsHeardWhole) (central peripheral : Setup) (slot : ℕ) (c p : Facts) (channel : ℕ) (octets : List ℕ) (room : Bool)
+    (ends : AreEnds central peripheral) (begun : HaveBegun central peripheral slot true true c p) (c_lasts : is_lasting c ≡ true) (p_lasts : is_lasting p ≡ true)
+    (packet : IsPacketOf central slot c channel octets) (same : channel ≡ p.event.channel) (supervised : slot + 1 ≤ heard_turns peripheral p + 32768)
+    (pure : is_mixed peripheral p octets c.acknowledgement.last ≡ false) where
+  abbrev linked : AreLinked central peripheral (slot + 1) false c p
+  linked = begun.linked
+
+  pub running_then : is_running (link_now central peripheral ends (slot + 1) false c p linked c_lasts p_lasts).joint ≡ true
+  running_then = runs central peripheral ends (slot + 1) false c p linked c_lasts p_lasts
+
+  abbrev pub link_then : Link
+  link_then = link_now central peripheral ends (slot + 1) false c p linked c_lasts p_lasts
+
+  abbrev pub reached_then : IsReached central peripheral link_then
+  reached_then = reached_now central peripheral ends (slot + 1) false c p linked c_lasts p_lasts
+
+  abbrev pub after_then : Option ErrCode
+  after_then = (answered peripheral slot octets room p).control.ends
+
+  -- by whether the packet is read as it was sent
+  pub heard_either : (X : Option ErrCode → Type 0)
+      → (MayReach link_then.turns
+      → TakesAt link_then.joint (takes_item (room || not (is_data c.acknowledgement.last)) (item_on_air link_then.joint.down)) slot (drawn p.encryption.response)
+      (received peripheral slot octets room p).control
+      → X (received peripheral slot octets room p).control.ends)
+      → (EndsForged peripheral p octets (received peripheral slot octets room p).control.ends → X (received peripheral slot octets room p).control.ends)
+      → X after_then
+  heard_either X taken forged =
+      let s = linked.shows running_then in
+      let keys = linked.keys running_then in
+      let ready = begun.ready running_then in
+      subst X (sym (answered_ends peripheral slot octets room p))
+      (by (read heard central peripheral slot c p channel octets room ends begun packet same supervised pure ready link_then reached_then running_then s keys))
+    where
+      by : IsRead peripheral p slot octets c.acknowledgement ⊎ (is_forged peripheral p octets ≡ true) → X (received peripheral slot octets room p).control.ends
+      by (inl is) =
+          let s = begun.linked.shows running_then in
+          let keys = begun.linked.keys running_then in
+          let ready = begun.ready running_then in
+          taken
+          (reaches_now heard central peripheral slot c p channel octets room ends begun packet same supervised pure ready link_then reached_then running_then s keys is)
+          (takes_now heard central peripheral slot c p channel octets room ends begun packet same supervised pure ready link_then reached_then running_then s keys is)
+      by (inr wrong) =
+          forged (
+            wrong,
+            ap (λ (f : Facts). f.control.ends) (received_forged peripheral p slot octets room wrong)
+                ∙ forged_code p.control
+                (ap (λ (x : Phased). x.control.ends) (sym (begun.linked.shows running_then).peripheral_part) ∙ (goes_on link_then.joint running_then).peripheral),
+          )
+
+pub peripheral_lasts : IsHeardWhole → (central peripheral : Setup) (slot : ℕ) (c p : Facts) (channel : ℕ) (octets : List ℕ) (room : Bool)
     → AreEnds central peripheral → HaveBegun central peripheral slot true true c p → is_lasting c ≡ true → is_lasting p ≡ true
     → IsPacketOf central slot c channel octets → channel ≡ p.event.channel → slot + 1 ≤ heard_turns peripheral p + 32768
-    → let after_it = (answered peripheral slot octets room p).control.ends in (after_it ≡ None) ⊎ EndsForInstant c p after_it
-peripheral_lasts heard central peripheral slot c p channel octets room ends begun c_lasts p_lasts packet same supervised =
-    let linked = begun.linked in
-    let running = runs central peripheral ends (slot + 1) false c p linked c_lasts p_lasts in
-    let l = link_now central peripheral ends (slot + 1) false c p linked c_lasts p_lasts in
-    let reached = reached_now central peripheral ends (slot + 1) false c p linked c_lasts p_lasts in
-    let s = linked.shows running in
-    subst (λ (o : Option ErrCode). (o ≡ None) ⊎ EndsForInstant c p o) (sym (answered_ends peripheral slot octets room p))
-    (ends_for_instant central peripheral ends (slot + 1) slot (drawn p.encryption.response) false (takes_item (room || not (is_data c.acknowledgement.last)) (item_on_air l.joint.down)) c p
-    (received peripheral slot octets room p).control l reached s
-    (takes_now heard central peripheral slot c p channel octets room ends begun packet same supervised (begun.ready running) l reached running s))
+    → is_mixed peripheral p octets c.acknowledgement.last ≡ false
+    → let after_it = (answered peripheral slot octets room p).control.ends in
+    (after_it ≡ None) ⊎ (EndsForInstant c p after_it ⊎ EndsForged peripheral p octets after_it)
+peripheral_lasts heard central peripheral slot c p channel octets room ends begun c_lasts p_lasts packet same supervised pure =
+    heard_either heard central peripheral slot c p channel octets room ends begun c_lasts p_lasts packet same supervised pure
+    (λ o. (o ≡ None) ⊎ (EndsForInstant c p o ⊎ EndsForged peripheral p octets o))
+    (λ reaches taken. late_or (received peripheral slot octets room p).control.ends
+    (ends_for_instant central peripheral ends (slot + 1) slot (drawn p.encryption.response) false
+    (takes_item (room || not (is_data c.acknowledgement.last))
+    (item_on_air (link_now central peripheral ends (slot + 1) false c p begun.linked c_lasts p_lasts).joint.down)) c p
+    (received peripheral slot octets room p).control (link_now central peripheral ends (slot + 1) false c p begun.linked c_lasts p_lasts)
+    (reached_now central peripheral ends (slot + 1) false c p begun.linked c_lasts p_lasts)
+    (begun.linked.shows (runs central peripheral ends (slot + 1) false c p begun.linked c_lasts p_lasts)) taken))
+    (λ forged. inr (inr forged))
+  where
+    late_or : (o : Option ErrCode) → (o ≡ None) ⊎ EndsForInstant c p o → (o ≡ None) ⊎ (EndsForInstant c p o ⊎ EndsForged peripheral p octets o)
+    late_or o (inl none) = inl none
+    late_or o (inr late) = inr (inl late)

@@ -1,21 +1,29 @@
 -- An end that receives nothing ends no link.
-use Rattle.std.proofs.Common.{◌≡◌, ◌==◌, ◌&&◌, ℕ, Bool, true, false, Result, refl, ◌∙◌, if◌then◌else◌}
+use Rattle.std.proofs.Common.{◌≡◌, ◌==◌, ◌&&◌, ℕ, Bool, true, false, List, Option, Some, None, is_none, Result, refl, ◌∙◌, if◌then◌else◌}
 use Rattle.ble_base.specs.declared.error_codes.ErrCode.{ErrCode}
+use Rattle.data_pdu.specs.declared.ctrl.Ctrl.{Ctrl}
+use Rattle.data_pdu.specs.declared.ctrl.Ctrl.TheVariants.{StartEncReq}
 use Rattle.instants.specs.Track.{next_anchor_of}
 use Rattle.control_octets.specs.procedure_stages.Closing.{is_open}
 use Rattle.control_octets.specs.procedure_stages.InProgress.{is_host_asked}
 use Rattle.control_octets.specs.procedure_values.declared.asks.Ask.{Ask}
 use Rattle.control_octets.specs.procedures.Going.{host_answer_step, is_answer, terminate_step}
-use Rattle.control_octets.specs.control_model.Control.{Answers, Asks, Control, Disconnects, after}
+use Rattle.control_octets.specs.control_model.Control.{Answers, Asks, Control, Disconnects, Owes, after}
 use Rattle.control_octets.proofs.control_model.Calls.{any_step}
 use Rattle.link_model.specs.Data.{is_control}
 use Rattle.link_model.specs.Setup.{Setup}
 use Rattle.link_model.specs.Controls.{goes_on, is_quiet_now}
 use Rattle.link_model.specs.End.{facts_after}
 use Rattle.link_model.specs.Entering.{facts_entered_if}
-use Rattle.link_model.specs.Facts.{Facts}
+use Rattle.link_model.specs.Facts.{Facts, keyed_of}
 use Rattle.link_model.specs.Fixing.{facts_fixed, fixed_anew}
-use Rattle.link_model.specs.Hosts.{asked_unless, is_to_come}
+use Rattle.link_model.specs.Hosts.{asked_unless, ends_without_key, is_to_come, key_step, leaving_from_if}
+use Rattle.link_model.specs.declared.state.Leaving.{Leaving}
+use Rattle.link_model.specs.enc_phase.declared.facts.Transition.TheVariants.{Refuse}
+use Rattle.link_model.specs.enc_phase.Phases.{may_follow}
+use Rattle.link_model.specs.phased_control.Phased.{Phased, is_open_now, key_given, key_lacking, refused_if}
+use Rattle.link_model.specs.keyed_control.Keyed.{Keyed}
+use Rattle.link_model.specs.keyed_control.KeyedSteps.{GivesKey, LacksKey, keyed_after, keyed_moved}
 use Rattle.link_model.specs.Sending.{control_gone_if, facts_sent, takes_leave}
 use Rattle.link_model.specs.Step.{Step, DataGiven, DataReported, Disconnected, EventEntered, KeyAnswered, PacketReceived, PacketSent, PduFixed, ProcedureAsked, RequestAnswered, WordsGiven}
 use Rattle.link_pairs.specs.Hosts.{MayHost}
@@ -37,6 +45,35 @@ answered_ends c answer =
 disconnected_ends : (c : Control) (reason : ErrCode) → (after (Disconnects reason) c).ends ≡ c.ends
 disconnected_ends c reason =
     any_step (λ (d : Control). d.ends ≡ c.ends) (Disconnects reason) c (table_ends (is_open c.table.closing) (terminate_step c.table reason) c) refl
+
+owed_ends : (c : Control) (ctrl : Ctrl) → (after (Owes ctrl) c).ends ≡ c.ends
+owed_ends c ctrl = any_step (λ (d : Control). d.ends ≡ c.ends) (Owes ctrl) c refl refl
+
+-- the host of a peripheral has a key or none
+asked_same : (asked : Bool) (s t : Phased) → t.control.ends ≡ s.control.ends → (if asked then t else s).control.ends ≡ s.control.ends
+asked_same true s t is = is
+asked_same false s t is = refl
+
+lacks_same : (may : Bool) (s : Phased) → (refused_if may s).control.ends ≡ s.control.ends
+lacks_same true s = owed_ends s.control _
+lacks_same false s = owed_ends s.control _
+
+key_ends : (key : Option (List ℕ)) (k : Keyed) → (keyed_after (key_step key) k).phased.control.ends ≡ k.phased.control.ends
+key_ends None k = by (is_none k.phased.control.ends)
+  where
+    by : (b : Bool) → (if b then keyed_moved LacksKey k else k).phased.control.ends ≡ k.phased.control.ends
+    by true =
+        asked_same (k.phased.asks_key && is_open_now k.phased) k.phased (key_lacking k.phased) (lacks_same (may_follow Refuse k.phased.phase) k.phased)
+    by false = refl
+key_ends (Some ltk) k = by (is_none k.phased.control.ends)
+  where
+    by : (b : Bool) → (if b then keyed_moved (GivesKey ltk) k else k).phased.control.ends ≡ k.phased.control.ends
+    by true = asked_same (k.phased.asks_key && is_open_now k.phased) k.phased (key_given k.phased) (owed_ends k.phased.control StartEncReq)
+    by false = refl
+
+left_peer : (leaves : Bool) (slot : ℕ) (leaving : Leaving) → (leaving_from_if leaves slot leaving).ended_by_peer ≡ leaving.ended_by_peer
+left_peer true slot leaving = refl
+left_peer false slot leaving = refl
 
 -- ---- one step of an end
 
@@ -71,8 +108,9 @@ host_ends_nothing setup facts (ProcedureAsked ask) may = asked (is_to_come ask f
 host_ends_nothing setup facts (RequestAnswered answer) may = record { procedures = answered_ends facts.control answer; peer = refl }
 host_ends_nothing setup facts (Disconnected reason slot) may = record { procedures = disconnected_ends facts.control reason; peer = refl }
 host_ends_nothing setup facts DataReported may = record { procedures = refl; peer = refl }
-host_ends_nothing setup facts (KeyAnswered key slot) may = absurd may
-host_ends_nothing setup facts (WordsGiven skd_s iv_s) may = absurd may
+host_ends_nothing setup facts (KeyAnswered key slot) may =
+    record { procedures = key_ends key (keyed_of facts); peer = left_peer (ends_without_key key facts) slot facts.leaving }
+host_ends_nothing setup facts (WordsGiven skd_s iv_s) may = record { procedures = refl; peer = refl }
 host_ends_nothing setup facts (EventEntered slot) may = absurd may
 host_ends_nothing setup facts PduFixed may = absurd may
 host_ends_nothing setup facts (PacketSent slot) may = absurd may

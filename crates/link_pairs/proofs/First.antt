@@ -9,13 +9,15 @@ use Rattle.control_octets.specs.Fitting.{ParamsFit}
 use Rattle.control_octets.proofs.Steps.{begins_fitting}
 use Rattle.link_model.specs.Acknowledgement.{empty_pdu}
 use Rattle.link_model.specs.Setup.{Setup, first_anchor, first_params}
+use Rattle.joint_laws.specs.joint_controls.phased_control.enc_phase.Sealing.{clear_end}
+use Rattle.joint_laws.specs.joint_controls.phased_control.enc_phase.declared.facts.PhaseFacts.TheVariants.{Clear}
 use Rattle.joint_laws.specs.joint_controls.phased_control.Phased.{first_phased}
 use Rattle.control_octets.specs.procedure_values.Values.{IsPayloadMax}
 use Rattle.link_model.proofs.Plain.{begins_plain}
 use Rattle.link_model.specs.Facts.{first_facts}
 use Rattle.link_pairs.specs.Ends.{AreEnds, IsAtRest, phased_of}
-use Rattle.link_pairs.specs.Shown.{AreLinked, Shows, new_link}
-use Rattle.link_pairs.proofs.Reaching.{linked, reached_first, shown}
+use Rattle.link_pairs.specs.Shown.{AreLinked, EncryptsNothing, HaveKeys, Shows, new_link}
+use Rattle.link_pairs.proofs.Reaching.{keys_at, linked, reached_first, shown}
 
 -- ---- one end
 
@@ -31,19 +33,19 @@ rests_first setup rx range =
     record {
       fits = begins_fitting setup.link.role setup.link.max_rx (first_params setup.link.fields) (first_anchor setup) rx (params_fit setup.link.fields range);
       holds = record { request = tt; kept = tt; response = record { fits = grind arith; six_offsets = tt; range = tt } };
-      plain = begins_plain setup;
       role = role_after setup.link.role setup.link.max_rx (first_params setup.link.fields) (first_anchor setup) [];
       none_gone = refl;
-      payload = refl;
       fits_any = omega arith;
       two_bits = omega arith;
       slot = λ entered. absurd (omega arith);
       number = refl;
       heard = λ heard. absurd (cc);
       past = omega arith;
-      goes = refl;
       stays = refl;
     }
+
+plain_first : (setup : Setup) → EncryptsNothing setup (first_facts setup)
+plain_first setup = record { plain = begins_plain setup; payload = refl }
 
 -- ---- both ends
 
@@ -84,8 +86,15 @@ module _ (central peripheral : Setup) (ends : AreEnds central peripheral) where
           subst (λ (opened : ℕ). IsAtRest peripheral (opened + 1) (first_facts peripheral)) (sym ends.one_link.opened)
           (rests_first peripheral ends.peripheral_max (subst IsInRange ends.one_link.fields ends.in_range))
 
+  keys_first : HaveKeys (keys_at central peripheral (new_link central peripheral) (reached_first central peripheral)) (first_facts central) (first_facts peripheral)
+  keys_first =
+      record {
+        central_keys = record { material = refl; session = ap (λ (role : Role). clear_end role Clear) (sym ends.is_central); made = refl };
+        peripheral_keys = record { material = refl; session = ap (λ (role : Role). clear_end role Clear) (sym ends.is_peripheral); made = refl };
+      }
+
   pub first_linked : AreLinked central peripheral (central.opened + 1) false (first_facts central) (first_facts peripheral)
   first_linked =
       linked central peripheral (central.opened + 1) false (first_facts central) (first_facts peripheral)
       (shown central peripheral (central.opened + 1) false (new_link central peripheral) (first_facts central) (first_facts peripheral)
-      (reached_first central peripheral) shows_first refl)
+      (reached_first central peripheral) shows_first keys_first refl) (plain_first central, plain_first peripheral)

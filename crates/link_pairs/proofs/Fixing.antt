@@ -15,7 +15,9 @@ use Rattle.link_model.specs.Setup.{Setup}
 use Rattle.link_model.specs.Controls.{is_quiet_now, next_control}
 use Rattle.link_model.specs.Facts.{Facts}
 use Rattle.link_model.specs.Fixing.{data_cut, data_fixed_by, data_goes, fixed_anew}
+use Rattle.joint_keys.specs.KeyedJoint.{Keys}
 use Rattle.link_pairs.specs.Ends.{IsAtRest}
+use Rattle.link_pairs.specs.Shown.{HasKeys}
 use Rattle.link_pairs.specs.Turns.{HasFixed, fixed_if}
 
 -- ---- a piece of data
@@ -108,18 +110,24 @@ fixing_rests setup turns true facts r =
     record {
       fits = r.fits;
       holds = record { request = r.holds.request; kept = r.holds.kept; response = r.holds.response };
-      plain = record { encryption = r.plain.encryption; control = r.plain.control };
       role = r.role;
       none_gone = piece_no_control (tx_of facts.control.table.lengths) (fixed_anew facts).outgoing.fixed (anew_piece facts);
-      payload =
-          fixed_payload (is_some (next_control facts)) (waiting_in facts.control.table.queue) (is_quiet_now facts) (data_goes facts) (data_cut facts)
-          ∙ r.payload;
       fits_any = r.fits_any;
       two_bits = r.two_bits;
       slot = r.slot;
       number = r.number;
       heard = r.heard;
       past = r.past;
-      goes = r.goes;
       stays = r.stays;
+    }
+
+pub fixing_has : (keys : Keys) (fixes : Bool) (facts : Facts) → HasKeys keys facts → HasKeys keys (fixing fixes facts)
+fixing_has keys false facts has = has
+fixing_has keys true facts has =
+    record {
+      material = has.material;
+      session = has.session;
+      made =
+          fixed_payload (is_some (next_control facts)) (waiting_in facts.control.table.queue) (is_quiet_now facts) (data_goes facts) (data_cut facts)
+          ∙ has.made;
     }

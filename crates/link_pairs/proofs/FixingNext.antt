@@ -99,7 +99,7 @@ may_fix_after FixesData slot s t is may_now =
     (subst (λ (x : Joint). is_clear x.up ≡ true) (sym is) may_now.0, subst (λ (x : Joint). sends_data x.peripheral ≡ true) (sym is) may_now.1)
 
 -- a PDU of two bits of LLID that is neither a control PDU nor data is empty
-empty_else : (pdu : Pdu) → pdu.llid < 4 → is_control pdu ≡ false → is_data pdu ≡ false → is_empty pdu ≡ true
+pub empty_else : (pdu : Pdu) → pdu.llid < 4 → is_control pdu ≡ false → is_data pdu ≡ false → is_empty pdu ≡ true
 empty_else pdu two_bits control data_first = by pdu.llid pdu.body two_bits control data_first
   where
     by : (llid : ℕ) (body : List ℕ) → llid < 4 → (llid == 3) ≡ false → (((llid == 1) || (llid == 2)) && not (length body == 0)) ≡ false

@@ -4,25 +4,27 @@ use Rattle.std.proofs.lemmas.Bool.{and_parts}
 use Rattle.ble_base.specs.declared.roles.Role.{Role}
 use Rattle.ack_bit.specs.AckBits.{is_new}
 use Rattle.data_pdu.specs.declared.header.DataHeader.{DataHeader}
-use Rattle.control_octets.specs.control_model.Control.{Control}
 use Rattle.link_model.specs.Acknowledgement.{Acknowledgement, Pdu, bits_of, is_acked, received_by, with_accepted}
 use Rattle.link_model.specs.Data.{is_data, is_empty}
 use Rattle.link_model.specs.OneLink.{AreInAgreement}
 use Rattle.link_model.specs.declared.state.Leaving.{Leaving}
 use Rattle.link_model.specs.Controls.{is_terminate}
-use Rattle.link_model.specs.Facts.{Facts}
+use Rattle.link_model.specs.Facts.{Facts, keyed_of}
+use Rattle.link_model.specs.keyed_control.Keyed.{Keyed}
+use Rattle.joint_laws.specs.joint_controls.phased_control.Phased.{Phased}
 use Rattle.link_model.specs.Controls.{is_procedure_pdu, is_quiet_now}
-use Rattle.link_model.specs.Plain.{control_acked_if, plain_accepted_if as accepted_if, plain_acknowledged_if as acknowledged_if, plain_before_taking as facts_before_taking, plain_hearing as facts_hearing}
-use Rattle.link_model.specs.Receiving.{accepts, acks_control, answers_with_control, heard_in_slot}
+use Rattle.link_model.specs.Receiving.{accepted_if, accepts, acknowledged_if, acks_control, answers_with_control, facts_before_taking, facts_hearing, heard_in_slot, keyed_acked_if}
 use Rattle.link_model.specs.Sending.{control_gone_if}
 use Rattle.link_pairs.proofs.Answering.{IsGoneFrom, acked_payload, gone_same}
 use Rattle.link_pairs.proofs.Counts.{HasBitsOf, acknowledged_by, heard_agreed, is_fresh}
-use Rattle.link_pairs.proofs.TakingNothing.{TakesNothing, acked_nothing, sends_nothing, takes_none, takes_then}
-use Rattle.link_pairs.proofs.TakingPdus.{plain_taken_same}
+use Rattle.link_pairs.proofs.PhasedEnds.{acked_phased}
+use Rattle.link_pairs.proofs.TakingNothing.{TakesNothing, seen_nothing, sends_nothing, takes_none, takes_then}
+use Rattle.link_pairs.proofs.TakingPdus.{taken_same}
 
-seen_nothing : (acked : Bool) (c : Control) → TakesNothing c (control_acked_if acked c)
-seen_nothing true c = acked_nothing c
-seen_nothing false c = takes_none c
+acked_nothing : (acked : Bool) (k : Keyed) → TakesNothing k.phased.control (keyed_acked_if acked k).phased.control
+acked_nothing true k =
+    subst (λ (x : Phased). TakesNothing k.phased.control x.control) (sym (acked_phased true k)) (seen_nothing k.phased)
+acked_nothing false k = takes_none k.phased.control
 
 pub gone_nothing : (goes : Bool) (slot : ℕ) (facts : Facts) → TakesNothing facts.control (control_gone_if goes slot facts).control
 gone_nothing true slot facts = sends_nothing slot (is_quiet_now facts) facts.control
@@ -51,7 +53,7 @@ module _ (role : Role) (slot : ℕ) (room : Bool) (header : DataHeader) (pdu : P
 
   pub before_nothing : TakesNothing facts.control before.control
   before_nothing =
-      takes_then facts.control acked.control before.control (seen_nothing (acks_control acks facts) facts.control)
+      takes_then facts.control acked.control before.control (acked_nothing (acks_control acks facts) (keyed_of facts))
       (gone_nothing (answers_with_control role acked) slot acked)
 
   pub before_by_peer : before.leaving.ended_by_peer ≡ facts.leaving.ended_by_peer
@@ -86,7 +88,7 @@ module _ (role : Role) (slot : ℕ) (room : Bool) (header : DataHeader) (pdu : P
 
   pub heard_ack : (facts_hearing role slot room header pdu facts).acknowledgement ≡ received_by acks takes pdu facts.acknowledgement
   heard_ack =
-      (plain_taken_same (takes && is_procedure_pdu pdu) pdu slot (accepted_if takes pdu before)).acknowledgement
+      (taken_same (takes && is_procedure_pdu pdu) (takes && is_data pdu) pdu slot (accepted_if takes pdu before)).acknowledgement
       ∙ ap (with_accepted takes pdu) gone.acknowledgement
 
 -- the counts agree with those of the end that sent the packet

@@ -1,9 +1,7 @@
 -- What an end holds after it heard a packet, and what the link shows of that where the end is the central.
-use Rattle.std.proofs.Common.{◌≡◌, ℕ, ◌+◌, ◌-◌, ◌≤◌, ◌<◌, ◌==◌, ◌&&◌, ◌||◌, not, Bool, true, false, length, refl, ap, sym, ◌∙◌, subst, arith, if◌then◌else◌}
+use Rattle.std.proofs.Common.{◌≡◌, ℕ, ◌+◌, ◌-◌, ◌≤◌, ◌<◌, ◌==◌, ◌&&◌, ◌||◌, Bool, true, false, length, refl, ap, sym, ◌∙◌, subst, arith, if◌then◌else◌}
 use Rattle.std.proofs.lemmas.Bool.{eqb-true}
 use Rattle.data_pdu.specs.Layouts.{IsCtrl}
-use Rattle.control_octets.specs.procedure_stages.declared.closing.Closing.{Closing}
-use Rattle.control_octets.specs.procedure_stages.Closing.{is_disconnecting, is_open}
 use Rattle.two_tracks.specs.TwoEnds.{last_after_reply}
 use Rattle.joint_laws.specs.joint_controls.phased_control.Phased.{Phased}
 use Rattle.joint_laws.specs.joint_controls.phased_control.Taken.{response_ctrl}
@@ -17,7 +15,6 @@ use Rattle.link_model.specs.OneLink.{AreInAgreement}
 use Rattle.link_model.specs.Data.{Data, data_acked_if, is_control, is_data}
 use Rattle.link_model.specs.declared.events.ConnectionEvent.{ConnectionEvent}
 use Rattle.link_model.specs.Facts.{Facts}
-use Rattle.link_model.specs.Plain.{IsPlain}
 use Rattle.link_model.specs.Receiving.{accepted_if, acknowledged_if, heard_in_slot}
 use Rattle.link_pairs.specs.Ends.{IsAtRest, heard_turns, phased_of, turns_at}
 use Rattle.link_pairs.specs.Shown.{Shows}
@@ -34,10 +31,6 @@ acked_fixed : (acked : Bool) (outgoing : Data) → (data_acked_if acked outgoing
 acked_fixed true outgoing = refl
 acked_fixed false outgoing = refl
 
-acked_payload : (acked : Bool) (outgoing : Data) → (data_acked_if acked outgoing).payload ≡ outgoing.payload
-acked_payload true outgoing = refl
-acked_payload false outgoing = refl
-
 -- as the new PDU is looked at
 abbrev pub acked_facts : ℕ → Bool → Bool → Facts → Facts
 acked_facts slot more acks facts = acknowledged_if acks (heard_in_slot slot more facts)
@@ -49,7 +42,7 @@ module _ (slot : ℕ) (more acks accepted : Bool) (pdu : Pdu) (facts : Facts) wh
 
   -- with what its procedures and its phase made of that
   module _ (setup : Setup) (d : Facts) (took : IsTakenBy accepted_facts d) (keeps : PhasedKeeps (phased_of facts) (phased_of d))
-      (plain : IsPlain setup.link.role d) (rests : IsAtRest setup (slot + 1) facts) (past : heard_turns setup facts ≤ slot)
+      (rests : IsAtRest setup (slot + 1) facts) (past : heard_turns setup facts ≤ slot)
       (entered : 1 ≤ facts.control.track.entered) (stays : accepted_facts.leaving.acknowledged ≡ false) where
     kept : IsKept facts.control d.control
     kept = keeps.kept
@@ -74,12 +67,8 @@ module _ (slot : ℕ) (more acks accepted : Bool) (pdu : Pdu) (facts : Facts) wh
             kept = keeps.fits.kept;
             response = subst (λ (r : Response). IsCtrl (response_ctrl (drawn r))) (sym took.response) rests.holds.response;
           };
-          plain = plain;
           role = keeps.role setup.link.role rests.role;
           none_gone = ap (λ (o : Data). is_control o.fixed) took.outgoing ∙ ap is_control (acked_fixed now facts.outgoing) ∙ rests.none_gone;
-          payload =
-              ap (λ (o : Data). o.payload) took.outgoing ∙ acked_payload now facts.outgoing ∙ rests.payload
-              ∙ ap (λ (a : Acknowledgement). a.last.body) (sym took.acknowledgement);
           fits_any = subst (λ (a : Acknowledgement). length a.last.body ≤ 251) (sym took.acknowledgement) rests.fits_any;
           two_bits = subst (λ (a : Acknowledgement). a.last.llid < 4) (sym took.acknowledgement) rests.two_bits;
           slot = λ some. event_slot ∙ rests.slot entered ∙ sym kept.anchor;
@@ -91,7 +80,6 @@ module _ (slot : ℕ) (more acks accepted : Bool) (pdu : Pdu) (facts : Facts) wh
                     omega (arith, first, event_slot, turns_now),
               );
           past = omega (arith, turns_now);
-          goes = subst (λ (closing : Closing). not (is_disconnecting closing) ≡ is_open closing) (sym kept.closing) rests.goes;
           stays = took.acknowledged ∙ stays;
         }
 

@@ -5,18 +5,18 @@ use Rattle.std.proofs.lemmas.Bool.{or_left}
 use Rattle.ble_base.specs.declared.roles.Role.{Role}
 use Rattle.ble_base.specs.declared.roles.Role.TheVariants.{Central, Peripheral}
 use Rattle.data_pdu.specs.declared.header.DataHeader.{DataHeader}
-use Rattle.link_model.specs.Acknowledgement.{Pdu, is_acked, with_acked}
+use Rattle.ack_bit.specs.AckBits.{is_new}
+use Rattle.link_model.specs.Acknowledgement.{Acknowledgement, Pdu, bits_of, is_acked, with_acked}
 use Rattle.link_model.specs.Data.{is_control, is_data, is_empty}
 use Rattle.link_model.specs.Setup.{Setup}
 use Rattle.link_model.specs.Entering.{done_notes}
 use Rattle.link_model.specs.Facts.{Facts}
 use Rattle.link_model.specs.Payload.{end_sending, payload_made}
-use Rattle.link_model.specs.Plain.{plain_acknowledged_if as acknowledged_if, plain_before_taking as facts_before_taking, plain_hearing as facts_hearing, plain_notes_hearing as notes_hearing, plain_taken_if as taken_if, plain_taken_notes as taken_notes}
-use Rattle.link_model.specs.Receiving.{accepts, acked_kind, acks_control, answers_with_control, has_acknowledged, heard_in_slot}
+use Rattle.link_model.specs.Receiving.{accepts, acked_kind, acknowledged_if, acks_control, answers_with_control, facts_before_taking, facts_hearing, has_acknowledged, heard_in_slot, notes_hearing, taken_if, taken_notes}
 use Rattle.link_model.specs.Sending.{control_gone_if, data_sent_as, facts_sent, fixed_sent, seals_new}
 use Rattle.link_pairs.specs.Turns.{central_begun, prepared, sent_if}
+use Rattle.link_pairs.proofs.Answering.{gone_same}
 use Rattle.link_pairs.proofs.Counts.{acknowledged_by, is_fresh}
-use Rattle.link_pairs.proofs.HeardCounts.{fresh_then}
 use Rattle.link_pairs.proofs.NothingNew.{HasNothingNew, nothing_then, prepared_still, same_still}
 use Rattle.link_pairs.proofs.PlainEnds.{plain_with}
 use Rattle.link_pairs.proofs.TakingNothing.{takes_none}
@@ -33,6 +33,9 @@ again_still setup slot facts out =
           λ is. plain_with setup.link.role (fixed_sent slot facts) e
           (ap (λ (all : Bool). record e { end = end_sending (seals_new all facts.outgoing.fixed) e.end }) out) is.encryption is.control;
       control = takes_none facts.control;
+      lacks = λ is. record { role = is.role; asked = is.asked; none = is.none };
+      end = λ shut. ap (λ (all : Bool). end_sending (seals_new all facts.outgoing.fixed) e.end) out;
+      phase = λ shut. refl;
       acknowledgement = sent_again facts.outgoing.fixed facts.acknowledgement out;
       payload = ap (λ (all : Bool). (data_sent_as payload all facts.outgoing).payload) out;
       none_gone = λ none. ap (λ (all : Bool). is_control (data_sent_as payload all facts.outgoing).fixed) out ∙ none;
@@ -85,8 +88,14 @@ module _ (role : Role) (slot : ℕ) (room : Bool) (header : DataHeader) (pdu : P
     abbrev now : Facts
     now = facts_before_taking role slot header facts
 
+    -- whether the PDU is new does not depend on what is acknowledged
+    fresh_then : is_new (bits_of now.acknowledgement) header ≡ is_fresh facts.acknowledgement header
+    fresh_then =
+        let seen = acknowledged_if (has_acknowledged facts header) (heard_in_slot slot header.md facts) in
+        ap (λ (a : Acknowledgement). is_new (bits_of a) header) (gone_same (answers_with_control role seen) slot seen).acknowledgement
+
     accepts_none : accepts room header pdu now ≡ false
-    accepts_none = ap (λ (b : Bool). (b && (room || not (is_data pdu))) && (is_empty pdu || not now.leaving.acknowledged)) (fresh_then role slot room header pdu facts ∙ fresh)
+    accepts_none = ap (λ (b : Bool). (b && (room || not (is_data pdu))) && (is_empty pdu || not now.leaving.acknowledged)) (fresh_then ∙ fresh)
 
     pub heard_as_nothing : facts_hearing role slot room header pdu facts ≡ hearing_by false false false
     heard_as_nothing = λ i. hearing_by (acks i) (goes i) (accepts_none i)
@@ -96,6 +105,9 @@ module _ (role : Role) (slot : ℕ) (room : Bool) (header : DataHeader) (pdu : P
         record {
           plain = λ is. record { encryption = is.encryption; control = is.control };
           control = takes_none facts.control;
+          lacks = λ is. record { role = is.role; asked = is.asked; none = is.none };
+          end = λ shut. refl;
+          phase = λ shut. refl;
           acknowledgement = refl;
           payload = refl;
           none_gone = λ none. none;

@@ -98,7 +98,19 @@ module _ (pdu : Pdu) (is : is_empty pdu ≡ true) where
 
 -- ---- what joint runs have as an item
 
+-- data is not empty
+pub data_is_not_empty : (pdu : Pdu) → is_data pdu ≡ true → is_empty pdu ≡ false
+data_is_not_empty pdu is = by (is_empty pdu) refl
+  where
+    by : (b : Bool) → is_empty pdu ≡ b → b ≡ false
+    by true empty = absurd (let none = empty_is_no_data pdu empty in cc)
+    by false some = refl
+
 module _ (pdu : Pdu) where
+  pub item_is_not_empty : (item : Item) → IsItem item pdu → is_empty pdu ≡ false
+  item_is_not_empty Data is = data_is_not_empty pdu is
+  item_is_not_empty (Control outgoing ctrl) is = control_is_not_empty ctrl pdu is
+
   pub item_terminates : (item : Item) → IsItem item pdu → is_terminate pdu ≡ is_last item
   item_terminates Data is = data_terminates_nothing pdu is
   item_terminates (Control outgoing ctrl) is = control_terminates ctrl pdu is

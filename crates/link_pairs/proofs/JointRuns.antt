@@ -5,6 +5,7 @@ use Rattle.two_tracks.specs.Reached as by_turns
 use Rattle.joint_laws.specs.joint_controls.Ends.{AreStepsInRange}
 use Rattle.joint_laws.specs.joint_controls.Joint.{CentralAcked, CentralEnters, CentralTakes, Joint, JointStep, PeripheralAcked, PeripheralEnters, PeripheralTakes, after_all, is_taken, item_on_air}
 use Rattle.joint_laws.specs.Runs.{IsRun}
+use Rattle.joint_keys.specs.KeyedLinks.{KeyedLinkStep, link_steps}
 use Rattle.joint_laws.specs.joint_parameters.Turns.{Alone, AreLinksInRange, Begins, CentralShuts, IsAnswered, IsHeard, IsLinkInRange, Link, LinkStep, MayLinkAll, PeripheralShuts, SendsControl, SendsData, SendsEmpty, all_joint_steps, fixing_steps, joint_steps, link_after, step_if, takes_item}
 use Rattle.joint_laws.proofs.joint_parameters.Hearing.{range_before, range_if}
 use Rattle.joint_laws.proofs.joint_parameters.Linking.{joint_run, turns_reached}
@@ -56,18 +57,23 @@ module _ (central peripheral : Setup) where
     anchored : central.opened + 1 ≤ first_anchor central
     anchored = omega arith
 
-    run_after : (steps : List LinkStep) → MayLinkAll steps (new_link central peripheral) → AreLinksInRange steps
+    pub run_of : (steps : List KeyedLinkStep) → AreLinksInRange (link_steps steps)
+        → IsRun (first_params central.link.fields) (all_joint_steps (link_steps steps) (new_link central peripheral))
+    run_of steps in_range =
+        record {
+          latency = ends.in_range.parameters.latency_to;
+          in_range = all_in_range (link_steps steps) (new_link central peripheral) in_range;
+        }
+
+    run_after : (steps : List KeyedLinkStep) → MayLinkAll (link_steps steps) (new_link central peripheral) → AreLinksInRange (link_steps steps)
         → HasRun (link_of central peripheral steps).joint
     run_after steps may in_range =
         record {
-          steps = all_joint_steps steps (new_link central peripheral);
-          run = record {
-            latency = ends.in_range.parameters.latency_to;
-            in_range = all_in_range steps (new_link central peripheral) in_range;
-          };
+          steps = all_joint_steps (link_steps steps) (new_link central peripheral);
+          run = run_of steps in_range;
           reaches =
               joint_run central.link.max_rx peripheral.link.max_rx (first_params central.link.fields) (first_anchor central)
-              ends.in_range.parameters.latency_to (central.opened + 1) anchored ends.in_range.parameters.interval_from steps in_range may;
+              ends.in_range.parameters.latency_to (central.opened + 1) anchored ends.in_range.parameters.interval_from (link_steps steps) in_range may;
         }
 
     pub has_run : (l : Link) → IsReached central peripheral l → HasRun l.joint
@@ -79,4 +85,4 @@ module _ (central peripheral : Setup) where
     by_turns_too l r =
         subst (λ (k : Link). by_turns.IsReached (first_params central.link.fields) (first_anchor central) k.turns) r.reaches
         (turns_reached central.link.max_rx peripheral.link.max_rx (first_params central.link.fields) (first_anchor central)
-        ends.in_range.parameters.latency_to (central.opened + 1) anchored ends.in_range.parameters.interval_from r.steps r.in_range r.may)
+        ends.in_range.parameters.latency_to (central.opened + 1) anchored ends.in_range.parameters.interval_from (link_steps r.steps) r.in_range r.may)

@@ -1,5 +1,5 @@
 -- An end of a joint run whose last control PDU is LL_TERMINATE_IND of its host sends no further one.
-use Rattle.std.proofs.Common.{◌≡◌, ℕ, Bool, true, false, not, ◌&&◌, List, [], ◌∷◌, Option, Some, None, refl, sym, ap, ◌∙◌, subst, if◌then◌else◌}
+use Rattle.std.proofs.Common.{◌≡◌, ◌⊎◌, inl, inr, ℕ, Bool, true, false, not, ◌&&◌, List, [], ◌∷◌, Option, Some, None, refl, sym, ap, ◌∙◌, subst, if◌then◌else◌}
 use Rattle.std.proofs.lemmas.Bool.{and_parts}
 use Rattle.ble_base.specs.declared.error_codes.ErrCode.{ErrCode}
 use Rattle.ble_base.specs.declared.roles.Role.{Role}
@@ -40,7 +40,6 @@ use Rattle.joint_laws.proofs.joint_controls.Keeping.{choice}
 use Rattle.joint_laws.proofs.joint_controls.LastPdus.{acked_end, enters_end, hosts_end, takes_end}
 use Rattle.joint_laws.proofs.joint_controls.Running.{comes_on}
 use Rattle.joint_laws.specs.joint_controls.Joint.{is_terminate}
-use Rattle.unencrypted_ends.specs.Unencrypted.{is_cipher, is_cipher_out}
 use Rattle.link_pairs.specs.Parting.{SendsNoControl}
 use Rattle.link_pairs.proofs.TakingNothing.{LeavesTable, TakesNothing, acked_nothing, answers_nothing, asks_nothing, disconnects_nothing, draft_left, enters_nothing, none_sent, rejection_left}
 
@@ -266,19 +265,27 @@ step_so Shuts s so comes = record { central = so.central; peripheral = so.periph
 
 -- ---- a PDU that is LL_TERMINATE_IND
 
--- a control PDU of an end that encrypts nothing ends the link only as its host asked
+-- a control PDU ends the link only as the host asked
 abbrev ends_link : Option Ctrl → Bool
 ends_link None = false
 ends_link (Some ctrl) = is_terminate ctrl
 
-draft_goes_on : (draft : Draft) (event latency : ℕ) → is_cipher draft ≡ false → is_terminate (ctrl_of_draft draft event latency) ≡ false
-draft_goes_on (Cipher ctrl) event latency plain = absurd (cc)
-draft_goes_on draft event latency plain = refl
+-- and as the peripheral lacks a key
+abbrev pub is_end_draft : Draft → Bool
+is_end_draft (Cipher ctrl) = is_terminate ctrl
+is_end_draft draft = false
+
+abbrev pub is_end_out : Outgoing → Bool
+is_end_out (Other draft) = is_end_draft draft
+is_end_out out = false
+
+draft_ends : (draft : Draft) (event latency : ℕ) → is_terminate (ctrl_of_draft draft event latency) ≡ is_end_draft draft
+draft_ends (Cipher ctrl) event latency = refl
+draft_ends draft event latency = refl
 
 pub disconnects : (outgoing : Outgoing) (ctrl : Ctrl) (event latency : ℕ) → ctrl_of_outgoing outgoing event latency ≡ Some ctrl
-    → is_cipher_out outgoing ≡ false → is_terminate ctrl ≡ true → is_disconnect outgoing ≡ true
-disconnects Nothing ctrl event latency sent plain is = absurd (cc)
-disconnects (Rejection rejection) ctrl event latency sent plain is = absurd (let never = ap ends_link sent ∙ is in cc)
-disconnects (Disconnect code) ctrl event latency sent plain is = refl
-disconnects (Other draft) ctrl event latency sent plain is =
-    absurd (let never = sym (draft_goes_on draft event latency plain) ∙ ap ends_link sent ∙ is in cc)
+    → is_terminate ctrl ≡ true → (is_disconnect outgoing ≡ true) ⊎ (is_end_out outgoing ≡ true)
+disconnects Nothing ctrl event latency sent is = absurd (cc)
+disconnects (Rejection rejection) ctrl event latency sent is = absurd (let never = ap ends_link sent ∙ is in cc)
+disconnects (Disconnect code) ctrl event latency sent is = inl refl
+disconnects (Other draft) ctrl event latency sent is = inr (sym (draft_ends draft event latency) ∙ ap ends_link sent ∙ is)

@@ -1,6 +1,7 @@
 -- The lemmas of this crate.
 pub mod Answering
 pub mod Beginning
+pub mod BothMeet
 pub mod CentralHears
 pub mod ControlKept
 pub mod Counts
@@ -9,6 +10,7 @@ pub mod EndingNothing
 pub mod First
 pub mod Fixing
 pub mod FixingNext
+pub mod HasSent
 pub mod HeardCounts
 pub mod HeardFacts
 pub mod HeardTurns
@@ -16,39 +18,57 @@ pub mod HearingNothingNew
 pub mod Hosting
 pub mod Items
 pub mod JointRuns
+pub mod KeyedRuns
+pub mod KeysAt
+pub mod KeysHeld
 pub mod LastAnswers
+pub mod LastCiphers
 pub mod LastControl
+pub mod LastFits
 pub mod LastPdus
 pub mod Lasting
+pub mod LinkStates
+pub mod NextOpened
 pub mod NothingNew
+pub mod OtherKeys
 pub mod PacketsRead
 pub mod PartingBegins
 pub mod PartingEndings
+pub mod PeripheralHeard
 pub mod PeripheralHears
 pub mod PeripheralSteps
+pub mod PhaseTests
 pub mod PhasedEnds
 pub mod PhasedKept
 pub mod PlainEnds
 pub mod ReachedRuns
 pub mod Reaching
 pub mod Reading
+pub mod Replying
+pub mod SealedTaken
 pub mod SeenAcknowledged
 pub mod SenderHears
 pub mod Sending
 pub mod SharedEvents
 pub mod Showing
+pub mod ShutEnds
+pub mod Shutting
 pub mod Sounding
-pub mod TakingPdus
+pub mod StillOpening
 pub mod TakerHears
 pub mod TakerSends
+pub mod TakingKeys
 pub mod TakingLast
 pub mod TakingNothing
+pub mod TakingPdus
 pub mod TakingTerminate
 pub mod TerminatesNoted
+pub mod TerminatesTaken
 pub mod TerminatingPdus
 pub mod Turning
 pub mod Understanding
 pub mod Ways
+pub mod WholePackets
 -- what the crates above use of those below
 pub use Rattle.link_model.proofs as link_model
 pub use Rattle.joint_laws.proofs.joint_controls as joint_controls

@@ -1,12 +1,12 @@
 -- A peripheral that hears a packet of the central: the link goes on by that packet, in the joint run and by turns.
-use Rattle.std.proofs.Common.{◌≡◌, ℕ, ◌+◌, ◌<◌, ◌≤◌, ◌&&◌, ◌||◌, Bool, true, false, not, List, [], ◌++◌, length, Option, None, is_none, is_some, refl, ap, sym, subst, ◌∙◌, arith, if◌then◌else◌}
-use Rattle.std.proofs.lemmas.Bool.{and_parts}
+use Rattle.std.proofs.Common.{◌≡◌, ℕ, ◌+◌, ◌<◌, ◌≤◌, ◌&&◌, ◌||◌, Bool, true, false, not, List, [], ◌∷◌, ◌++◌, length, Option, None, is_none, is_some, refl, ap, sym, subst, ◌∙◌, arith, if◌then◌else◌}
+use Rattle.std.proofs.lemmas.Bool.{and_from, and_parts}
 use Rattle.ble_base.specs.declared.roles.Role.{Role}
 use Rattle.ble_base.specs.declared.roles.Role.TheVariants.{Peripheral}
 use Rattle.data_pdu.specs.declared.ctrl.Ctrl.{Ctrl}
 use Rattle.data_pdu.specs.declared.header.DataHeader.{DataHeader}
 use Rattle.control_octets.specs.procedure_values.Limits.{tx_of}
-use Rattle.control_octets.specs.procedure_stages.Closing.{is_disconnecting, is_open}
+use Rattle.control_octets.specs.procedure_stages.Closing.{is_open}
 use Rattle.control_octets.specs.procedure_stages.Kinds.{role_of}
 use Rattle.joint_laws.specs.joint_controls.phased_control.enc_phase.Phases.{seals}
 use Rattle.two_tracks.specs.TwoEnds.{LastPdu, MayReach, TwoEnds}
@@ -22,6 +22,9 @@ use Rattle.joint_laws.specs.joint_controls.Joint.{Clear, Control as control_item
 use Rattle.joint_laws.specs.joint_controls.Joint.{after as joint_after}
 use Rattle.joint_laws.specs.joint_controls.Ends.{AreStepsInRange, outgoing_on}
 use Rattle.joint_laws.proofs.joint_controls.Running.{GoesOn, goes_on, none_of}
+use Rattle.joint_keys.specs.KeyedJoint.{KeyedJoint, Keys, keys_sending}
+use Rattle.joint_keys.specs.KeyedLinks.{keys_in_step}
+use Rattle.joint_keys.proofs.Closings.{GoesAlike}
 use Rattle.joint_laws.specs.joint_parameters.Turns.{Alone, FixesNothing, Fixing, IsHeard, IsPaired, Link, LinkStep, MayLink, after_acknowledgement, fixing_steps, joint_steps, link_after, step_if, takes_item}
 use Rattle.joint_laws.proofs.joint_parameters.Hearing.{range_before}
 use Rattle.joint_laws.proofs.joint_parameters.Pairing.{may_now, running_from}
@@ -36,14 +39,14 @@ use Rattle.link_model.specs.Facts.{Encryption, Facts, keyed_of}
 use Rattle.link_model.specs.Packets.{good_pdu}
 use Rattle.link_model.specs.Plain.{IsPlain}
 use Rattle.link_model.specs.Receiving.{accepts, facts_hearing, has_ended, heard_in_slot, replies_by, replies_of, taken_if}
-use Rattle.link_model.specs.Step.{PacketReceived, PacketSent}
-use Rattle.link_model.specs.Sending.{control_gone_if, takes_leave}
-use Rattle.link_model.proofs.Plain.{acknowledged_stays, gone_stays, heard_plain, taken_stays}
+use Rattle.link_model.specs.Step.{PacketSent}
+use Rattle.link_model.specs.Sending.{control_gone_if, fixed_sent, takes_leave}
+use Rattle.link_model.proofs.Plain.{acknowledged_stays, heard_plain}
 use Rattle.link_pairs.specs.Ends.{AreEnds, HasExchange, heard_turns, is_lasting, phased_of, turns_at}
-use Rattle.link_pairs.specs.Hearing.{IsPacketOf, received}
+use Rattle.link_pairs.specs.Hearing.{received}
 use Rattle.link_pairs.specs.Hearing as hearing
-use Rattle.link_pairs.specs.Shown.{AreLinked, Shows, link_of}
-use Rattle.link_pairs.specs.Turns.{AreReady, HasFixed, HaveBegun, sent_if}
+use Rattle.link_pairs.specs.Shown.{HasKeys, HaveKeys, Shows}
+use Rattle.link_pairs.specs.Turns.{HasFixed, sent_if}
 use Rattle.link_pairs.specs.Ways.{IsItem, ShowsLast, ShowsWay}
 use Rattle.link_pairs.proofs.Answering.{HasLast, all_same, answers_plainly, fixed, gone, last_again, last_next, rests_with, seen, seen_fixed, taken, taken_acknowledgement, taken_good, took}
 use Rattle.link_pairs.proofs.Answering.{taken_stays as stays_taken}
@@ -55,12 +58,15 @@ use Rattle.link_pairs.proofs.PeripheralSteps.{may_parts, seen_after, sends_after
 use Rattle.link_pairs.proofs.PhasedEnds.{acked_alone, acked_if, acked_lasts, acked_phased, gone_phased}
 use Rattle.link_pairs.proofs.PhasedKept.{PhasedKeeps, acked_keeps_if, fits_of, gone_keeps, kept_then}
 use Rattle.link_pairs.proofs.ReachedRuns.{requests_none}
-use Rattle.link_pairs.proofs.PlainEnds.{plain_sent, replies_as, sent_plain}
-use Rattle.link_pairs.proofs.LastPdus.{last_reached}
-use Rattle.link_pairs.proofs.Lasting.{lasts_before, lasts_before_if}
-use Rattle.link_pairs.proofs.Reaching.{IsReached, IsShown, comes, linked, paired, peripheral_transmits, reached_by, reached_next, shown}
-use Rattle.link_pairs.proofs.Reading.{AreHeard, IsRead, is_read}
-use Rattle.link_pairs.proofs.SeenAcknowledged.{cleared, clear_seen, control_seen, ends_nothing}
+use Rattle.link_pairs.proofs.Replying.{good_not_forged, replies_as}
+use Rattle.link_pairs.proofs.Lasting.{lasts_before_if}
+use Rattle.link_pairs.proofs.Items.{item_is_not_empty}
+use Rattle.link_pairs.proofs.KeyedRuns.{all_joined, central_apart, fixing_apart, keys_acked_if, keys_all, keys_taken_if, peripheral_acked, peripheral_took}
+use Rattle.link_pairs.proofs.KeysAt.{goes_alike_at}
+use Rattle.link_pairs.proofs.KeysHeld.{acked_has, again_has, empty_has, has_still, have_after, new_has, sent_as, sent_is_as}
+use Rattle.link_pairs.proofs.Reaching.{IsReached, IsShown, comes, joint_at, keys_at, keys_next, not_both, paired, peripheral_transmits, reached_next, shown}
+use Rattle.link_pairs.proofs.SeenAcknowledged.{cleared, clear_seen, control_seen, ends_nothing, keys_seen}
+use Rattle.link_pairs.proofs.TakingKeys.{took_keys}
 use Rattle.link_pairs.proofs.TakingPdus.{HasTaken, TakesNext, takes_next}
 use Rattle.link_pairs.proofs.Ways.{Arrival, arrives, last_same, last_taken, sent_again, way_same, way_seen, way_sent, way_sent_empty}
 
@@ -112,6 +118,9 @@ module _ (central peripheral : Setup) (slot : ℕ) (l : Link) (c p : Facts) (hea
     pub reached : IsReached central peripheral l
     pub running : is_running l.joint ≡ true
     pub shows : Shows central peripheral (slot + 1) false l c p
+    pub keys : HaveKeys (keys_at central peripheral l reached) c p
+    -- as long as no link encrypts
+    pub plain : IsPlain peripheral.link.role p
     pub out_last : p.control.table.out ≡ outgoing_on l.joint.up
     pub bits : HasBitsOf c.acknowledgement header
     pub out : is_acked c.acknowledgement ≡ false
@@ -181,8 +190,7 @@ module _ (central peripheral : Setup) (slot : ℕ) (l : Link) (c p : Facts) (hea
 
     plain_before : IsPlain peripheral.link.role before
     plain_before =
-        acknowledged_stays peripheral.link.role acks (heard_in_slot slot header.md p)
-        (heard_plain peripheral.link.role slot header.md p s.peripheral_rests.plain)
+        acknowledged_stays peripheral.link.role acks (heard_in_slot slot header.md p) (heard_plain peripheral.link.role slot header.md p m.plain)
 
     goes : GoesOn l.joint
     goes = goes_on l.joint m.running
@@ -238,8 +246,11 @@ module _ (central peripheral : Setup) (slot : ℕ) (l : Link) (c p : Facts) (hea
     quiet_same : is_quiet_now before ≡ is_quiet_now p
     quiet_same = ap is_quiet_phased seen_is ∙ quiet_seen (phased_of p) no_request (acks && is_control p.acknowledgement.last)
 
-    open_same : is_open before.control.table.closing ≡ not (is_disconnecting p.control.table.closing)
-    open_same = ap is_open seen_keeps.kept.closing ∙ sym s.peripheral_rests.goes
+    open_same : is_open before.control.table.closing ≡ is_open p.control.table.closing
+    open_same = ap is_open seen_keeps.kept.closing
+
+    goes_alike : GoesAlike (phased_of p)
+    goes_alike = subst GoesAlike s.peripheral_part (goes_alike_at central peripheral m.ends l m.reached m.running).1
 
     fixed_same : before.outgoing.fixed ≡ p.outgoing.fixed
     fixed_same = seen_fixed slot header.md acks p
@@ -254,7 +265,7 @@ module _ (central peripheral : Setup) (slot : ℕ) (l : Link) (c p : Facts) (hea
         (m.has_fixed.control ∙ ap (λ (next : Option Ctrl). is_some next) (sym next_same))
         (λ is. let first = m.has_fixed.data_first (sym (ap is_data fixed_same) ∙ is) in (
           next_same ∙ first.0,
-          (λ i. quiet_same i && open_same i) ∙ first.1,
+          (λ i. quiet_same i && open_same i) ∙ sym goes_alike ∙ first.1,
         ))
         (ap is_control fixed_same ∙ s.peripheral_rests.none_gone) (subst (λ (x : Pdu). x.llid < 4) (sym fixed_same) m.has_fixed.two_bits)
 
@@ -288,9 +299,6 @@ module _ (central peripheral : Setup) (slot : ℕ) (l : Link) (c p : Facts) (hea
     fixed_keeps =
         subst (PhasedKeeps (phased_of before)) (sym (gone_phased (takes_leave before) slot before))
         (gone_keeps (takes_leave before) (phased_of before) slot seen_lasts seen_keeps.fits)
-
-    plain_fixed : IsPlain peripheral.link.role after_fixing
-    plain_fixed = gone_stays peripheral.link.role (takes_leave before) slot before plain_before
 
     same_response : drawn after_fixing.encryption.response ≡ response
     same_response = ap (λ (e : Encryption). drawn e.response) (gone slot header.md acks p).encryption
@@ -345,16 +353,85 @@ module _ (central peripheral : Setup) (slot : ℕ) (l : Link) (c p : Facts) (hea
           lasts = fixed_lasts;
         }
 
+    -- ---- its keys
+
+    abbrev k : KeyedJoint
+    k = keys_at central peripheral l m.reached
+
+    seen_keys : HasKeys (keys_acked_if (is_taken l.joint.up) l.joint.peripheral k.peripheral) before
+    seen_keys =
+        subst (λ (x : Keys). HasKeys x before)
+        (keys_seen p.acknowledgement c.acknowledgement acks fresh says l.joint.up (phased_of p) k.peripheral s.up m.out_last
+        ∙ ap (λ (x : Phased). keys_acked_if (is_taken l.joint.up) x k.peripheral) (sym s.peripheral_part))
+        (acked_has slot header.md acks (phased_of p) k.peripheral p refl m.keys.peripheral_keys)
+
+    fixed_keys : HasKeys (keys_acked_if (is_taken l.joint.up) l.joint.peripheral k.peripheral) after_fixing
+    fixed_keys =
+        let g = gone slot header.md acks p in
+        has_still _ before after_fixing
+        (record {
+          material = ap (λ (e : Encryption). e.material) g.encryption;
+          session = ap (λ (e : Encryption). e.end) g.encryption;
+          payload = g.payload;
+          last = ap (λ (a : Acknowledgement). a.last) g.acknowledgement;
+        }) seen_keys
+
+    -- as the PDU is taken, or is not
+    abbrev own_keys : Keys
+    own_keys =
+        keys_taken_if takes (item_on_air l.joint.down) slot response (phased_of after_fixing)
+        (keys_acked_if (is_taken l.joint.up) l.joint.peripheral k.peripheral)
+
+    now_keys : HasKeys own_keys now
+    now_keys =
+        subst
+        (λ (r : Response). HasKeys (keys_taken_if takes (item_on_air l.joint.down) slot r (phased_of after_fixing)
+        (keys_acked_if (is_taken l.joint.up) l.joint.peripheral k.peripheral)) now)
+        same_response
+        (took_keys l.joint.down c.acknowledgement p.acknowledgement takes accepted slot (phased_of after_fixing) _ after_fixing refl fixed_keys arrival)
+
+    abbrev first_steps : List JointStep
+    first_steps = acked_steps ++ fixing_steps fixing slot
+
+    abbrev last_steps : List JointStep
+    last_steps = step_if takes (PeripheralTakes slot response)
+
+    first_keys : keys_all Peripheral first_steps [] l.joint k.peripheral ≡ keys_acked_if (is_taken l.joint.up) l.joint.peripheral k.peripheral
+    first_keys =
+        all_joined Peripheral acked_steps (fixing_steps fixing slot) [] l.joint k.peripheral
+        ∙ fixing_apart [] (after_all acked_steps l.joint) (keys_all Peripheral acked_steps [] l.joint k.peripheral) fixing slot
+        ∙ peripheral_acked [] l.joint k.peripheral (is_taken l.joint.up)
+
+    keys_run : keys_all Peripheral (first_steps ++ last_steps) [] l.joint k.peripheral ≡ own_keys
+    keys_run =
+        all_joined Peripheral first_steps last_steps [] l.joint k.peripheral
+        ∙ (λ i. keys_all Peripheral last_steps [] (fixed_joint i) (first_keys i))
+        ∙ peripheral_took [] ready_to_take (keys_acked_if (is_taken l.joint.up) l.joint.peripheral k.peripheral) takes slot response
+
+    heard_keys : HaveKeys (keys_in_step (record { step = heard; ltk = [] }) l k) c now
+    heard_keys =
+        have_after [] (first_steps ++ last_steps) k l.joint c now (joint_at central peripheral l m.reached) all_may
+        (subst (λ (x : Keys). HasKeys x c) (sym (central_apart [] l.joint k.central (is_taken l.joint.up) takes fixing slot response)) m.keys.central_keys)
+        (subst (λ (x : Keys). HasKeys x now) (sym keys_run) now_keys)
+
     -- ---- where the run goes on
 
     abbrev next : Link
     next = link_after heard l
 
-    next_reached : IsReached central peripheral next
+    abbrev next_reached : IsReached central peripheral next
     next_reached = reached_next central peripheral heard l m.reached m.running may_hear tt
 
     abbrev answered : Facts
-    answered = plain_sent slot now
+    answered = fixed_sent slot now
+
+    abbrev next_k : KeyedJoint
+    next_k = keys_at central peripheral next next_reached
+
+    next_keys : HaveKeys next_k c now
+    next_keys =
+        subst (λ (x : KeyedJoint). HaveKeys x c now)
+        (sym (keys_next central peripheral (record { step = heard; ltk = [] }) l m.reached m.running may_hear tt)) heard_keys
 
     hears : HearsIn l.turns next.turns (last_heard (room_now || not (is_free l.joint.down)) l.turns.last)
     hears = hears_in (room_now || not (is_free l.joint.down)) l.turns.last l.turns refl
@@ -372,9 +449,6 @@ module _ (central peripheral : Setup) (slot : ℕ) (l : Link) (c p : Facts) (hea
 
     ends_none : (acks && is_terminate p.acknowledgement.last) ≡ false
     ends_none = ends_nothing p.acknowledgement c.acknowledgement acks fresh says l.joint.up s.up
-
-    plain_now : IsPlain peripheral.link.role now
-    plain_now = taken_stays peripheral.link.role accepted pdu slot after_fixing plain_fixed
 
     stays_now : now.leaving.acknowledged ≡ false
     stays_now = stays_taken slot header.md acks p accepted pdu ∙ λ i. s.peripheral_rests.stays i || ends_none i
@@ -432,7 +506,7 @@ module _ (central peripheral : Setup) (slot : ℕ) (l : Link) (c p : Facts) (hea
             free = λ all. absurd (let no = sym m.out ∙ all in cc);
             central_rests = s.central_rests;
             peripheral_rests =
-                rests_with peripheral slot header.md acks p accepted pdu s.peripheral_rests now_keeps plain_now m.listens ends_none (is_acked now.acknowledgement) last;
+                rests_with peripheral slot header.md acks p accepted pdu s.peripheral_rests now_keeps m.listens ends_none (is_acked now.acknowledgement) last;
             central_fits = s.central_fits;
             peripheral_fits = fits;
           }
@@ -442,6 +516,13 @@ module _ (central peripheral : Setup) (slot : ℕ) (l : Link) (c p : Facts) (hea
       module _ (again : is_acked before.acknowledgement ≡ false) where
         now_out : is_acked now.acknowledgement ≡ false
         now_out = all_same slot header.md acks p accepted pdu ∙ again
+
+        keys_again : HaveKeys next_k c answered
+        keys_again =
+            record {
+              central_keys = next_keys.central_keys;
+              peripheral_keys = subst (HasKeys next_k.peripheral) (sym (sent_is_as false slot now now_out)) (again_has slot next_k.peripheral now next_keys.peripheral_keys);
+            }
 
         same_ack : answered.acknowledgement ≡ now.acknowledgement
         same_ack = sent_again now.outgoing.fixed now.acknowledgement now_out
@@ -503,7 +584,17 @@ module _ (central peripheral : Setup) (slot : ℕ) (l : Link) (c p : Facts) (hea
         shows_all k up joint_is turns_is shown =
             shows_next k up joint_is turns_is has_last shown (subst (λ (x : Pdu). length x.body ≤ central.link.max_rx) (sym next_last) fits_next)
 
+        keys_by : (keys : Keys) → HasKeys keys (sent_as true slot now) → HasKeys keys answered
+        keys_by keys = subst (HasKeys keys) (sym (sent_is_as true slot now now_all))
+
         -- an empty one
+        keys_empty : is_empty after_fixing.outgoing.fixed ≡ true → HaveKeys next_k c answered
+        keys_empty empty =
+            record {
+              central_keys = next_keys.central_keys;
+              peripheral_keys = keys_by next_k.peripheral (empty_has slot next_k.peripheral now next_keys.peripheral_keys (ap is_empty now_fixed ∙ empty));
+            }
+
         shows_empty : fixes.next_way ≡ Clear → is_empty after_fixing.outgoing.fixed ≡ true → Shows central peripheral (slot + 1) true next c answered
         shows_empty way empty =
             shows_all next fixes.next_way goes_joint refl
@@ -535,8 +626,17 @@ module _ (central peripheral : Setup) (slot : ℕ) (l : Link) (c p : Facts) (hea
           way_on (control_item outgoing ctrl) is_item =
               way_sent now.outgoing.fixed now.acknowledgement c.acknowledgement now_agreed now_all (control_item outgoing ctrl) (seals Peripheral now.encryption.phase) is_item
 
-          after_reached : IsReached central peripheral after_next
+          abbrev after_reached : IsReached central peripheral after_next
           after_reached = reached_next central peripheral (Alone PeripheralSends) next next_reached still (refl, may_send) tt
+
+          keys_item : HaveKeys (keys_at central peripheral after_next after_reached) c answered
+          keys_item =
+              subst (λ (x : KeyedJoint). HaveKeys x c answered)
+              (sym (keys_next central peripheral (record { step = Alone PeripheralSends; ltk = [] }) next next_reached still (refl, may_send) tt))
+              (have_after [] (PeripheralSends ∷ []) next_k next.joint c answered (joint_at central peripheral next next_reached)
+              (and_from (may PeripheralSends next.joint) true may_send refl) next_keys.central_keys
+              (keys_by (keys_sending next_k.peripheral)
+              (new_has slot next_k.peripheral now next_keys.peripheral_keys (ap is_empty now_fixed ∙ item_is_not_empty after_fixing.outgoing.fixed item is))))
 
           shows_item : Shows central peripheral (slot + 1) true after_next c answered
           shows_item =
@@ -545,15 +645,15 @@ module _ (central peripheral : Setup) (slot : ℕ) (l : Link) (c p : Facts) (hea
 
         answers_next : IsAnswer fixes.next_way after_fixing.outgoing.fixed → IsShown central peripheral (slot + 1) true c answered
         answers_next (Empty way empty) =
-            shown central peripheral (slot + 1) true next c answered next_reached (shows_empty way empty) (ap (λ (j : Joint). j.stopped) goes_joint)
+            shown central peripheral (slot + 1) true next c answered next_reached (shows_empty way empty) (keys_empty empty) (ap (λ (j : Joint). j.stopped) goes_joint)
         answers_next (Holds item sealed way is) =
             shown central peripheral (slot + 1) true (link_after (Alone PeripheralSends) next) c answered (after_reached item sealed way is)
-            (shows_item item sealed way is) (ap (λ (j : Joint). j.stopped) (sends_joint item sealed way is))
+            (shows_item item sealed way is) (keys_item item sealed way is) (ap (λ (j : Joint). j.stopped) (sends_joint item sealed way is))
 
       answers_by : (all : Bool) → is_acked before.acknowledgement ≡ all → IsShown central peripheral (slot + 1) true c answered
       answers_by true is = answers_next is (fixes.answer is)
       answers_by false is =
-          shown central peripheral (slot + 1) true next c answered next_reached (shows_again is) (ap (λ (j : Joint). j.stopped) goes_joint)
+          shown central peripheral (slot + 1) true next c answered next_reached (shows_again is) (keys_again is) (ap (λ (j : Joint). j.stopped) goes_joint)
 
       answers_shown : IsShown central peripheral (slot + 1) true c answered
       answers_shown = answers_by (is_acked before.acknowledgement) refl
@@ -589,7 +689,7 @@ module _ (central peripheral : Setup) (slot : ℕ) (l : Link) (c p : Facts) (hea
 
       replies_now : replies ≡ not (has_ended now)
       replies_now =
-          replies_as peripheral p slot octets room s.peripheral_rests.plain
+          replies_as peripheral p slot octets room (good_not_forged peripheral p octets good)
           ∙ (λ i. replies_by (m.ends.is_peripheral i) (has_ended (received_now i)) (good_pdu peripheral p octets))
           ∙ ap (λ (b : Bool). b && not (has_ended now)) good
 
@@ -600,8 +700,7 @@ module _ (central peripheral : Setup) (slot : ℕ) (l : Link) (c p : Facts) (hea
           let replies_true : replies ≡ true =
           replies_now ∙ λ i. not (not (is_none (ends i)) || stays_now i) in
           let is : answer ≡ answered =
-          (λ i. sent_if (replies_true i) peripheral slot (received_now i)) ∙ answers_plainly slot header.md acks p accepted pdu
-          ∙ sent_plain peripheral.link.role slot now plain_now in
+          (λ i. sent_if (replies_true i) peripheral slot (received_now i)) ∙ answers_plainly slot header.md acks p accepted pdu in
           subst (λ (b : Bool). IsShown central peripheral (slot + 1) b c answer) (sym replies_true)
           (subst (IsShown central peripheral (slot + 1) true c) (sym is) (answers_shown still))
 
@@ -624,79 +723,10 @@ module _ (central peripheral : Setup) (slot : ℕ) (l : Link) (c p : Facts) (hea
           record {
             link = next;
             reached = next_reached;
-            shows = λ running. absurd (let no = sym stopped ∙ running in cc);
+            shows = not_both (is_running next.joint) stopped;
+            keys = not_both (is_running next.joint) stopped;
             lasts = λ central_lasts peripheral_lasts. goes_on_then peripheral_lasts;
           }
 
       pub hears_shown : IsShown central peripheral (slot + 1) replies c answer
       hears_shown = hears_by (is_running next.joint) refl
-
--- ---- both ends stay linked
-
-module _ (heard : AreHeard) (central peripheral : Setup) (slot : ℕ) (c p : Facts) (channel : ℕ) (octets : List ℕ) (room : Bool)
-    (ends : AreEnds central peripheral) (begun : HaveBegun central peripheral slot true true c p)
-    (packet : IsPacketOf central slot c channel octets) (same : channel ≡ p.event.channel) (supervised : slot + 1 ≤ heard_turns peripheral p + 32768) where
-  abbrev answer_now : Facts
-  answer_now = hearing.answered peripheral slot octets room p
-
-  module _ (ready : AreReady central peripheral slot true c p) (l : Link) (reached : IsReached central peripheral l) (running : is_running l.joint ≡ true)
-      (s : Shows central peripheral (slot + 1) false l c p) where
-    read : IsRead peripheral p slot octets c.acknowledgement
-    read = is_read heard central peripheral slot (slot + 1) c p channel octets ends.one_link.fields s.central_fits s.central_rests packet same
-        s.peripheral_rests.plain
-
-    meets : Meets central peripheral slot l c p read.header
-    meets =
-        record {
-          ends = ends;
-          reached = reached;
-          running = running;
-          shows = s;
-          out_last =
-              ap (λ (x : Phased). x.control.table.out) (sym s.peripheral_part) ∙ (last_reached central peripheral ends l reached).peripheral;
-          bits = read.bits;
-          out = read.out;
-          central_heard = ready.central_heard;
-          peripheral_heard = ready.peripheral_heard;
-          supervised = supervised;
-          transmits = begun.transmits_in refl;
-          listens = begun.listens_in refl;
-          has_fixed = ready.fixed refl;
-        }
-
-    -- the packet reaches it by turns, and it takes the PDU or does not
-    pub reaches_now : MayReach l.turns
-    reaches_now = reaches central peripheral slot l c p read.header meets room
-
-    pub takes_now : TakesAt l.joint (takes_item (room || not (is_data c.acknowledgement.last)) (item_on_air l.joint.down)) slot
-        (drawn p.encryption.response) (received peripheral slot octets room p).control
-    takes_now =
-        subst (λ (f : Facts). TakesAt l.joint (takes_item (room || not (is_data c.acknowledgement.last)) (item_on_air l.joint.down)) slot (drawn p.encryption.response) f.control)
-        (sym (received_now central peripheral slot l c p read.header meets room octets read.good (read.facts room)))
-        (takes_at central peripheral slot l c p read.header meets room)
-
-    hears_on : IsShown central peripheral (slot + 1) (replies_of peripheral p slot octets room) c answer_now
-    hears_on = hears_shown central peripheral slot l c p read.header meets room octets read.good (read.facts room)
-
-  lasts_then : is_lasting answer_now ≡ true → is_lasting p ≡ true
-  lasts_then is =
-      lasts_before peripheral p (PacketReceived slot octets room)
-      (lasts_before_if (replies_of peripheral p slot octets room) peripheral (received peripheral slot octets room p) (PacketSent slot) is)
-
-  pub hears_linked : AreLinked central peripheral (slot + 1) (replies_of peripheral p slot octets room) c answer_now
-  hears_linked = by (is_running (link_of central peripheral begun.linked.steps).joint) refl
-    where
-      by : (b : Bool) → is_running (link_of central peripheral begun.linked.steps).joint ≡ b
-          → AreLinked central peripheral (slot + 1) (replies_of peripheral p slot octets room) c answer_now
-      by true running =
-          linked central peripheral (slot + 1) (replies_of peripheral p slot octets room) c answer_now
-          (hears_on (begun.ready running) (link_of central peripheral begun.linked.steps)
-          (reached_by central peripheral begun.linked.steps begun.linked.may begun.linked.in_range) running (begun.linked.shows running))
-      by false stopped =
-          record {
-            steps = begun.linked.steps;
-            may = begun.linked.may;
-            in_range = begun.linked.in_range;
-            shows = λ running. absurd (let no = sym stopped ∙ running in cc);
-            lasts = λ central_lasts peripheral_lasts. begun.linked.lasts central_lasts (lasts_then peripheral_lasts);
-          }

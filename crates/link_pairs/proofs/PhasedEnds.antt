@@ -60,23 +60,23 @@ acked_lasts true s lasts =
 acked_lasts false s lasts = lasts
 
 -- at an end with no request, as a peripheral is, nothing is asked for again
+never_asks : (pause may opens : Bool) → (pause && (may && (opens && false))) ≡ false
+never_asks true true true = refl
+never_asks true true false = refl
+never_asks true false opens = refl
+never_asks false may opens = refl
+
+pub asks_none : (s : Phased) → s.request ≡ None → asks_again s ≡ false
+asks_none s none =
+    ap (λ (r : Option Ctrl). is_pause_rsp s.control.table.out && (may_follow AskTransition s.phase && (is_open_now s && is_some r))) none
+    ∙ never_asks (is_pause_rsp s.control.table.out) (may_follow AskTransition s.phase) (is_open_now s)
+
 pub acked_alone : (s : Phased) → s.request ≡ None → phased_after SeesAcknowledged s ≡ record s { control = after control_acknowledged s.control }
 acked_alone s none = by (is_none s.control.ends)
   where
-    never_asks : (pause may opens : Bool) → (pause && (may && (opens && false))) ≡ false
-    never_asks true true true = refl
-    never_asks true true false = refl
-    never_asks true false opens = refl
-    never_asks false may opens = refl
-
-    asks_none : asks_again s ≡ false
-    asks_none =
-        ap (λ (r : Option Ctrl). is_pause_rsp s.control.table.out && (may_follow AskTransition s.phase && (is_open_now s && is_some r))) none
-        ∙ never_asks (is_pause_rsp s.control.table.out) (may_follow AskTransition s.phase) (is_open_now s)
-
     by : (b : Bool) → (if b then asking_if (asks_again s) (record s { control = (if b then moved control_acknowledged s.control else s.control) }) else s)
         ≡ record s { control = (if b then moved control_acknowledged s.control else s.control) }
-    by true = ap (λ (asks : Bool). asking_if asks (record s { control = moved control_acknowledged s.control })) asks_none
+    by true = ap (λ (asks : Bool). asking_if asks (record s { control = moved control_acknowledged s.control })) (asks_none s none)
     by false = refl
 
 -- ---- a control PDU leaves its queue, or does not

@@ -1,5 +1,6 @@
 -- A peripheral that hears a packet sees its last PDU acknowledged, or does not.
 use Rattle.std.proofs.Common.{◌≡◌, ◌&&◌, ◌||◌, Bool, true, false, refl, ap, sym, subst, ◌∙◌, if◌then◌else◌}
+use Rattle.control_octets.specs.procedure_values.declared.drafts.Outgoing.{Outgoing}
 use Rattle.control_octets.specs.procedure_values.declared.drafts.Outgoing.TheVariants.{Nothing}
 use Rattle.joint_laws.specs.joint_controls.phased_control.Phased.{Phased}
 use Rattle.joint_laws.specs.joint_controls.Joint.{Clear, Control as control_item, Data, Fixed, OnAir, Taken, Way, is_taken}
@@ -11,6 +12,9 @@ use Rattle.link_model.specs.Controls.{is_terminate}
 use Rattle.link_pairs.specs.Ways.{IsUntaken, ShowsWay}
 use Rattle.link_pairs.proofs.Counts.{Says, unseen_is_out, unseen_is_taken, untaken_is_out}
 use Rattle.link_pairs.proofs.Items.{control_is_control, empty_terminates_nothing, item_terminates}
+use Rattle.joint_keys.specs.KeyedJoint.{Keys}
+use Rattle.link_pairs.proofs.KeyedRuns.{keys_acked_if}
+use Rattle.link_pairs.proofs.KeysHeld.{acked_or_none}
 use Rattle.link_pairs.proofs.PhasedEnds.{acked_if, acked_nothing}
 
 -- ---- its last PDU is acknowledged, or is not
@@ -37,16 +41,24 @@ module _ (from to : Acknowledgement) (acks fresh : Bool) (says : Says from to ac
       by true is = absurd (let out = unseen_is_out from to (says.unseen is) in cc)
       by false is = refl
 
-  -- it sees exactly a PDU acknowledged that was taken
+  -- it sees exactly a PDU acknowledged that was taken, for whatever nothing happens to where none is out
+  pub seen_by : {A : Type 0} (f : Bool → A) (way : Way) (out : Outgoing) → ((acked : Bool) → out ≡ Nothing → f acked ≡ f false) → ShowsWay way from to
+      → out ≡ outgoing_on way → f (acks && is_control from.last) ≡ f (is_taken way)
+  seen_by f Clear out none shown same = none (acks && is_control from.last) same
+  seen_by f (Fixed item sealed) out none shown same = absurd shown
+  seen_by f (OnAir item sealed) out none shown same = ap (λ (b : Bool). f (b && is_control from.last)) (untaken_not_acked shown.1)
+  seen_by f (Taken Data) out none shown same = none (acks && is_control from.last) same ∙ sym (none true same)
+  seen_by f (Taken (control_item outgoing ctrl)) out none shown same =
+      (λ i. f (says.acknowledged shown.1 i && is_control from.last)) ∙ ap f (control_is_control ctrl from.last shown.0)
+
   pub control_seen : (way : Way) (x : Phased) → ShowsWay way from to → x.control.table.out ≡ outgoing_on way
       → acked_if (acks && is_control from.last) x ≡ acked_if (is_taken way) x
-  control_seen Clear x shown out = none_acked (acks && is_control from.last) x out
-  control_seen (Fixed item sealed) x shown out = absurd shown
-  control_seen (OnAir item sealed) x shown out = ap (λ (b : Bool). acked_if (b && is_control from.last) x) (untaken_not_acked shown.1)
-  control_seen (Taken Data) x shown out = none_acked (acks && is_control from.last) x out ∙ sym (none_acked true x out)
-  control_seen (Taken (control_item outgoing ctrl)) x shown out =
-      (λ i. acked_if (says.acknowledged shown.1 i && is_control from.last) x)
-      ∙ ap (λ (b : Bool). acked_if b x) (control_is_control ctrl from.last shown.0)
+  control_seen way x = seen_by (λ acked. acked_if acked x) way x.control.table.out (λ acked. none_acked acked x)
+
+  -- so are its keys
+  pub keys_seen : (way : Way) (x : Phased) (keys : Keys) → ShowsWay way from to → x.control.table.out ≡ outgoing_on way
+      → keys_acked_if (acks && is_control from.last) x keys ≡ keys_acked_if (is_taken way) x keys
+  keys_seen way x keys = seen_by (λ acked. keys_acked_if acked x keys) way x.control.table.out (λ acked. acked_or_none acked x keys)
 
   -- it ends no link
   pub ends_nothing : (way : Way) → ShowsWay way from to → (acks && is_terminate from.last) ≡ false

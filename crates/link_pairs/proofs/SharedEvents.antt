@@ -21,17 +21,17 @@ use Rattle.link_model.specs.phased_end.Taking.{drawn}
 use Rattle.link_model.specs.Data.{is_data}
 use Rattle.link_model.specs.Setup.{Setup, first_anchor, first_params}
 use Rattle.link_model.specs.Facts.{Facts}
+use Rattle.link_model.proofs.Hearing.{IsHeardWhole}
 use Rattle.link_pairs.specs.Ends.{AreEnds, heard_turns, is_lasting}
-use Rattle.link_pairs.specs.Hearing.{IsPacketOf, answered, received}
+use Rattle.link_pairs.specs.Hearing.{IsPacketOf, answered, is_mixed, received}
 use Rattle.link_pairs.specs.Shown.{AreLinked, Shows}
-use Rattle.link_pairs.specs.Sound.{EndsForInstant, ShareEvent}
+use Rattle.link_pairs.specs.Sound.{EndsForInstant, EndsForged, ShareEvent}
 use Rattle.link_pairs.specs.Turns.{HaveBegun}
-use Rattle.link_pairs.proofs.Ending.{answered_ends, ends_alone, ends_for_instant, run_at}
+use Rattle.link_pairs.proofs.Ending.{ends_alone, ends_for_instant, heard_either, run_at}
 use Rattle.link_pairs.proofs.JointRuns.{HasRun, by_turns_too}
-use Rattle.link_pairs.proofs.PeripheralHears.{TakesAt, reaches_now, takes_now}
+use Rattle.link_pairs.proofs.PeripheralHears.{TakesAt}
 use Rattle.link_pairs.proofs.PeripheralSteps.{one_step}
 use Rattle.link_pairs.proofs.Reaching.{IsReached, paired}
-use Rattle.link_pairs.proofs.Reading.{AreHeard}
 use Rattle.link_pairs.proofs.Sounding.{central_track, link_now, peripheral_track, reached_now, runs}
 
 -- ---- an indication on its way is taken, whether there is room for data or not
@@ -144,20 +144,25 @@ module _ (central peripheral : Setup) (ends : AreEnds central peripheral) (turns
 
 -- ---- while the link lasts at both
 
-pub peripheral_hears : AreHeard → (central peripheral : Setup) (slot : ℕ) (c p : Facts) (channel : ℕ) (octets : List ℕ) (room : Bool)
+pub peripheral_hears : IsHeardWhole → (central peripheral : Setup) (slot : ℕ) (c p : Facts) (channel : ℕ) (octets : List ℕ) (room : Bool)
     → AreEnds central peripheral → HaveBegun central peripheral slot true true c p → is_lasting c ≡ true → is_lasting p ≡ true
     → IsPacketOf central slot c channel octets → channel ≡ p.event.channel → slot + 1 ≤ heard_turns peripheral p + 32768
-    → ShareEvent c p ⊎ EndsForInstant c p (answered peripheral slot octets room p).control.ends
-peripheral_hears heard central peripheral slot c p channel octets room ends begun c_lasts p_lasts packet same supervised =
+    → is_mixed peripheral p octets c.acknowledgement.last ≡ false
+    → let after_it = (answered peripheral slot octets room p).control.ends in
+    ShareEvent c p ⊎ (EndsForInstant c p after_it ⊎ EndsForged peripheral p octets after_it)
+peripheral_hears heard central peripheral slot c p channel octets room ends begun c_lasts p_lasts packet same supervised pure =
     let running = runs central peripheral ends (slot + 1) false c p begun.linked c_lasts p_lasts in
-    let l = link_now central peripheral ends (slot + 1) false c p begun.linked c_lasts p_lasts in
-    let reached = reached_now central peripheral ends (slot + 1) false c p begun.linked c_lasts p_lasts in
-    let s = begun.linked.shows running in
-    subst (λ (o : Option ErrCode). ShareEvent c p ⊎ EndsForInstant c p o) (sym (answered_ends peripheral slot octets room p))
-    (hears_share central peripheral ends (slot + 1) false c p l reached running s slot (drawn p.encryption.response) (room || not (is_data c.acknowledgement.last))
-    (received peripheral slot octets room p).control
-    (takes_now heard central peripheral slot c p channel octets room ends begun packet same supervised (begun.ready running) l reached running s)
-    (reaches_now heard central peripheral slot c p channel octets room ends begun packet same supervised (begun.ready running) l reached running s))
+    heard_either heard central peripheral slot c p channel octets room ends begun c_lasts p_lasts packet same supervised pure
+    (λ o. ShareEvent c p ⊎ (EndsForInstant c p o ⊎ EndsForged peripheral p octets o))
+    (λ reaches taken. late_or (received peripheral slot octets room p).control.ends
+    (hears_share central peripheral ends (slot + 1) false c p (link_now central peripheral ends (slot + 1) false c p begun.linked c_lasts p_lasts)
+    (reached_now central peripheral ends (slot + 1) false c p begun.linked c_lasts p_lasts) running (begun.linked.shows running) slot (drawn p.encryption.response)
+    (room || not (is_data c.acknowledgement.last)) (received peripheral slot octets room p).control taken reaches))
+    (λ forged. inr (inr forged))
+  where
+    late_or : (o : Option ErrCode) → ShareEvent c p ⊎ EndsForInstant c p o → ShareEvent c p ⊎ (EndsForInstant c p o ⊎ EndsForged peripheral p octets o)
+    late_or o (inl share_it) = inl share_it
+    late_or o (inr late) = inr (inl late)
 
 pub central_hears : (central peripheral : Setup) (turns : ℕ) (c p : Facts) → AreEnds central peripheral
     → AreLinked central peripheral turns true c p → is_lasting c ≡ true → is_lasting p ≡ true → ShareEvent c p

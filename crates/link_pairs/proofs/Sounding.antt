@@ -134,7 +134,7 @@ module _ (central peripheral : Setup) (ends : AreEnds central peripheral) (turns
   pub runs : is_running link_now.joint ≡ true
   runs = linked.lasts central_lasts peripheral_lasts
 
-  pub reached_now : IsReached central peripheral link_now
+  abbrev pub reached_now : IsReached central peripheral link_now
   reached_now = reached_by central peripheral linked.steps linked.may linked.in_range
 
   pub are_sound : AreSoundEnds central peripheral c p

@@ -1,5 +1,5 @@
 -- The end that took LL_TERMINATE_IND hears the same packet again: it takes nothing, and the two ends stay parting.
-use Rattle.std.proofs.Common.{◌≡◌, ◌≤◌, ◌&&◌, ℕ, Bool, true, false, List, length, not, ◌||◌, is_none, is_some, refl, sym, ap, ◌∙◌, subst, arith}
+use Rattle.std.proofs.Common.{◌≡◌, ◌≤◌, inr, ◌&&◌, ℕ, Bool, true, false, List, length, not, ◌||◌, is_none, is_some, refl, sym, ap, ◌∙◌, subst, arith}
 use Rattle.ble_base.specs.declared.roles.Role.{Role}
 use Rattle.ble_base.specs.declared.roles.Role.TheVariants.{Central, Peripheral}
 use Rattle.link_model.specs.Acknowledgement.{Acknowledgement, is_acked}
@@ -14,8 +14,8 @@ use Rattle.link_pairs.specs.Ways.{IsUnseen}
 use Rattle.link_pairs.proofs.Counts.{Says, acknowledged_by, is_fresh, says_right, unseen_is_taken}
 use Rattle.link_pairs.proofs.HearingNothingNew.{heard_control, heard_still, none_noted, sent_if_still}
 use Rattle.link_pairs.proofs.NothingNew.{HasNothingNew, taker_still}
-use Rattle.link_pairs.proofs.PacketsRead.{AreRead, are_read}
-use Rattle.link_pairs.proofs.PlainEnds.{replies_as}
+use Rattle.link_pairs.proofs.PacketsRead.{AreRead, fits_listener, read_again}
+use Rattle.link_pairs.proofs.Replying.{good_not_forged, replies_as}
 
 -- ---- what the packet says
 
@@ -26,11 +26,15 @@ never_true false is = refl
 none_unseen : (to from : Acknowledgement) → to.acked ≡ length from.accepted → IsUnseen to from → ⊥
 none_unseen to from seen is = let taken = is.taken in let unseen = is.unseen in omega (arith, seen, taken, unseen)
 
-module _ (whole : IsHeardWhole) (taker sender : Setup) (fields : sender.link.fields ≡ taker.link.fields) (most : taker.link.max_rx ≤ 251) (t s : Facts)
+module _ (whole : IsHeardWhole) (taker sender : Setup) (fields : sender.link.fields ≡ taker.link.fields) (most : taker.link.max_rx ≤ 251)
+    (least : 27 ≤ taker.link.max_rx) (t s : Facts)
     (parting : ArePartingFrom taker sender t s) (slot channel : ℕ) (octets : List ℕ) (packet : IsPacketOf sender slot s channel octets)
     (same : channel ≡ t.event.channel) (room : Bool) where
   read : AreRead taker t slot octets s.acknowledgement
-  read = are_read whole sender taker slot s t channel octets fields most parting.sent.fits packet same parting.taker_plain
+  read =
+      let two = parting.sent.two_octets in
+      read_again whole sender taker slot s t channel octets parting.sent.made fields packet same
+      (fits_listener taker parting.sent.made s t most parting.sent.fits (λ some does. inr (omega (arith, two, least)))) parting.agreement parting.unseen
 
   abbrev acks : Bool
   acks = acknowledged_by t.acknowledgement read.header
@@ -80,7 +84,7 @@ module _ (whole : IsHeardWhole) (taker sender : Setup) (fields : sender.link.fie
       ∙ ap (λ (b : Bool). b && true) read.good
 
   pub replies_again : taker.link.role ≡ Peripheral → replies_of taker t slot octets room ≡ true
-  replies_again is = replies_as taker t slot octets room parting.taker_plain ∙ replies_by_role taker.link.role is
+  replies_again is = replies_as taker t slot octets room (good_not_forged taker t octets read.good) ∙ replies_by_role taker.link.role is
 
   pub answered_parting : is_acked t.acknowledgement ≡ false → ArePartingFrom taker sender (answered taker slot octets room t) s
   answered_parting none_acked =

@@ -1,10 +1,12 @@
 -- What the steps of the control part that take no PDU leave of an end whose link is to end.
 use Rattle.std.proofs.Common.{◌≡◌, ℕ, Bool, true, false, ◌&&◌, List, [], ◌∷◌, ◌++◌, remove, Option, Some, None, Result, Ok, Err, is_none, is_some, refl, sym, ap, ◌∙◌, if◌then◌else◌}
+use Rattle.std.proofs.lemmas.Bool.{and_parts}
+use Rattle.ble_base.specs.ErrorCodes.{pin_or_key_missing}
 use Rattle.ble_base.specs.declared.error_codes.ErrCode.{ErrCode}
 use Rattle.ble_base.specs.declared.roles.Role.{Role}
 use Rattle.ble_base.specs.declared.roles.Role.TheVariants.{Central, Peripheral}
 use Rattle.data_pdu.specs.declared.ctrl.Ctrl.{Ctrl}
-use Rattle.data_pdu.specs.declared.ctrl.Ctrl.TheVariants.{EncReq, PauseEncReq}
+use Rattle.data_pdu.specs.declared.ctrl.Ctrl.TheVariants.{EncReq, PauseEncReq, RejectExtInd, StartEncReq, TerminateInd}
 use Rattle.instants.specs.declared.indications.Indication.{Indication}
 use Rattle.instants.specs.Track.{next_number}
 use Rattle.control_octets.specs.procedure_values.declared.asks.Ask.{Ask}
@@ -32,10 +34,14 @@ use Rattle.control_octets.specs.control_model.Control.{Answers, Asks, Control, D
 use Rattle.control_octets.proofs.control_model.Calls.{any_step, either_way}
 use Rattle.link_model.specs.enc_phase.declared.facts.PhaseFacts.{PhaseFacts}
 use Rattle.link_model.specs.enc_phase.declared.facts.PhaseFacts.TheVariants.{Clear}
-use Rattle.link_model.specs.enc_phase.declared.facts.Transition.TheVariants.{Ask as AskTransition}
-use Rattle.link_model.specs.enc_phase.Phases.{phase_after}
-use Rattle.link_model.specs.phased_control.Phased.{Phased, ask_begun, encrypting, encrypting_if, entered, is_quiet_now, request_of, table_entered, with_owed_if, with_step}
-use Rattle.link_model.specs.keyed_control.KeyedSteps.{Enters as keyed_enters, keyed_moved}
+use Rattle.link_model.specs.enc_phase.declared.facts.Transition.TheVariants.{Ask as AskTransition, Refuse}
+use Rattle.link_model.specs.enc_phase.Phases.{may_follow, phase_after}
+use Rattle.link_model.specs.phased_control.Phased.{Phased, ask_begun, asking_if, asks_again, encrypting, encrypting_if, entered, is_open_now, is_pause_rsp, is_quiet_now, key_given, key_lacking, refused_if, request_of, table_entered, with_owed_if, with_step}
+use Rattle.link_model.specs.phased_control.Taken.{SeesAcknowledged as phased_acked, phased_after}
+use Rattle.link_model.specs.keyed_control.Keyed.{Keyed}
+use Rattle.link_model.specs.keyed_control.KeyedSteps.{Enters as keyed_enters, GivesKey, LacksKey, keyed_after, keyed_moved}
+use Rattle.link_model.specs.Hosts.{key_step}
+use Rattle.joint_laws.specs.procedure_stages.Opcodes.{enc_req_opcode}
 use Rattle.link_model.specs.Entering.{control_entered}
 use Rattle.link_model.specs.Facts.{Facts, keyed_of}
 
@@ -65,6 +71,12 @@ no_disconnect (Rejection rejection) q is = is
 no_disconnect (Disconnect code) q is = refl
 no_disconnect (Other draft) q is = is
 
+no_drafts : (outgoing : Outgoing) (q : QueueFacts) → q.drafts ≡ [] → (without_next outgoing q).drafts ≡ []
+no_drafts Nothing q is = is
+no_drafts (Rejection rejection) q is = is
+no_drafts (Disconnect code) q is = is
+no_drafts (Other draft) q is = ap (λ (drafts : List Draft). remove drafts 0) is
+
 -- ---- a table
 
 -- what the peer receives is known as before; where the link is to end it stays so, and nothing is queued
@@ -73,9 +85,11 @@ pub record LeavesTable (f g : TableFacts) : Type 0 where
   pub closing : is_open f.closing ≡ false → g.closing ≡ f.closing
   pub rejections : is_open f.closing ≡ false → f.queue.rejections ≡ [] → g.queue.rejections ≡ []
   pub disconnect : is_open f.closing ≡ false → f.queue.disconnect ≡ None → g.queue.disconnect ≡ None
+  pub drafts : is_open f.closing ≡ false → f.queue.drafts ≡ [] → g.queue.drafts ≡ []
 
 pub table_left : (f : TableFacts) → LeavesTable f f
-table_left f = record { peer_rx = refl; closing = λ shut. refl; rejections = λ shut is. is; disconnect = λ shut is. is }
+table_left f =
+    record { peer_rx = refl; closing = λ shut. refl; rejections = λ shut is. is; disconnect = λ shut is. is; drafts = λ shut is. is }
 
 -- only its queue is another one, or the same where nothing is queued
 queue_left : (f g : TableFacts) → g.lengths ≡ f.lengths → g.closing ≡ f.closing → (is_open f.closing ≡ false → g.queue ≡ f.queue) → LeavesTable f g
@@ -85,6 +99,7 @@ queue_left f g lengths closing queue =
       closing = λ shut. closing;
       rejections = λ shut is. ap (λ (q : QueueFacts). q.rejections) (queue shut) ∙ is;
       disconnect = λ shut is. ap (λ (q : QueueFacts). q.disconnect) (queue shut) ∙ is;
+      drafts = λ shut is. ap (λ (q : QueueFacts). q.drafts) (queue shut) ∙ is;
     }
 
 table_then : (f g h : TableFacts) → LeavesTable f g → LeavesTable g h → LeavesTable f h
@@ -94,6 +109,7 @@ table_then f g h one two =
       closing = λ shut. two.closing (ap is_open (one.closing shut) ∙ shut) ∙ one.closing shut;
       rejections = λ shut is. two.rejections (ap is_open (one.closing shut) ∙ shut) (one.rejections shut is);
       disconnect = λ shut is. two.disconnect (ap is_open (one.closing shut) ∙ shut) (one.disconnect shut is);
+      drafts = λ shut is. two.drafts (ap is_open (one.closing shut) ∙ shut) (one.drafts shut is);
     }
 
 entered_left : (f : TableFacts) (holds : Bool) → LeavesTable f (entered_step f holds).0
@@ -188,7 +204,7 @@ entered_nothing slot facts = by (is_none facts.control.ends)
 pub asks_nothing : (ask : Ask) (c : Control) → TakesNothing c (after (Asks ask) c)
 asks_nothing ask c =
     any_step (TakesNothing c) (Asks ask) c
-    (with_table c _ (record { peer_rx = peer_asked ask c.table.lengths; closing = λ shut. refl; rejections = λ shut is. is; disconnect = λ shut is. is }))
+    (with_table c _ (record { peer_rx = peer_asked ask c.table.lengths; closing = λ shut. refl; rejections = λ shut is. is; disconnect = λ shut is. is; drafts = λ shut is. is }))
     (takes_none c)
 
 pub answers_nothing : (answer : Result Ask ErrCode) (c : Control) → TakesNothing c (after (Answers answer) c)
@@ -205,6 +221,7 @@ shut_left true reason c is =
       closing = λ shut. absurd (let no = sym is ∙ shut in cc);
       rejections = λ shut. absurd (let no = sym is ∙ shut in cc);
       disconnect = λ shut. absurd (let no = sym is ∙ shut in cc);
+      drafts = λ shut. absurd (let no = sym is ∙ shut in cc);
     })
 shut_left false reason c is = takes_none c
 
@@ -229,6 +246,79 @@ sends_nothing slot quiet c =
     (either_way (TakesNothing c) (goes_out quiet c) _ c
     (following_nothing (role_of c.table.progress) (went slot quiet c).1 c (record c { table = (went slot quiet c).0 })
     (with_table c (went slot quiet c).0
-    (record { peer_rx = refl; closing = λ shut. refl; rejections = λ shut. none_sent outgoing c.table.queue; disconnect = λ shut. no_disconnect outgoing c.table.queue })))
+    (record { peer_rx = refl; closing = λ shut. refl; rejections = λ shut. none_sent outgoing c.table.queue; disconnect = λ shut. no_disconnect outgoing c.table.queue; drafts = λ shut. no_drafts outgoing c.table.queue })))
     (takes_none c))
     (takes_none c)
+
+-- ---- a PDU that is owed only while the link is not to end
+
+owed_left : (ctrl : Ctrl) (c : Control) → is_open c.table.closing ≡ true → TakesNothing c (after (Owes ctrl) c)
+owed_left ctrl c open_now =
+    any_step (TakesNothing c) (Owes ctrl) c
+    (with_table c (owe_step c.table ctrl)
+    (record {
+      peer_rx = refl;
+      closing = λ shut. absurd (let no = sym open_now ∙ shut in cc);
+      rejections = λ shut. absurd (let no = sym open_now ∙ shut in cc);
+      disconnect = λ shut. absurd (let no = sym open_now ∙ shut in cc);
+      drafts = λ shut. absurd (let no = sym open_now ∙ shut in cc);
+    }))
+    (takes_none c)
+
+-- after its LL_PAUSE_ENC_RSP is acknowledged a central asks for encryption again
+acked_closing : (c : Control) → (after SeesAcknowledged c).table.closing ≡ c.table.closing
+acked_closing c = any_step (λ (d : Control). d.table.closing ≡ c.table.closing) SeesAcknowledged c (by (is_out c.table.out)) refl
+  where
+    by : (out : Bool) → (table_if out (acked_step c.table).0 c).table.closing ≡ c.table.closing
+    by true = refl
+    by false = refl
+
+request_nothing : (request : Option Ctrl) (s : Phased) → is_open s.control.table.closing ≡ true → TakesNothing s.control (with_owed_if request s).control
+request_nothing None s open_now = takes_none s.control
+request_nothing (Some ctrl) s open_now = owed_left ctrl s.control open_now
+
+asking_nothing : (asks : Bool) (s : Phased) → (asks ≡ true → is_open s.control.table.closing ≡ true) → TakesNothing s.control (asking_if asks s).control
+asking_nothing true s opens = request_nothing s.request (record s { phase = phase_after AskTransition s.phase }) (opens refl)
+asking_nothing false s opens = takes_none s.control
+
+pub seen_nothing : (s : Phased) → TakesNothing s.control (phased_after phased_acked s).control
+seen_nothing s = by (is_none s.control.ends)
+  where
+    now : Phased
+    now = with_step SeesAcknowledged s
+
+    opens : asks_again s ≡ true → is_open now.control.table.closing ≡ true
+    opens asks =
+        let may = and_parts (is_pause_rsp s.control.table.out) _ asks in
+        let open_now = and_parts (may_follow AskTransition s.phase) _ may.1 in
+        ap is_open (acked_closing s.control) ∙ (and_parts (is_open_now s) (is_some s.request) open_now.1).0
+
+    by : (b : Bool) → TakesNothing s.control (if b then asking_if (asks_again s) (with_step SeesAcknowledged s) else s).control
+    by true =
+        takes_then s.control now.control (asking_if (asks_again s) now).control (acked_nothing s.control) (asking_nothing (asks_again s) now opens)
+    by false = takes_none s.control
+
+-- the host of a peripheral has a key or none
+lacks_nothing : (may : Bool) (s : Phased) → is_open s.control.table.closing ≡ true → TakesNothing s.control (refused_if may s).control
+lacks_nothing true s open_now = owed_left (RejectExtInd enc_req_opcode pin_or_key_missing) s.control open_now
+lacks_nothing false s open_now = owed_left (TerminateInd pin_or_key_missing) s.control open_now
+
+if_asked : (asked : Bool) (s t : Phased) → (asked ≡ true → TakesNothing s.control t.control) → TakesNothing s.control (if asked then t else s).control
+if_asked true s t nothing = nothing refl
+if_asked false s t nothing = takes_none s.control
+
+pub key_nothing : (key : Option (List ℕ)) (k : Keyed) → TakesNothing k.phased.control (keyed_after (key_step key) k).phased.control
+key_nothing None k = by (is_none k.phased.control.ends)
+  where
+    by : (b : Bool) → TakesNothing k.phased.control (if b then keyed_moved LacksKey k else k).phased.control
+    by true =
+        if_asked (k.phased.asks_key && is_open_now k.phased) k.phased (key_lacking k.phased)
+        (λ is. lacks_nothing (may_follow Refuse k.phased.phase) k.phased (and_parts k.phased.asks_key (is_open_now k.phased) is).1)
+    by false = takes_none k.phased.control
+key_nothing (Some ltk) k = by (is_none k.phased.control.ends)
+  where
+    by : (b : Bool) → TakesNothing k.phased.control (if b then keyed_moved (GivesKey ltk) k else k).phased.control
+    by true =
+        if_asked (k.phased.asks_key && is_open_now k.phased) k.phased (key_given k.phased)
+        (λ is. owed_left StartEncReq k.phased.control (and_parts k.phased.asks_key (is_open_now k.phased) is).1)
+    by false = takes_none k.phased.control

@@ -17,7 +17,6 @@ use Rattle.link_model.specs.Data.{is_data}
 use Rattle.link_model.specs.declared.state.Leaving.{Leaving}
 use Rattle.link_model.specs.Facts.{Facts}
 use Rattle.link_model.specs.Controls.{is_procedure_pdu}
-use Rattle.link_model.specs.Plain.{plain_gives, plain_takes_if}
 use Rattle.link_model.specs.Receiving.{accepted_if, code_of, data_taken_if, leaving_by, procedures_give, procedures_take_if, taken_if}
 use Rattle.link_pairs.specs.Ends.{phased_of}
 use Rattle.link_pairs.specs.Ways.{IsControlPdu, IsItem, ShowsWay}
@@ -69,21 +68,6 @@ taken_same true false pdu slot facts =
 taken_same false true pdu slot facts =
     record { acknowledgement = refl; event = refl; outgoing = refl; fixes_control = refl; last_good = refl; acknowledged = refl; response = refl }
 taken_same false false pdu slot facts =
-    record { acknowledgement = refl; event = refl; outgoing = refl; fixes_control = refl; last_good = refl; acknowledged = refl; response = refl }
-
--- an end that encrypts nothing
-pub plain_taken_same : (takes : Bool) (pdu : Pdu) (slot : ℕ) (facts : Facts) → IsTakenBy facts (plain_takes_if takes pdu slot facts)
-plain_taken_same true pdu slot facts =
-    record {
-      acknowledgement = refl;
-      event = refl;
-      outgoing = refl;
-      fixes_control = refl;
-      last_good = refl;
-      acknowledged = left_by (code_of (plain_gives pdu slot facts).effect) facts.leaving;
-      response = refl;
-    }
-plain_taken_same false pdu slot facts =
     record { acknowledgement = refl; event = refl; outgoing = refl; fixes_control = refl; last_good = refl; acknowledged = refl; response = refl }
 
 -- ---- both ends of the joint run, and what the peripheral holds
@@ -204,6 +188,6 @@ module _ (central : Phased) (down up : Way) (slot : ℕ) (from to : Acknowledgem
         }
 
     pub takes_next : Arrival down from to takes accepted → TakesNext
-    takes_next (NothingTaken is none no_data free shown) = takes_none is none no_data free shown
+    takes_next (NothingTaken is none no_data no_count free shown) = takes_none is none no_data free shown
     takes_next (ItemTaken Data sealed way is is_accepted item shown) = takes_data sealed way is is_accepted item (shown refl)
     takes_next (ItemTaken (control_item outgoing ctrl) sealed way is is_accepted item shown) = takes_control outgoing ctrl sealed way is is_accepted item shown

@@ -4,7 +4,9 @@ use Rattle.std.proofs.Common.{◌≡◌, ◌&&◌, ℕ, nat_le, Bool, true, fals
 use Rattle.ble_base.specs.declared.error_codes.ErrCode.{ErrCode}
 use Rattle.data_pdu.specs.declared.ctrl.Ctrl.{Ctrl}
 use Rattle.data_pdu.specs.declared.ctrl.Ctrl.TheVariants.{StartEncReq, TerminateInd}
-use Rattle.data_pdu.specs.declared.ctrl.CtrlRead.TheVariants.{Known}
+use Rattle.data_pdu.specs.declared.ctrl.CtrlRead.{CtrlRead}
+use Rattle.data_pdu.specs.declared.ctrl.CtrlRead.TheVariants.{Known, Unknown}
+use Rattle.data_pdu.specs.Reading.{opcode_of}
 use Rattle.control_octets.specs.procedure_stages.declared.closing.Closing.{Closing}
 use Rattle.control_octets.specs.procedure_stages.declared.closing.Closing.TheVariants.{Closed, Disconnecting, Open}
 use Rattle.control_octets.specs.procedure_stages.declared.steps.Effect.{Effect}
@@ -19,15 +21,19 @@ use Rattle.control_octets.specs.procedures.Taking.{facts_with, lacks_room, outco
 use Rattle.control_octets.specs.procedures.Termination.{terminate_taken}
 use Rattle.control_octets.specs.control_model.Control.{Control, Takes, after, indicated_by, moved, taken}
 use Rattle.control_octets.proofs.control_model.Calls.{settled_as}
-use Rattle.link_model.specs.control_end.Answers.{effect_shown, goes_on, nothing_taken, step_shown}
-use Rattle.link_model.specs.control_end.Held.{held_after, held_of}
+use Rattle.link_model.specs.control_end.Answers.{effect_shown, nothing_taken, step_shown, taken_of}
+use Rattle.link_model.specs.control_end.Held.{held_of}
+use Rattle.link_model.specs.phased_end.Held.{HeldKeyed, held_of as keyed_held}
+use Rattle.link_model.specs.phased_end.Taking.{handed_keyed, is_handed, nothing_keyed, taken_keyed}
+use Rattle.link_model.specs.enc_phase.Phases.{is_quiet}
+use Rattle.link_model.specs.enc_phase.Taking.{ctrl_class, is_unknown}
+use Rattle.joint_laws.specs.joint_controls.phased_control.Taken.{seen_if}
 use Rattle.joint_laws.specs.joint_controls.Joint.{is_terminate}
 use Rattle.joint_laws.proofs.joint_phases.Outcomes.{keeps_open}
 use Rattle.link_model.specs.Acknowledgement.{Pdu}
 use Rattle.link_model.specs.Controls.{read_of}
-use Rattle.link_model.specs.Facts.{Facts}
-use Rattle.link_model.specs.Plain.{plain_gives as procedures_give, plain_takes as procedures_take}
-use Rattle.link_model.specs.Receiving.{code_of, leaving_by}
+use Rattle.link_model.specs.Facts.{Facts, keyed_of}
+use Rattle.link_model.specs.Receiving.{code_of, leaving_by, procedures_give, procedures_take}
 use Rattle.link_pairs.proofs.Items.{never}
 use Rattle.link_pairs.proofs.TerminatingPdus.{outcome_ends}
 
@@ -38,22 +44,25 @@ no_code (PeerEnds code) is = absurd (cc)
 no_code (Indicated indication) is = refl
 no_code effect is = refl
 
-module _ (f : TableFacts) (ctrl : Ctrl) (slot : ℕ) (quiet : Bool) (apart : is_terminate ctrl ≡ false) where
-  abbrev outcome : Outcome
-  outcome = outcome_of f quiet (Known ctrl)
+known_code : (f : TableFacts) (ctrl : Ctrl) (quiet : Bool) → is_terminate ctrl ≡ false → code_of (effect_shown (outcome_of f quiet (Known ctrl)).step.effect) ≡ None
+known_code f ctrl quiet apart = no_code (outcome_of f quiet (Known ctrl)).step.effect (keeps_open f quiet ctrl apart Open)
 
-  outcome_code : code_of (effect_shown outcome.step.effect) ≡ None
-  outcome_code = no_code outcome.step.effect (keeps_open f quiet ctrl apart Open)
+unknown_code : (f : TableFacts) (opcode : ℕ) (quiet : Bool) → code_of (effect_shown (outcome_of f quiet (Unknown opcode)).step.effect) ≡ None
+unknown_code f opcode quiet = refl
+
+module _ (f : TableFacts) (read : CtrlRead) (slot : ℕ) (quiet : Bool) (none : code_of (effect_shown (outcome_of f quiet read).step.effect) ≡ None) where
+  abbrev outcome : Outcome
+  outcome = outcome_of f quiet read
 
   settled_code : (full : Bool) (ends : Option ErrCode) (g : TableFacts) → code_of (effect_shown (settled_as full ends f g outcome.step).1.effect) ≡ None
   settled_code true ends g = refl
-  settled_code false (Some code) g = outcome_code
-  settled_code false None g = outcome_code
+  settled_code false (Some code) g = none
+  settled_code false None g = none
 
-  took_code : code_of (effect_shown (took_step f (Known ctrl) slot quiet).1.effect) ≡ None
+  took_code : code_of (effect_shown (took_step f read slot quiet).1.effect) ≡ None
   took_code = settled_code (lacks_room f outcome) outcome.step.ends (facts_with f slot outcome)
 
-  given_code : (lasts : Bool) → code_of (if lasts then step_shown (took_step f (Known ctrl) slot quiet).1 else nothing_taken).effect ≡ None
+  given_code : (lasts : Bool) → code_of (if lasts then step_shown (took_step f read slot quiet).1 else nothing_taken).effect ≡ None
   given_code true = took_code
   given_code false = refl
 
@@ -62,11 +71,25 @@ pub takes_terminate : (ctrl : Ctrl) (slot : ℕ) (pdu : Pdu) (facts : Facts) →
     → is_some (procedures_take pdu slot facts).leaving.ended_by_peer ≡ true → is_terminate ctrl ≡ true
 takes_terminate ctrl slot pdu facts read before now = by (is_terminate ctrl) refl
   where
+    h : HeldKeyed
+    h = keyed_held (keyed_of facts)
+
+    quiet : Bool
+    quiet = is_quiet facts.encryption.end.phase
+
+    seen_none : is_terminate ctrl ≡ false → (unknown : Bool) → code_of (taken_of (seen_if unknown (Known ctrl)) slot quiet (held_of facts.control)).effect ≡ None
+    seen_none apart true = given_code facts.control.table (Unknown (opcode_of ctrl)) slot quiet (unknown_code facts.control.table (opcode_of ctrl) quiet) _
+    seen_none apart false = given_code facts.control.table (Known ctrl) slot quiet (known_code facts.control.table ctrl quiet apart) _
+
+    given_none : is_terminate ctrl ≡ false → (handed : Bool)
+        → code_of (if handed then handed_keyed slot facts.encryption.response (Known ctrl) h else nothing_keyed).taken.effect ≡ None
+    given_none apart true = seen_none apart (is_unknown facts.encryption.end.phase facts.encryption.end.role (ctrl_class ctrl))
+    given_none apart false = refl
+
     none : is_terminate ctrl ≡ false → code_of (procedures_give pdu slot facts).effect ≡ None
     none apart =
-        (λ i. code_of (if goes_on (held_after (Takes (read_of pdu) slot true) (held_of facts.control))
-        then step_shown (took_step facts.control.table (read i) slot true).1 else nothing_taken).effect)
-        ∙ given_code facts.control.table ctrl slot true apart (goes_on (held_after (Takes (read_of pdu) slot true) (held_of facts.control)))
+        ap (λ (r : CtrlRead). code_of (taken_keyed slot facts.encryption.response r h).taken.effect) read
+        ∙ given_none apart (is_handed (Known ctrl) h)
 
     by : (b : Bool) → is_terminate ctrl ≡ b → is_terminate ctrl ≡ true
     by true is = is
@@ -81,6 +104,7 @@ pub record HasTaken (c d : Control) : Type 0 where
   pub ends : d.ends ≡ None
   pub shut : is_open d.table.closing ≡ false
   pub peer_rx : d.table.lengths.peer_rx ≡ c.table.lengths.peer_rx
+  pub queue : d.table.queue ≡ c.table.queue
 
 closed_shuts : (closing : Closing) → is_open (closed closing) ≡ false
 closed_shuts Open = refl
@@ -104,7 +128,7 @@ module _ (code slot : ℕ) (quiet : Bool) (c : Control) (lasts : c.ends ≡ None
 
   has_taken_code : HasTaken c (after (Takes (Known (TerminateInd code)) slot quiet) c)
   has_taken_code =
-      subst (HasTaken c) (sym after_ended) (record { ends = lasts; shut = closed_shuts c.table.closing; peer_rx = refl })
+      subst (HasTaken c) (sym after_ended) (record { ends = lasts; shut = closed_shuts c.table.closing; peer_rx = refl; queue = refl })
 
 pub has_taken : (ctrl : Ctrl) (slot : ℕ) (quiet : Bool) (c : Control) → c.ends ≡ None → is_terminate ctrl ≡ true
     → HasTaken c (after (Takes (Known ctrl) slot quiet) c)

@@ -40,7 +40,7 @@ use Rattle.link_pairs.proofs.TerminatingPdus.{took_ends}
 
 -- ---- no phase forbids, keeps or answers it
 
-is_allowed_always : (phase : PhaseFacts) (role : Role) → allows phase role Terminate ≡ true
+pub is_allowed_always : (phase : PhaseFacts) (role : Role) → allows phase role Terminate ≡ true
 is_allowed_always Clear role = refl
 is_allowed_always Secure role = refl
 is_allowed_always (Asked after_pause enc_rsp kept) role = refl
@@ -48,7 +48,7 @@ is_allowed_always HalfKeyed role = refl
 is_allowed_always (Pausing kept) role = refl
 is_allowed_always (HalfClear kept) role = refl
 
-is_known : (phase : PhaseFacts) (role : Role) → is_unknown phase role Terminate ≡ false
+pub is_known : (phase : PhaseFacts) (role : Role) → is_unknown phase role Terminate ≡ false
 is_known Clear Central = refl
 is_known Clear Peripheral = refl
 is_known Secure Central = refl
@@ -58,11 +58,11 @@ is_known HalfKeyed role = refl
 is_known (Pausing kept) role = refl
 is_known (HalfClear kept) role = refl
 
-none_answers : (code : ℕ) (role : Role) (phase : PhaseFacts) → is_answered_at role (TerminateInd code) phase ≡ false
+pub none_answers : (code : ℕ) (role : Role) (phase : PhaseFacts) → is_answered_at role (TerminateInd code) phase ≡ false
 none_answers code Central phase = refl
 none_answers code Peripheral phase = refl
 
-never_both : (one other : Bool) → (one && (other && false)) ≡ false
+pub never_both : (one other : Bool) → (one && (other && false)) ≡ false
 never_both true other = never other
 never_both false other = refl
 

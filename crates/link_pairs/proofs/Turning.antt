@@ -1,5 +1,5 @@
 -- A turn as both ends begin it: they enter their events and fix their PDUs, and the central sends.
-use Rattle.std.proofs.Common.{◌≡◌, ◌+◌, ◌≤◌, ◌==◌, ◌⊎◌, ℕ, Bool, true, false, Option, refl, sym, subst, ◌∙◌, if◌then◌else◌}
+use Rattle.std.proofs.Common.{◌≡◌, ◌+◌, ◌≤◌, ◌==◌, ◌⊎◌, ℕ, Bool, true, false, [], Option, refl, sym, subst, ◌∙◌, if◌then◌else◌}
 use Rattle.instants.specs.Track.{next_anchor_of}
 use Rattle.joint_laws.specs.joint_controls.Joint.{is_running}
 use Rattle.joint_laws.proofs.joint_controls.Running.{goes_on as joint_goes_on}
@@ -13,14 +13,17 @@ use Rattle.link_model.specs.Facts.{Facts}
 use Rattle.link_model.specs.Fixing.{fixed_anew}
 use Rattle.link_model.specs.Sending.{control_gone_if, facts_sent, takes_leave}
 use Rattle.link_model.specs.Step.{EventEntered, PacketSent, PduFixed}
+use Rattle.link_pairs.proofs.PlainEnds.{plain_after_if}
+use Rattle.unencrypted_ends.specs.Unencrypted.{IsUnencrypted}
+use Rattle.joint_keys.specs.KeyedJoint.{KeyedJoint}
 use Rattle.link_pairs.specs.Ends.{AreEnds, HasExchange, is_lasting, phased_of, turns_at}
-use Rattle.link_pairs.specs.Shown.{AreLinked, Shows, link_of}
+use Rattle.link_pairs.specs.Shown.{AreLinked, ArePlain, EncryptsNothing, HaveKeys, Shows, link_of}
 use Rattle.link_pairs.specs.Turns.{AreReady, HasFixed, HaveBegun, MayExchange, central_begun, entered_in, fixed_if, prepared, sent_if}
-use Rattle.link_pairs.proofs.Beginning.{begun_runs, begun_shows}
+use Rattle.link_pairs.proofs.Beginning.{begun_keys, begun_runs, begun_shows}
 use Rattle.link_pairs.proofs.ControlKept.{sent_kept}
-use Rattle.link_pairs.proofs.Fixing.{anew_fixed, anew_piece, fixing, fixing_hears, fixing_is, fixing_rests, fixing_sends}
+use Rattle.link_pairs.proofs.Fixing.{anew_fixed, anew_piece, fixing, fixing_has, fixing_hears, fixing_is, fixing_rests, fixing_sends}
 use Rattle.link_pairs.proofs.Lasting.{lasts_before_if}
-use Rattle.link_pairs.proofs.Reaching.{IsReached, IsShown, linked, reached_by, reached_next, shown}
+use Rattle.link_pairs.proofs.Reaching.{IsReached, IsShown, keys_at, keys_next, linked, linked_stopped, not_both, reached_by, reached_next, shown}
 use Rattle.link_pairs.proofs.Sending.{packet_goes}
 use Rattle.link_pairs.proofs.Showing.{central_shows, peripheral_shows}
 
@@ -88,7 +91,8 @@ fixing_phased true facts = refl
 fixing_phased false facts = refl
 
 module _ (central peripheral : Setup) (ends : AreEnds central peripheral) (slot : ℕ) (answers listens : Bool) (c p : Facts) (l : Link)
-    (reached : IsReached central peripheral l) (running : is_running l.joint ≡ true) (s : Shows central peripheral slot answers l c p) where
+    (reached : IsReached central peripheral l) (running : is_running l.joint ≡ true) (s : Shows central peripheral slot answers l c p)
+    (keys : HaveKeys (keys_at central peripheral l reached) c p) where
   abbrev next : Link
   next = link_after (Begins slot) l
 
@@ -98,7 +102,7 @@ module _ (central peripheral : Setup) (ends : AreEnds central peripheral) (slot 
   abbrev peripheral_in : Facts
   peripheral_in = entered_in peripheral slot p
 
-  reached_begun : IsReached central peripheral next
+  abbrev reached_begun : IsReached central peripheral next
   reached_begun = reached_next central peripheral (Begins slot) l reached running tt tt
 
   runs : is_running next.joint ≡ true
@@ -106,6 +110,11 @@ module _ (central peripheral : Setup) (ends : AreEnds central peripheral) (slot 
 
   entered_shows : Shows central peripheral (slot + 1) false next central_in peripheral_in
   entered_shows = begun_shows central peripheral slot answers l c p s ends reached running
+
+  entered_keys : HaveKeys (keys_at central peripheral next reached_begun) central_in peripheral_in
+  entered_keys =
+      subst (λ (k : KeyedJoint). HaveKeys k central_in peripheral_in) (sym (keys_next central peripheral (record { step = Begins slot; ltk = [] }) l reached running tt tt))
+      (begun_keys central peripheral slot answers l c p s ends reached running keys)
 
   peripheral_is : prepared peripheral slot listens p ≡ fixing listens peripheral_in
   peripheral_is = fixing_is listens peripheral peripheral_in entered_shows.peripheral_rests.none_gone
@@ -117,6 +126,14 @@ module _ (central peripheral : Setup) (ends : AreEnds central peripheral) (slot 
       (peripheral_shows central peripheral (slot + 1) false next central_in peripheral_in entered_shows next.joint.peripheral (fixing listens peripheral_in)
       (entered_shows.peripheral_part ∙ fixing_phased listens peripheral_in) (fixing_sends listens peripheral_in) (fixing_hears listens peripheral_in)
       (fixing_rests peripheral (slot + 1) listens peripheral_in entered_shows.peripheral_rests))
+
+  prepared_keys : HaveKeys (keys_at central peripheral next reached_begun) central_in (prepared peripheral slot listens p)
+  prepared_keys =
+      subst (HaveKeys (keys_at central peripheral next reached_begun) central_in) (sym peripheral_is)
+      (record {
+        central_keys = entered_keys.central_keys;
+        peripheral_keys = fixing_has (keys_at central peripheral next reached_begun).peripheral listens peripheral_in entered_keys.peripheral_keys;
+      })
 
   pub has_fixed : listens ≡ true → HasFixed (prepared peripheral slot listens p)
   has_fixed is =
@@ -131,14 +148,21 @@ module _ (central peripheral : Setup) (ends : AreEnds central peripheral) (slot 
       central_shows central peripheral (slot + 1) false next central_in (prepared peripheral slot listens p) prepared_shows next.joint.central (fixed_anew central_in)
       prepared_shows.central_part refl refl (fixing_rests central (slot + 1) true central_in prepared_shows.central_rests)
 
-  pub turn_goes : (transmits : Bool) → MayExchange central slot transmits c
+  fixed_keys : HaveKeys (keys_at central peripheral next reached_begun) (fixed_anew central_in) (prepared peripheral slot listens p)
+  fixed_keys =
+      record {
+        central_keys = fixing_has (keys_at central peripheral next reached_begun).central true central_in prepared_keys.central_keys;
+        peripheral_keys = prepared_keys.peripheral_keys;
+      }
+
+  pub turn_goes : (transmits : Bool) → MayExchange central slot transmits c → IsUnencrypted (fixed_anew central_in).control
       → IsShown central peripheral (slot + 1) false (central_begun central slot transmits c) (prepared peripheral slot listens p)
-  turn_goes false may =
-      shown central peripheral (slot + 1) false next central_in (prepared peripheral slot listens p) reached_begun prepared_shows (joint_goes_on next.joint runs).stopped
-  turn_goes true may =
+  turn_goes false may plain =
+      shown central peripheral (slot + 1) false next central_in (prepared peripheral slot listens p) reached_begun prepared_shows prepared_keys (joint_goes_on next.joint runs).stopped
+  turn_goes true may plain =
       subst (λ (d : Facts). IsShown central peripheral (slot + 1) false (facts_sent slot d) (prepared peripheral slot listens p)) (sym central_is)
-      (packet_goes central peripheral ends (slot + 1) false next reached_begun runs (fixed_anew central_in) (prepared peripheral slot listens p) fixed_shows slot
-      (anew_fixed central_in) (anew_piece central_in) (may refl).0)
+      (packet_goes central peripheral ends (slot + 1) false next reached_begun runs (fixed_anew central_in) (prepared peripheral slot listens p) fixed_shows fixed_keys slot
+      (anew_fixed central_in) (anew_piece central_in) (may refl).0 plain)
 
 -- ---- the turn, whether the run goes on or not
 
@@ -152,11 +176,24 @@ module _ (setup : Setup) (slot : ℕ) (exchanges : Bool) (facts : Facts) where
   begun_lasted : is_lasting (central_begun setup slot exchanges facts) ≡ true → is_lasting facts ≡ true
   begun_lasted is = prepared_lasted (lasts_before_if exchanges setup (prepared setup slot exchanges facts) (PacketSent slot) is)
 
+  -- as long as no link encrypts, it encrypts nothing
+  entered_plain : EncryptsNothing setup facts → EncryptsNothing setup (entered_in setup slot facts)
+  entered_plain = plain_after_if (next_anchor_of facts.control.track == slot) setup facts (EventEntered slot)
+
+  prepared_plain : EncryptsNothing setup facts → EncryptsNothing setup (prepared setup slot exchanges facts)
+  prepared_plain is = plain_after_if exchanges setup (entered_in setup slot facts) PduFixed (entered_plain is)
+
+  begun_plain : EncryptsNothing setup facts → EncryptsNothing setup (central_begun setup slot exchanges facts)
+  begun_plain is = plain_after_if exchanges setup (prepared setup slot exchanges facts) (PacketSent slot) (prepared_plain is)
+
 module _ (central peripheral : Setup) (slot : ℕ) (answers transmits listens : Bool) (c p : Facts) (ends : AreEnds central peripheral)
     (a : AreLinked central peripheral slot answers c p) (transmits_in : MayExchange central slot transmits c)
     (listens_in : MayExchange peripheral slot listens p) where
   abbrev l : Link
   l = link_of central peripheral a.steps
+
+  plain_now : ArePlain central peripheral (central_begun central slot transmits c) (prepared peripheral slot listens p)
+  plain_now = (begun_plain central slot transmits c a.plain.0, prepared_plain peripheral slot listens p a.plain.1)
 
   -- nothing is heard yet
   ready : (running : is_running l.joint ≡ true)
@@ -167,7 +204,7 @@ module _ (central peripheral : Setup) (slot : ℕ) (answers transmits listens : 
         central_heard = subst (λ (good : Option Reception). turns_at central.opened good ≤ slot) (sym (begun_hears central slot transmits c)) s.central_rests.past;
         peripheral_heard =
             subst (λ (good : Option Reception). turns_at peripheral.opened good ≤ slot) (sym (prepared_hears peripheral slot listens p)) s.peripheral_rests.past;
-        fixed = has_fixed central peripheral ends slot answers listens c p l (reached_by central peripheral a.steps a.may a.in_range) running s;
+        fixed = has_fixed central peripheral ends slot answers listens c p l (reached_by central peripheral a.steps a.may a.in_range) running s (a.keys running);
       }
 
   pub turn_begun : (runs : Bool) → is_running l.joint ≡ runs
@@ -177,21 +214,18 @@ module _ (central peripheral : Setup) (slot : ℕ) (answers transmits listens : 
         linked =
             linked central peripheral (slot + 1) false (central_begun central slot transmits c) (prepared peripheral slot listens p)
             (turn_goes central peripheral ends slot answers listens c p l (reached_by central peripheral a.steps a.may a.in_range) running (a.shows running)
-            transmits transmits_in);
+            (a.keys running) transmits transmits_in (entered_plain central slot transmits c a.plain.0).plain.control)
+            plain_now;
         ready = λ still. ready running;
         transmits_in = begun_exchanges central slot transmits c transmits_in;
         listens_in = prepared_exchanges peripheral slot listens p listens_in;
       }
   turn_begun false stopped =
       record {
-        linked = record {
-          steps = a.steps;
-          may = a.may;
-          in_range = a.in_range;
-          shows = λ running. absurd (cc);
-          lasts = λ central_lasts peripheral_lasts. a.lasts (begun_lasted central slot transmits c central_lasts) (prepared_lasted peripheral slot listens p peripheral_lasts);
-        };
-        ready = λ running. absurd (cc);
+        linked =
+            linked_stopped central peripheral slot (slot + 1) answers false c p (central_begun central slot transmits c) (prepared peripheral slot listens p) a plain_now
+            (begun_lasted central slot transmits c) (prepared_lasted peripheral slot listens p) stopped;
+        ready = not_both (is_running l.joint) stopped;
         transmits_in = begun_exchanges central slot transmits c transmits_in;
         listens_in = prepared_exchanges peripheral slot listens p listens_in;
       }

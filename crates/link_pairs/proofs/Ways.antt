@@ -1,5 +1,5 @@
 -- How the last PDU of an end goes on: its sender sees it acknowledged, its receiver takes it, the next one is sent.
-use Rattle.std.proofs.Common.{◌≡◌, ◌+◌, ◌==◌, ◌&&◌, ◌||◌, Bool, true, false, [], ◌∷◌, ◌++◌, length, length-append, Some, refl, ap, sym, ◌∙◌, subst, arith, if◌then◌else◌}
+use Rattle.std.proofs.Common.{◌≡◌, ◌+◌, ◌==◌, ◌&&◌, ◌||◌, not, Bool, true, false, [], ◌∷◌, ◌++◌, length, length-append, Some, refl, ap, sym, ◌∙◌, subst, arith, if◌then◌else◌}
 use Rattle.std.proofs.lemmas.Bool.{eqb-true, eqb-false, eq-eqb, or_left, or_right}
 use Rattle.two_tracks.specs.TwoEnds.{LastPdu, Untaken, Acknowledged, last_after_reply}
 use Rattle.two_tracks.specs.TwoEnds as two_ends
@@ -9,6 +9,7 @@ use Rattle.link_model.specs.Acknowledgement.{Acknowledgement, Pdu, after_sending
 use Rattle.link_model.specs.Data.{is_data, is_empty}
 use Rattle.link_model.specs.OneLink.{AreInAgreement}
 use Rattle.link_model.specs.Controls.{is_procedure_pdu}
+use Rattle.link_model.specs.Receiving.{counts_accepted}
 use Rattle.link_pairs.specs.Ways.{IsItem, IsUnseen, IsUntaken, ShowsLast, ShowsWay, is_untaken}
 use Rattle.link_pairs.proofs.Items.{control_is_no_data, empty_is_no_data, empty_is_no_procedure, never}
 use Rattle.link_pairs.proofs.Counts.{Says, unseen_is_out, unseen_is_taken, untaken_is_out}
@@ -96,8 +97,8 @@ pub data Arrival (way : Way) (from to : Acknowledgement) (takes accepted : Bool)
       → (is_last item ≡ false → ShowsWay (Taken item) from (with_accepted accepted from.last to)) → Arrival way from to takes accepted
   -- nothing is, but an empty PDU
   NothingTaken :
-      takes ≡ false → (accepted && is_procedure_pdu from.last) ≡ false → (accepted && is_data from.last) ≡ false → is_free way ≡ true
-      → ShowsWay way from (with_accepted accepted from.last to) → Arrival way from to takes accepted
+      takes ≡ false → (accepted && is_procedure_pdu from.last) ≡ false → (accepted && is_data from.last) ≡ false
+      → counts_accepted accepted from.last ≡ false → is_free way ≡ true → ShowsWay way from (with_accepted accepted from.last to) → Arrival way from to takes accepted
 
 or_other : (one other : Bool) → other ≡ false → (one || other) ≡ true → one ≡ true
 or_other true other is holds = refl
@@ -129,7 +130,7 @@ module _ (from to : Acknowledgement) (acks fresh : Bool) (says : Says to from ac
   module _ (room : Bool) (others : is_data from.last ≡ false → room ≡ true) where
     data_arrives : (b : Bool) (sealed : Bool) → room ≡ b → is_data from.last ≡ true → IsUntaken from to → Arrival (OnAir Data sealed) from to b (true && b)
     data_arrives true sealed is holds untaken = ItemTaken Data sealed refl refl refl holds (λ more. (holds, taken_now untaken, refl))
-    data_arrives false sealed is holds untaken = NothingTaken refl refl refl refl (holds, untaken)
+    data_arrives false sealed is holds untaken = NothingTaken refl refl refl refl refl (holds, untaken)
 
     item_arrives : (item : Item) (sealed : Bool) → IsItem item from.last → IsUntaken from to
         → Arrival (OnAir item sealed) from to (takes_item room (Some item)) (true && room)
@@ -142,14 +143,15 @@ module _ (from to : Acknowledgement) (acks fresh : Bool) (says : Says to from ac
     arrives Clear shown =
         let empty = or_other (is_empty from.last) (is_acked from) out shown in
         NothingTaken refl (ap (λ b. fresh && room && b) (empty_is_no_procedure from.last empty) ∙ never (fresh && room))
-        (ap (λ b. fresh && room && b) (empty_is_no_data from.last empty) ∙ never (fresh && room)) refl shown
+        (ap (λ b. fresh && room && b) (empty_is_no_data from.last empty) ∙ never (fresh && room))
+        (ap (λ b. fresh && room && not b) empty ∙ never (fresh && room)) refl shown
     arrives (Fixed item sealed) shown = absurd shown
     arrives (OnAir item sealed) shown =
         subst (λ (b : Bool). Arrival (OnAir item sealed) from to (takes_item room (Some item)) (b && room)) (sym (says.new shown.1))
         (item_arrives item sealed shown.0 shown.1)
     arrives (Taken item) shown =
         subst (λ (b : Bool). Arrival (Taken item) from to false (b && room)) (sym (not_fresh shown.1))
-        (NothingTaken refl refl refl refl shown)
+        (NothingTaken refl refl refl refl refl shown)
 
   -- the last PDU of the central, also an empty one, is taken where it is accepted
   pub last_taken : (last : LastPdu) (accepted : Bool) → (accepted ≡ true → fresh ≡ true) → ShowsLast last from to

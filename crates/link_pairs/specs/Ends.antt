@@ -1,6 +1,6 @@
 -- Two ends of one link, and what each of them alone has while the link goes on (Core 5.2, volume 6 part B, sections 4.5.1
 -- and 4.5.9).
-use Rattle.std.specs.Prelude.{◌≡◌, ◌⊎◌, ℕ, ◌+◌, ◌≤◌, ◌<◌, Bool, true, false, not, Option, Some, None, IfSome, is_none, length, ◌&&◌}
+use Rattle.std.specs.Prelude.{◌≡◌, ◌⊎◌, ℕ, ◌+◌, ◌≤◌, ◌<◌, Bool, true, false, Option, Some, None, IfSome, is_none, length, ◌&&◌}
 use Rattle.adv_pdu.specs.Ranges.{IsInRange}
 use Rattle.ble_base.specs.declared.roles.Role.TheVariants.{Central, Peripheral}
 use Rattle.data_pdu.specs.Layouts.{IsCtrl}
@@ -10,7 +10,6 @@ use Rattle.control_octets.specs.Fitting.{FitsOctets}
 use Rattle.joint_laws.specs.joint_controls.Joint.{is_terminate}
 use Rattle.joint_laws.specs.joint_controls.phased_control.Phased.{Phased}
 use Rattle.joint_laws.specs.joint_controls.phased_control.Taken.{response_ctrl}
-use Rattle.control_octets.specs.procedure_stages.Closing.{is_disconnecting, is_open}
 use Rattle.control_octets.specs.procedure_stages.Kinds.{role_of}
 use Rattle.control_octets.specs.procedure_values.Values.{IsPayloadMax}
 use Rattle.link_model.specs.phased_end.Taking.{drawn}
@@ -20,7 +19,6 @@ use Rattle.link_model.specs.OneLink.{AreOneLink}
 use Rattle.link_model.specs.Setup.{Setup}
 use Rattle.link_model.specs.Controls.{goes_on}
 use Rattle.link_model.specs.Facts.{Encryption, Facts, keyed_of}
-use Rattle.link_model.specs.Plain.{IsPlain}
 
 -- two ends that one CONNECT_IND opened (section 2.3.3.1)
 pub record AreEnds (central peripheral : Setup) : Type 0 where
@@ -62,13 +60,10 @@ pub record HoldsPdus (e : Encryption) : Type 0 where
 pub record IsAtRest (setup : Setup) (turns : ℕ) (facts : Facts) : Type 0 where
   pub fits : FitsOctets facts.control
   pub holds : HoldsPdus facts.encryption
-  -- it encrypts nothing, so a payload is the body
-  pub plain : IsPlain setup.link.role facts
   pub role : role_of facts.control.table.progress ≡ setup.link.role
   -- no control PDU has left its queue that was not sent
   pub none_gone : is_control facts.outgoing.fixed ≡ false
-  -- the last PDU, as it is on the air, fits any end of a link
-  pub payload : facts.outgoing.payload ≡ facts.acknowledgement.last.body
+  -- the last PDU fits any end of a link
   pub fits_any : length facts.acknowledgement.last.body ≤ 251
   pub two_bits : facts.acknowledgement.last.llid < 4
   -- the event that it entered last
@@ -79,8 +74,7 @@ pub record IsAtRest (setup : Setup) (turns : ℕ) (facts : Facts) : Type 0 where
       facts.event.heard ≡ true
       → (1 ≤ facts.control.track.entered) × (facts.event.slot + 1 ≤ heard_turns setup facts)
   pub past : heard_turns setup facts ≤ turns
-  -- it took no LL_TERMINATE_IND, and its own is not acknowledged
-  pub goes : not (is_disconnecting facts.control.table.closing) ≡ is_open facts.control.table.closing
+  -- its own LL_TERMINATE_IND is not acknowledged
   pub stays : facts.leaving.acknowledged ≡ false
 
 -- it has an exchange in this slot: the first of its event, at the anchor, or the second, in the slot after that, where it

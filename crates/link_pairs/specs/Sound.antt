@@ -1,7 +1,7 @@
 -- What two linked ends hold while the link lasts at both, and how one of them may end it (Core 5.2, volume 6 part B,
 -- sections 4.5 and 5).
-use Rattle.std.specs.Prelude.{◌≡◌, ◌+◌, ◌≤◌, Bool, true, List, Option, Some, length, take}
-use Rattle.ble_base.specs.ErrorCodes.{instant_passed}
+use Rattle.std.specs.Prelude.{◌≡◌, ℕ, ◌+◌, ◌≤◌, Bool, true, List, Option, Some, length, take}
+use Rattle.ble_base.specs.ErrorCodes.{instant_passed, mic_failure}
 use Rattle.ble_base.specs.declared.error_codes.ErrCode.{ErrCode}
 use Rattle.instants.specs.declared.track.Change.{Change}
 use Rattle.instants.specs.Follows.{Follows}
@@ -14,6 +14,7 @@ use Rattle.joint_laws.specs.joint_parameters.Views.{HaveEqual}
 use Rattle.link_model.specs.OneLink.{AreInAgreement}
 use Rattle.link_model.specs.Setup.{Setup, first_anchor, first_params}
 use Rattle.link_model.specs.Facts.{Facts}
+use Rattle.link_model.specs.Packets.{is_forged}
 use Rattle.link_pairs.specs.Ends.{phased_of}
 
 -- ---- by what both ends hold
@@ -76,6 +77,10 @@ is_instant_passed c p = has_passed (last_change c.control.sent) (event_of p.cont
 -- for that it ends the link, with 0x28 (section 5.5.1)
 abbrev pub EndsForInstant : Facts → Facts → Option ErrCode → Type 0
 EndsForInstant c p ends = (ends ≡ Some (record { 0 = instant_passed })) × (is_instant_passed c p ≡ true)
+
+-- a packet is forged for an end, which ends the link with 0x3D (section 5.1.3.1)
+abbrev pub EndsForged : Setup → Facts → List ℕ → Option ErrCode → Type 0
+EndsForged setup facts octets ends = (is_forged setup facts octets ≡ true) × (ends ≡ Some (record { 0 = mic_failure }))
 
 -- ---- where nothing is received
 

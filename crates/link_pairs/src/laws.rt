@@ -7,7 +7,7 @@ ghost use Rattle.link_model.specs.End.{facts_after};
 ghost use Rattle.link_model.specs.Receiving.{replies_of};
 ghost use Rattle.link_model.specs.Step.{Step};
 ghost use Rattle.link_pairs.specs.Ends.{AreEnds, heard_turns};
-ghost use Rattle.link_pairs.specs.Hearing.{IsPacketOf, answered, received};
+ghost use Rattle.link_pairs.specs.Hearing.{IsPacketOf, answered, is_mixed, received};
 ghost use Rattle.link_pairs.specs.Hosts.{MayHost};
 ghost use Rattle.link_pairs.specs.Shown.{AreLinked};
 ghost use Rattle.link_pairs.specs.Turns.{HaveBegun, MayExchange, central_begun, prepared};
@@ -46,27 +46,32 @@ pub fn a_turn_leaves_ends_linked()
 
 /// The packet of the central reaches the peripheral on its channel, before the supervision timeout
 /// has passed: the peripheral sees its own last PDU acknowledged, or not, takes the new one, or not,
-/// and answers. They stay linked (Core 5.2, volume 6 part B, sections 4.5.2 and 4.5.9).
+/// and answers; or the packet is forged for it, and the link ends there. They stay linked, unless
+/// both have other keys and the integrity code is right by chance (Core 5.2, volume 6 part B,
+/// sections 4.5.2, 4.5.9 and 5.1.3.1).
 pub fn a_peripheral_that_hears_stays_linked()
     ensures { (central peripheral : Setup) (slot : ℕ) (c p : Facts) (channel : ℕ)
         (octets : List ℕ) (room : Bool) → AreEnds central peripheral
         → HaveBegun central peripheral slot true true c p
         → IsPacketOf central slot c channel octets → channel ≡ p.event.channel
         → slot + 1 ≤ heard_turns peripheral p + 32768
+        → is_mixed peripheral p octets c.acknowledgement.last ≡ false
         → AreLinked central peripheral (slot + 1) (replies_of peripheral p slot octets room) c
         (answered peripheral slot octets room p) }
 {
     air_frame::laws::packet_tells_its_pdu();
 }
 
-/// The answer reaches the central on its channel, in the same turn. They stay linked (Core 5.2,
-/// volume 6 part B, section 4.5.9).
+/// The answer reaches the central on its channel, in the same turn. They stay linked, unless both
+/// have other keys and the integrity code is right by chance (Core 5.2, volume 6 part B, sections
+/// 4.5.9 and 5.1.3.1).
 pub fn a_central_that_hears_stays_linked()
     ensures { (central peripheral : Setup) (slot : ℕ) (c p : Facts) (channel : ℕ)
         (octets : List ℕ) (room : Bool) → AreEnds central peripheral
         → AreLinked central peripheral (slot + 1) true c p → heard_turns central c ≤ slot
         → 1 ≤ c.control.track.entered
         → IsPacketOf peripheral slot p channel octets → channel ≡ c.event.channel
+        → is_mixed central c octets p.acknowledgement.last ≡ false
         → AreLinked central peripheral (slot + 1) false (received central slot octets room c) p }
 {
     air_frame::laws::packet_tells_its_pdu();

@@ -4,30 +4,33 @@
 ghost use Rattle.std.specs.Prelude.{◌≡◌, ◌+◌, ℕ, Bool, true, false, List, None, is_some};
 ghost use Rattle.ble_base.specs.declared.error_codes.ErrCode.{ErrCode};
 ghost use Rattle.link_model.specs.Setup.{Setup};
-ghost use Rattle.link_model.specs.Controls.{next_control};
+ghost use Rattle.link_model.specs.Controls.{is_quiet_now, next_control};
 ghost use Rattle.link_model.specs.End.{facts_after};
 ghost use Rattle.link_model.specs.Facts.{Facts};
 ghost use Rattle.link_model.specs.Fixing.{data_goes};
-ghost use Rattle.link_model.specs.Packets.{pdu_sent};
+ghost use Rattle.link_model.specs.Packets.{is_forged, pdu_sent};
 ghost use Rattle.link_model.specs.Receiving.{replies_of};
 ghost use Rattle.link_model.specs.Step.{Step, Disconnected};
 ghost use Rattle.link_model.specs.Times.{ending_of};
 ghost use Rattle.link_pairs.specs.Ends.{AreEnds, is_lasting};
-ghost use Rattle.link_pairs.specs.Hearing.{IsPacketOf, answered, received};
+ghost use Rattle.link_pairs.specs.Hearing.{IsPacketOf, answered, is_mixed, received};
+ghost use Rattle.link_pairs.specs.Hearing.{is_mixed_packet};
 ghost use Rattle.link_pairs.specs.Hosts.{MayHost};
-ghost use Rattle.link_pairs.specs.Parting.{ArePartingFrom, HasSeenTerminate};
+ghost use Rattle.link_pairs.specs.Parting.{ArePartingFrom, EndsForged, HasSeenTerminate};
 ghost use Rattle.link_pairs.specs.Parting.{HearsNothingNew, HearsTheEnd};
 ghost use Rattle.link_pairs.specs.Shown.{AreLinked};
 ghost use Rattle.link_pairs.specs.Turns.{HaveBegun, central_begun, prepared};
 
 /// Two linked ends, at both of which the link lasts, are parting once one of them hears
-/// LL_TERMINATE_IND of the other and takes it. A peripheral answers that packet.
+/// LL_TERMINATE_IND of the other and takes it, unless both have other keys and the integrity code is
+/// right by chance. A peripheral answers that packet.
 pub fn taking_terminate_parts_two_ends()
     ensures peripheral { (central peripheral : Setup) (slot : ℕ) (c p : Facts) (channel : ℕ)
         (octets : List ℕ) (room : Bool) → AreEnds central peripheral
         → HaveBegun central peripheral slot true true c p
         → is_lasting c ≡ true → is_lasting p ≡ true
         → IsPacketOf central slot c channel octets → channel ≡ p.event.channel
+        → is_mixed peripheral p octets c.acknowledgement.last ≡ false
         → is_some (answered peripheral slot octets room p).leaving.ended_by_peer ≡ true
         → ArePartingFrom peripheral central (answered peripheral slot octets room p) c }
     ensures central { (central peripheral : Setup) (slot : ℕ) (c p : Facts) (channel : ℕ)
@@ -35,6 +38,7 @@ pub fn taking_terminate_parts_two_ends()
         → AreLinked central peripheral (slot + 1) true c p
         → is_lasting c ≡ true → is_lasting p ≡ true
         → IsPacketOf peripheral slot p channel octets → channel ≡ c.event.channel
+        → is_mixed central c octets p.acknowledgement.last ≡ false
         → is_some (received central slot octets room c).leaving.ended_by_peer ≡ true
         → ArePartingFrom central peripheral (received central slot octets room c) p }
 {
@@ -112,39 +116,79 @@ pub fn a_taker_hears_nothing_new()
 /// The end that sent LL_TERMINATE_IND hears a packet of the end that took it, which acknowledges
 /// it. So the link ends there at the end of the turn, with 16. The end takes no PDU with that
 /// packet, and does not answer. No procedure ends the link, and the counts of both ends still
-/// agree.
+/// agree. That is so unless both have other keys and the integrity code is right by chance. A
+/// forged packet ends the link with 3D, and is not answered (Core 5.2, volume 6 part B, section
+/// 5.1.3.1).
 pub fn a_sender_hears_the_end()
     ensures peripheral { (central peripheral : Setup) (slot : ℕ) (c p : Facts) (channel : ℕ)
         (octets : List ℕ) (room : Bool) → AreEnds central peripheral
         → ArePartingFrom central peripheral c p
         → IsPacketOf central slot c channel octets → channel ≡ p.event.channel
+        → is_mixed peripheral p octets c.acknowledgement.last ≡ false
+        → is_forged peripheral p octets ≡ false
         → HasSeenTerminate c.acknowledgement (answered peripheral slot octets room p) }
     ensures peripheral_ends { (central peripheral : Setup) (slot : ℕ) (c p : Facts)
         (channel : ℕ) (octets : List ℕ) (room : Bool) → AreEnds central peripheral
         → ArePartingFrom central peripheral c p
         → IsPacketOf central slot c channel octets → channel ≡ p.event.channel
+        → is_mixed peripheral p octets c.acknowledgement.last ≡ false
+        → is_forged peripheral p octets ≡ false
         → HearsTheEnd peripheral p slot octets room }
     ensures central { (central peripheral : Setup) (slot : ℕ) (c p : Facts) (channel : ℕ)
         (octets : List ℕ) (room : Bool) → AreEnds central peripheral
         → ArePartingFrom peripheral central p c
         → IsPacketOf peripheral slot p channel octets → channel ≡ c.event.channel
+        → is_mixed central c octets p.acknowledgement.last ≡ false
+        → is_forged central c octets ≡ false
         → HasSeenTerminate p.acknowledgement (received central slot octets room c) }
     ensures central_ends { (central peripheral : Setup) (slot : ℕ) (c p : Facts)
         (channel : ℕ) (octets : List ℕ) (room : Bool) → AreEnds central peripheral
         → ArePartingFrom peripheral central p c
         → IsPacketOf peripheral slot p channel octets → channel ≡ c.event.channel
+        → is_mixed central c octets p.acknowledgement.last ≡ false
+        → is_forged central c octets ≡ false
         → HearsTheEnd central c slot octets room }
+    ensures peripheral_forged { (central peripheral : Setup) (slot : ℕ) (c p : Facts)
+        (channel : ℕ) (octets : List ℕ) (room : Bool) → AreEnds central peripheral
+        → ArePartingFrom central peripheral c p
+        → IsPacketOf central slot c channel octets → channel ≡ p.event.channel
+        → is_forged peripheral p octets ≡ true → EndsForged peripheral p slot octets room }
+    ensures central_forged { (central peripheral : Setup) (slot : ℕ) (c p : Facts)
+        (channel : ℕ) (octets : List ℕ) (room : Bool) → AreEnds central peripheral
+        → ArePartingFrom peripheral central p c
+        → IsPacketOf peripheral slot p channel octets → channel ≡ c.event.channel
+        → is_forged central c octets ≡ true → EndsForged central c slot octets room }
 {
     air_frame::laws::packet_tells_its_pdu();
 }
 
-/// While two ends part, each packet of the end that sent LL_TERMINATE_IND has that again. Nothing
-/// is to be sent after it, neither a control PDU nor data.
+/// While two ends part, a packet of the end that took LL_TERMINATE_IND is read by the other as
+/// another than was sent only where it is mixed: it brings a new PDU that is not empty and sealed,
+/// and is good, though the session keys of both ends differ (Core 5.2, volume 6 part E, section 2).
+pub fn the_end_is_mixed_only_with_other_keys()
+    ensures peripheral { (central peripheral : Setup) (slot : ℕ) (c p : Facts) (channel : ℕ)
+        (octets : List ℕ) → AreEnds central peripheral → ArePartingFrom central peripheral c p
+        → IsPacketOf central slot c channel octets → channel ≡ p.event.channel
+        → is_mixed_packet peripheral p c octets ≡ false
+        → is_mixed peripheral p octets c.acknowledgement.last ≡ false }
+    ensures central { (central peripheral : Setup) (slot : ℕ) (c p : Facts) (channel : ℕ)
+        (octets : List ℕ) → AreEnds central peripheral → ArePartingFrom peripheral central p c
+        → IsPacketOf peripheral slot p channel octets → channel ≡ c.event.channel
+        → is_mixed_packet central c p octets ≡ false
+        → is_mixed central c octets p.acknowledgement.last ≡ false }
+{
+    air_frame::laws::packet_tells_its_pdu();
+    link_model::a_sealed_packet_is_opened();
+}
+
+/// While two ends part, each packet of the end that sent LL_TERMINATE_IND has that again. No data
+/// is to be sent after it, and no control PDU while the end is quiet: in other phases it may have
+/// one left.
 pub fn terminate_is_sent_again()
     ensures again { (taker sender : Setup) (t s : Facts) → ArePartingFrom taker sender t s
         → pdu_sent s ≡ s.acknowledgement.last }
     ensures no_control { (taker sender : Setup) (t s : Facts) → ArePartingFrom taker sender t s
-        → next_control s ≡ None }
+        → is_quiet_now s ≡ true → next_control s ≡ None }
     ensures no_data { (taker sender : Setup) (t s : Facts) → ArePartingFrom taker sender t s
         → data_goes s ≡ false }
 {}

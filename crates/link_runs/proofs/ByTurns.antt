@@ -40,7 +40,7 @@ module _ (central peripheral : Setup) where
 
   -- ---- the hosts of two open ends
 
-  module _ (slot : ℕ) (given : Given) (c p : Facts) (c_may : MayHostAll central given.central_host c)
+  module _ (ends : AreEnds central peripheral) (slot : ℕ) (given : Given) (c p : Facts) (c_may : MayHostAll central given.central_host c)
       (p_may : MayHostAll peripheral given.peripheral_host p) where
     abbrev c_now : Facts
     c_now = facts_hosted central given.central_host c
@@ -54,8 +54,8 @@ module _ (central peripheral : Setup) where
           central_lasts = still_lasts c c_now (hosted_ends_nothing central given.central_host c c_may) link.central_lasts;
           peripheral_lasts = still_lasts p p_now (hosted_ends_nothing peripheral given.peripheral_host p p_may) link.peripheral_lasts;
           linked =
-              peripheral_hosted central peripheral slot false given.peripheral_host c_now p p_may
-              (central_hosted central peripheral slot false given.central_host c p c_may link.linked);
+              peripheral_hosted central peripheral ends slot false given.peripheral_host c_now p p_may
+              (central_hosted central peripheral ends slot false given.central_host c p c_may link.linked);
         })
     hosted (inr parting) = inr (peripheral_parts given.peripheral_host c_now p p_may (central_parts given.central_host c p c_may parting))
 
@@ -64,17 +64,17 @@ module _ (central peripheral : Setup) where
   abbrev reported : Setup → Facts → Facts
   reported setup facts = facts_after setup facts DataReported
 
-  are_reported : (slot : ℕ) (c p : Facts) → AreOpenEnds central peripheral slot c p
+  are_reported : AreEnds central peripheral → (slot : ℕ) (c p : Facts) → AreOpenEnds central peripheral slot c p
       → AreOpenEnds central peripheral slot (reported central c) (reported peripheral p)
-  are_reported slot c p (inl link) =
+  are_reported ends slot c p (inl link) =
       inl (record {
         central_lasts = link.central_lasts;
         peripheral_lasts = link.peripheral_lasts;
         linked =
-            peripheral_hosts central peripheral slot false (reported central c) p
-            (central_hosts central peripheral slot false c p link.linked DataReported tt) DataReported tt;
+            peripheral_hosts central peripheral ends slot false (reported central c) p
+            (central_hosts central peripheral ends slot false c p link.linked DataReported tt) DataReported tt;
       })
-  are_reported slot c p (inr parting) =
+  are_reported ends slot c p (inr parting) =
       inr (peripheral_parts (DataReported ∷ []) (reported central c) p (tt, tt) (central_parts (DataReported ∷ []) c p (tt, tt) parting))
 
   -- ---- what is kept from turn to turn
@@ -116,7 +116,7 @@ module _ (central peripheral : Setup) where
           late = record { central = after_it.central_goes_on; peripheral = after_it.peripheral_goes_on };
           keeps =
               closes (slot + 1) _ _ _ _ after_it.central_goes_on (λ p_open. open_goes_on (peripheral_heard central peripheral slot given c p) p_open)
-              (λ c_open p_open. are_reported (slot + 1) _ _ (after_it.opens c_open p_open));
+              (λ c_open p_open. are_reported ends (slot + 1) _ _ (after_it.opens c_open p_open));
         }
 
     central_goes : (c : Facts) → c.control.ends ≡ None → Goes (Some c) None
@@ -162,7 +162,7 @@ module _ (central peripheral : Setup) where
         central_starts _ _ ((hosted_ends_nothing central given.central_host c c_may).procedures ∙ keeps)
     turn None (Some p) c_may p_may keeps =
         peripheral_starts _ _ ((hosted_ends_nothing peripheral given.peripheral_host p p_may).procedures ∙ keeps)
-    turn (Some c) (Some p) c_may p_may keeps = starts _ _ _ _ refl (hosted slot given c p c_may p_may keeps)
+    turn (Some c) (Some p) c_may p_may keeps = starts _ _ _ _ refl (hosted ends slot given c p c_may p_may keeps)
 
   -- ---- all turns
 

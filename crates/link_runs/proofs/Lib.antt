@@ -1,4 +1,5 @@
 -- The lemmas of this crate.
+pub mod AsSent
 pub mod ByTurns
 pub mod EventsKept
 pub mod Exchanges

@@ -13,8 +13,7 @@ use Rattle.link_pairs.specs.Shown.{AreLinked, Shows, link_of}
 use Rattle.link_pairs.specs.Turns.{HaveBegun, sent_if}
 use Rattle.link_pairs.proofs.CentralHears.{hears}
 use Rattle.link_pairs.proofs.Hosting.{central_hosts, peripheral_hosts}
-use Rattle.link_pairs.proofs.PeripheralHears.{hears_linked}
-use Rattle.link_pairs.proofs.Reading.{AreHeard}
+use Rattle.link_pairs.proofs.PeripheralHeard.{hears_linked}
 use Rattle.link_pairs.proofs.Turning.{begun_hears, prepared_hears, turn_begun}
 use Rattle.link_runs.specs.Turn.{Given, answer, central_sent, central_heard, central_ready, facts_hosted, is_answer_heard, is_heard, listens, packet, peripheral_ready, peripheral_heard, peripheral_received, transmits}
 use Rattle.link_runs.specs.Runs.{MayHostAll}
@@ -33,30 +32,31 @@ use Rattle.link_pairs.proofs.Items.{never}
 use Rattle.link_pairs.proofs.NothingNew.{prepared_still, sender_still}
 use Rattle.link_pairs.proofs.PartingBegins.{central_took, peripheral_took}
 use Rattle.link_pairs.proofs.PartingEndings.{taker_ends}
-use Rattle.link_pairs.proofs.Reading.{are_heard}
 use Rattle.link_pairs.proofs.SenderHears.{has_seen, hears_the_end}
 use Rattle.link_pairs.proofs.TakerSends.{begun_parting}
 use Rattle.link_runs.specs.Open.{AreOpenEnds, GoesOnUnlessLate, IsLastingLink}
+use Rattle.link_runs.proofs.AsSent.{IsAsSent, as_sent_down, as_sent_parting, as_sent_up, ends_as_sent, ends_late_or_none}
 use Rattle.link_runs.proofs.EventsKept.{answered_in_event, ended_no_reply}
 use Rattle.link_runs.proofs.GoingOn.{lasting_by, lasting_goes, lasting_took_none, open_goes_on, shut_by, still_lasts}
 
 -- ---- what the hosts do
 
-module _ (central peripheral : Setup) (turns : ℕ) (answers : Bool) where
+module _ (central peripheral : Setup) (ends : AreEnds central peripheral) (turns : ℕ) (answers : Bool) where
   pub central_hosted : (steps : List Step) (c p : Facts) → MayHostAll central steps c → AreLinked central peripheral turns answers c p
       → AreLinked central peripheral turns answers (facts_hosted central steps c) p
   central_hosted [] c p may linked = linked
   central_hosted (step ∷ steps) c p may linked =
-      central_hosted steps _ p may.1 (central_hosts central peripheral turns answers c p linked step may.0)
+      central_hosted steps _ p may.1 (central_hosts central peripheral ends turns answers c p linked step may.0)
 
   pub peripheral_hosted : (steps : List Step) (c p : Facts) → MayHostAll peripheral steps p → AreLinked central peripheral turns answers c p
       → AreLinked central peripheral turns answers c (facts_hosted peripheral steps p)
   peripheral_hosted [] c p may linked = linked
   peripheral_hosted (step ∷ steps) c p may linked =
-      peripheral_hosted steps c _ may.1 (peripheral_hosts central peripheral turns answers c p linked step may.0)
+      peripheral_hosted steps c _ may.1 (peripheral_hosts central peripheral ends turns answers c p linked step may.0)
 
-  -- ---- no answer is on its way between two turns
+-- ---- no answer is on its way between two turns
 
+module _ (central peripheral : Setup) (turns : ℕ) (answers : Bool) where
   pub unanswered : (c p : Facts) → AreLinked central peripheral turns answers c p → AreLinked central peripheral turns false c p
   unanswered c p linked =
       record {
@@ -64,6 +64,8 @@ module _ (central peripheral : Setup) (turns : ℕ) (answers : Bool) where
         may = linked.may;
         in_range = linked.in_range;
         shows = λ running. without (linked.shows running);
+        keys = linked.keys;
+        plain = linked.plain;
         lasts = linked.lasts;
       }
     where
@@ -206,8 +208,9 @@ module _ (central peripheral : Setup) (slot : ℕ) (given : Given) (c p : Facts)
         let most = ends.peripheral_max.to in
         let fields = ends.one_link.fields in
         let room = given.peripheral_room in
-        let over = hears_the_end whole central peripheral fields most c_at p_at parting_at slot _ sent_octets packet_now now.same room in
-        let seen = has_seen whole central peripheral fields most c_at p_at parting_at slot _ sent_octets packet_now now.same room in
+        let as_sent = (as_sent_parting whole central peripheral fields most c_at p_at parting_at slot _ sent_octets packet_now now.same).so in
+        let over = hears_the_end whole central peripheral fields most c_at p_at parting_at slot _ sent_octets packet_now now.same room as_sent.pure as_sent.genuine in
+        let seen = has_seen whole central peripheral fields most c_at p_at parting_at slot _ sent_octets packet_now now.same room as_sent.pure as_sent.genuine in
         let c_is : c_heard ≡ c_at = unheard (ap (λ (b : Bool). heard_now && b) over.replies ∙ never heard_now) in
         let p_is : p_heard ≡ taken = ap p_heard_if is ∙ over.answers_none in
         record {
@@ -233,9 +236,6 @@ module _ (central peripheral : Setup) (slot : ℕ) (given : Given) (c p : Facts)
 
   module _ (whole : IsHeardWhole) (ends : AreEnds central peripheral) (link : IsLastingLink central peripheral slot c p)
       (not_due : is_none (due_of peripheral p slot) ≡ true) where
-    heard : AreHeard
-    heard = are_heard whole
-
     shows : Shows central peripheral slot false (link_of central peripheral link.linked.steps) c p
     shows = link.linked.shows (link.linked.lasts link.central_lasts link.peripheral_lasts)
 
@@ -261,13 +261,20 @@ module _ (central peripheral : Setup) (slot : ℕ) (given : Given) (c p : Facts)
         subst (λ (b : Bool). HaveBegun central peripheral slot b true c_at p_at) now.transmits_in
         (subst (λ (b : Bool). HaveBegun central peripheral slot transmits_now b c_at p_at) now.listens_in begun)
 
+    -- ---- what is heard is read as it was sent
+
+    down_as_sent : IsHeardNow → IsAsSent peripheral p_at slot sent_octets c_at.acknowledgement
+    down_as_sent now =
+        as_sent_down whole central peripheral ends (slot + 1) slot false c_at p_at _ sent_octets begun.linked c_lasts p_lasts
+        (packet_of_central now.transmits_in) now.same
+
     -- ---- they stay linked
 
     heard_linked : (hears_it : Bool) → heard_now ≡ hears_it → AreLinked central peripheral (slot + 1) (hears_it && replies) c_at (p_heard_if hears_it)
     heard_linked true is =
         let now = is_heard_now is in
-        hears_linked heard central peripheral slot c_at p_at _ sent_octets given.peripheral_room ends (both_begun now)
-        (packet_of_central now.transmits_in) now.same supervised
+        hears_linked whole central peripheral slot c_at p_at _ sent_octets given.peripheral_room ends (both_begun now)
+        (packet_of_central now.transmits_in) now.same supervised (down_as_sent now).so.pure
     heard_linked false is = begun.linked
 
     answer_comes : IsAnswerHeard → AreLinked central peripheral (slot + 1) true c_at p_heard
@@ -282,12 +289,18 @@ module _ (central peripheral : Setup) (slot : ℕ) (given : Given) (c p : Facts)
     central_entered : IsAnswerHeard → 1 ≤ c_at.control.track.entered
     central_entered now = (begun.transmits_in (is_heard_now now.heard_it).transmits_in).0
 
-    answer_linked : (hears_it : Bool) → answer_heard ≡ hears_it → AreLinked central peripheral (slot + 1) false (c_heard_if hears_it) p_heard
-    answer_linked true is =
-        let now = is_answer_heard_now is in
-        hears heard central peripheral slot c_at p_heard _ answer_octets given.central_room ends (answer_comes now) central_past (central_entered now)
+    up_as_sent : IsAnswerHeard → is_lasting p_heard ≡ true → IsAsSent central c_at slot answer_octets p_heard.acknowledgement
+    up_as_sent now lasts =
+        as_sent_up whole central peripheral ends (slot + 1) slot true c_at p_heard _ answer_octets (answer_comes now) c_lasts lasts
         (packet_of_peripheral now.heard_it now.replied) now.same_back
-    answer_linked false is = unanswered central peripheral (slot + 1) (heard_now && replies) c_at p_heard (heard_linked heard_now refl)
+
+    answer_linked : (hears_it : Bool) → answer_heard ≡ hears_it → is_lasting p_heard ≡ true
+        → AreLinked central peripheral (slot + 1) false (c_heard_if hears_it) p_heard
+    answer_linked true is lasts =
+        let now = is_answer_heard_now is in
+        hears whole central peripheral slot c_at p_heard _ answer_octets given.central_room ends (answer_comes now) central_past (central_entered now)
+        (packet_of_peripheral now.heard_it now.replied) now.same_back (up_as_sent now lasts).so.pure
+    answer_linked false is lasts = unanswered central peripheral (slot + 1) (heard_now && replies) c_at p_heard (heard_linked heard_now refl)
 
     -- ---- no procedure ends the link, but at a late peripheral
 
@@ -295,16 +308,20 @@ module _ (central peripheral : Setup) (slot : ℕ) (given : Given) (c p : Facts)
         → ((p_heard_if hears_it).control.ends ≡ None) ⊎ EndsForInstant c_at p_at (p_heard_if hears_it).control.ends
     late_at true is =
         let now = is_heard_now is in
-        peripheral_goes heard central peripheral slot c_at p_at _ sent_octets given.peripheral_room ends (both_begun now) c_lasts p_lasts
-        (packet_of_central now.transmits_in) now.same supervised
+        let as_sent = down_as_sent now in
+        ends_late_or_none peripheral p_at slot sent_octets c_at.acknowledgement as_sent _ _ _
+        (peripheral_goes whole central peripheral slot c_at p_at _ sent_octets given.peripheral_room ends (both_begun now) c_lasts p_lasts
+        (packet_of_central now.transmits_in) now.same supervised as_sent.so.pure)
     late_at false is = inl (lasting_goes p_at p_lasts)
 
     -- the central hears the answer, while the link lasts at the peripheral
     central_by : (hears_it : Bool) → answer_heard ≡ hears_it → is_lasting p_heard ≡ true → (c_heard_if hears_it).control.ends ≡ None
     central_by true is lasts =
         let now = is_answer_heard_now is in
-        central_goes heard central peripheral slot c_at p_heard _ answer_octets given.central_room ends (answer_comes now) c_lasts lasts central_past
-        (central_entered now) (packet_of_peripheral now.heard_it now.replied) now.same_back
+        let as_sent = up_as_sent now lasts in
+        ends_as_sent central c_at slot answer_octets p_heard.acknowledgement as_sent _ _
+        (central_goes whole central peripheral slot c_at p_heard _ answer_octets given.central_room ends (answer_comes now) c_lasts lasts central_past
+        (central_entered now) (packet_of_peripheral now.heard_it now.replied) now.same_back as_sent.so.pure)
     central_by false is lasts = lasting_goes c_at c_lasts
 
     -- ---- the central takes LL_TERMINATE_IND, or does not
@@ -314,14 +331,14 @@ module _ (central peripheral : Setup) (slot : ℕ) (given : Given) (c p : Facts)
     takes_by true is lasts took =
         let now = is_answer_heard_now is in
         central_took whole central peripheral ends slot c_at p_heard _ answer_octets given.central_room (answer_comes now) c_lasts lasts
-        (packet_of_peripheral now.heard_it now.replied) now.same_back took
+        (packet_of_peripheral now.heard_it now.replied) now.same_back (up_as_sent now lasts).so.pure took
     takes_by false is lasts took = absurd (let none = lasting_took_none c_at c_lasts in let no = ap (λ (o : Option ErrCode). is_some o) none in cc)
 
     central_open : (took : Bool) → is_some c_heard.leaving.ended_by_peer ≡ took → is_lasting p_heard ≡ true → c_heard.control.ends ≡ None
         → AreOpenEnds central peripheral (slot + 1) c_heard p_heard
     central_open true is lasts goes = inr (takes_by answer_heard refl lasts is)
     central_open false is lasts goes =
-        inl (record { central_lasts = lasting_by c_heard goes is; peripheral_lasts = lasts; linked = answer_linked answer_heard refl })
+        inl (record { central_lasts = lasting_by c_heard goes is; peripheral_lasts = lasts; linked = answer_linked answer_heard refl lasts })
 
     peripheral_lasting : is_lasting p_heard ≡ true → AreAfterTurn
     peripheral_lasting lasts =
@@ -339,14 +356,18 @@ module _ (central peripheral : Setup) (slot : ℕ) (given : Given) (c p : Facts)
     took_by true is took =
         let now = is_heard_now is in
         peripheral_took whole central peripheral ends slot c_at p_at _ sent_octets given.peripheral_room (both_begun now) c_lasts p_lasts
-        (packet_of_central now.transmits_in) now.same took
+        (packet_of_central now.transmits_in) now.same (down_as_sent now).so.pure took
     took_by false is took = absurd (let none = lasting_took_none p_at p_lasts in let no = ap (λ (o : Option ErrCode). is_some o) none in cc)
 
     central_seen : (hears_it : Bool) → answer_heard ≡ hears_it → ArePartingFrom peripheral central p_heard c_at → (c_heard_if hears_it).control.ends ≡ None
     central_seen true is parting =
         let now = is_answer_heard_now is in
-        (has_seen whole peripheral central (sym ends.one_link.fields) ends.central_max.to p_heard c_at parting slot _ answer_octets
-        (packet_of_peripheral now.heard_it now.replied) now.same_back given.central_room).goes_on
+        let packet_now = packet_of_peripheral now.heard_it now.replied in
+        let fields = sym ends.one_link.fields in
+        let most = ends.central_max.to in
+        let as_sent = (as_sent_parting whole peripheral central fields most p_heard c_at parting slot _ answer_octets packet_now now.same_back).so in
+        (has_seen whole peripheral central fields most p_heard c_at parting slot _ answer_octets packet_now now.same_back given.central_room as_sent.pure
+        as_sent.genuine).goes_on
     central_seen false is parting = lasting_goes c_at c_lasts
 
     peripheral_taking : is_some p_heard.leaving.ended_by_peer ≡ true → AreAfterTurn

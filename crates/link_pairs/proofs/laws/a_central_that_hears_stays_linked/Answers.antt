@@ -1,7 +1,6 @@
 -- The proof of the law `a_central_that_hears_stays_linked`.
 use Rattle.link_pairs.proofs.CentralHears.{hears}
-use Rattle.link_pairs.proofs.Reading.{are_heard}
 use Rattle.link_pairs.proofs.laws.a_central_that_hears_stays_linked.Goals as goal
 
 pub returns : goal.returns
-returns c = hears (are_heard c.packet_tells_its_pdu.ensures.heard)
+returns c = hears c.packet_tells_its_pdu.ensures.heard

@@ -1,6 +1,5 @@
 -- The proof of the law `hosts_leave_ends_parting`.
 use Rattle.link_model.specs.End.{facts_after}
-use Rattle.link_pairs.proofs.LastControl.{ends_shut}
 use Rattle.link_pairs.proofs.NothingNew.{host_still, sender_still, taker_still}
 use Rattle.link_pairs.proofs.PartingEndings.{disconnects_none}
 use Rattle.link_pairs.proofs.parting.hosts_leave_ends_parting.Goals as goal
@@ -19,4 +18,4 @@ returns-clause-taker_ends_no_more g = λ taker sender t s reason slot parting. d
 pub returns-clause-sender_ends_no_more : goal.returns-clause-sender_ends_no_more
 returns-clause-sender_ends_no_more g =
     λ taker sender t s reason slot parting.
-    disconnects_none reason s.control (ends_shut s.control.table.closing parting.sent.sends_no_control.closing)
+    disconnects_none reason s.control parting.sent.shut

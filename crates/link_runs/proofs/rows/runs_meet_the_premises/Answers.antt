@@ -77,7 +77,6 @@ asking = (
           timeout_to = omega arith;
           timeout_outlasts = omega arith;
         };
-    plain = refl;
     may = refl;
   },
   tt,
