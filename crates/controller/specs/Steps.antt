@@ -1,9 +1,9 @@
 -- The steps of a controller on what it holds, but for its links.
-use Rattle.std.specs.Prelude.{ℕ, ◌+◌, ◌%◌, List, [], length, map, Option, is_some}
+use Rattle.std.specs.Prelude.{ℕ, ◌+◌, ◌%◌, Bool, true, List, [], length, map, Option, is_some, if◌then◌else◌}
 use Rattle.std.specs.Option.{option_and_then}
 use Rattle.ble_base.specs.declared.notes.Note.{Note}
 use Rattle.hci_cmd.specs.declared.command.Command.{Command}
-use Rattle.hci_cmd.specs.declared.command.Command.TheVariants.{LeRand, Reset}
+use Rattle.hci_cmd.specs.declared.command.Command.TheVariants.{LeEnableEncryption, LeRand, Reset}
 use Rattle.host_view.specs.Changes.{view_after}
 use Rattle.host_view.specs.Noted.{view_noted}
 use Rattle.scan_init.specs.Access.{next_access_of}
@@ -13,9 +13,14 @@ use Rattle.controller_model.specs.Links.{note_shut, radio_without}
 use Rattle.activities.specs.Steps.{activities_after}
 use Rattle.controller.specs.Held.{Held}
 
--- the place of the random word after an accepted command, of this number of words
+-- the place of the random word where two are drawn, or none, of this number of words
+abbrev pub place_drawn : Bool → ℕ → ℕ → ℕ
+place_drawn draws count place = if draws then ((place + 1) % count + 1) % count else place
+
+-- the same after an accepted command
 abbrev pub place_after : ℕ → Command → ℕ → ℕ
 place_after count LeRand place = (place + 1) % count
+place_after count (LeEnableEncryption handle rand ediv key) place = place_drawn true count place
 place_after count other place = place
 
 -- what an accepted command changes

@@ -11,7 +11,7 @@ use crate::controllers::Controller;
 use aes_block::Aes;
 use ble_base::PAYLOAD_OCTETS;
 use hci_cmd::Command;
-use host_notes::{Fields, put_longest};
+use host_notes::{Fields, put_longest, turned};
 use host_view::ACCEPT_LIST_SIZE;
 use open_links::OpenLinks;
 use wire_fields::{put_octets, put_u16, put_u40, put_u64};
@@ -52,20 +52,15 @@ fn map_in_use<const L: usize, const T: usize, const R: usize>(
 fn encrypted(key: &[u8; 16], text: &[u8; 16]) -> [u8; 16]
     ensures { result ≡ encrypted key.now text.now }
 {
-    let mut key = *key;
-    let mut block = *text;
-    key.reverse();
-    block.reverse();
-    let mut answer = Aes::new(&key).encrypt(&block);
-    answer.reverse();
-    answer
+    turned(&Aes::new(&turned(key)).encrypt(&turned(text)))
 }
 
 impl<const L: usize, const T: usize, const R: usize> Controller<L, T, R> {
     /// The random word that is drawn next.
     pub(crate) fn random_word(&self) -> u64
-        ensures { (has : Setup) (facts : Facts) → IsAt has self.now facts
+        ensures value { (has : Setup) (facts : Facts) → IsAt has self.now facts
             → result ≡ next_word has facts.drawn }
+        ensures bound { result < 2 ^ 64 }
     {
         self.words[self.next_word]
     }

@@ -1,5 +1,5 @@
 //! Commands of the host: their answers, and what they change.
-ghost use Rattle.std.specs.Prelude.{◌≡◌, ◌≤◌, ◌<◌, ◌+◌, ◌%◌, ◌++◌, ℕ, true, List, [], ◌∷◌};
+ghost use Rattle.std.specs.Prelude.{◌≡◌, ◌≤◌, ◌<◌, ◌+◌, ◌%◌, ◌^◌, ◌++◌, ℕ, true, List, [], ◌∷◌};
 ghost use Rattle.arrayvec.specs.ArrayVec.{array_vec_len};
 ghost use Rattle.acl_banks.specs.declared.pieces.Piece.{Piece};
 ghost use Rattle.hci_cmd.specs.Command.{command_of};
@@ -11,7 +11,7 @@ ghost use Rattle.open_links.specs.Knowing.{Knows as KnowsLinks};
 ghost use Rattle.open_links.specs.OpenLinks.{Links};
 ghost use Rattle.controller_model.specs.Answers.{answer_with};
 ghost use Rattle.controller_model.specs.Commands.{events_caused, facts_accepted, facts_asking};
-ghost use Rattle.controller_model.specs.Commands.{facts_commanded};
+ghost use Rattle.controller_model.specs.Commands.{facts_commanded, moment_of};
 ghost use Rattle.controller_model.specs.Commands.{links_after, notes_before, notes_commanded};
 ghost use Rattle.controller_model.specs.Commands.{received_after};
 ghost use Rattle.controller_model.specs.Events.{notes_of_events};
@@ -20,11 +20,11 @@ ghost use Rattle.controller_model.specs.Side.{facts_fed, notes_fed};
 ghost use Rattle.controller.specs.Framed.{IsFramed};
 ghost use Rattle.controller.specs.Knowing.{IsAt};
 ghost use Rattle.controller.specs.Order.{Stays};
-ghost use Rattle.controller.specs.Steps.{held_accepted, links_notes, place_after};
+ghost use Rattle.controller.specs.Steps.{held_accepted, links_notes, place_after, place_drawn};
 
 use crate::controllers::Controller;
 use ble_base::{ErrCode, Outbox, SlotNo};
-use controller_model::accepted_commands_ask_in_range;
+use controller_model::{Moment, accepted_commands_ask_in_range};
 use h4_frames::{Fed, HostPacket};
 use hci_cmd::{CmdRead, Command, read};
 use hci_evt::Event;
@@ -47,7 +47,21 @@ pub(crate) fn next_place(count: usize, place: usize) -> usize
     (place + 1) % count
 }
 
-/// The place of the random word that is drawn next after an accepted command, which may draw one.
+/// The place of the random word that is drawn next where two are drawn, or none.
+pub(crate) fn place_drawn(draws: bool, count: usize, place: usize) -> usize
+    requires { place < count }
+    ensures value { result ≡ place_drawn draws count place }
+    ensures within { result < count }
+{
+    if draws {
+        next_place(count, next_place(count, place))
+    } else {
+        place
+    }
+}
+
+/// The place of the random word that is drawn next after an accepted command, which may draw one or
+/// two.
 fn place_after(count: usize, command: &Command, place: usize) -> usize
     requires { place < count }
     ensures value { result ≡ place_after count command.now place }
@@ -55,6 +69,7 @@ fn place_after(count: usize, command: &Command, place: usize) -> usize
 {
     match command {
         Command::LeRand => next_place(count, place),
+        Command::LeEnableEncryption { .. } => place_drawn(true, count, place),
         _ => place,
     }
 }
@@ -115,6 +130,20 @@ impl<const L: usize, const T: usize, const R: usize> Controller<L, T, R> {
         self.accept(command);
     }
 
+    /// The moment at which a command is accepted now.
+    pub(crate) fn moment(&self) -> Moment
+        ensures value { (has : Setup) (facts : Facts) → IsAt has self.now facts
+            → result ≡ moment_of has facts }
+        ensures slot { result.slot ≤ 2 ^ 32 }
+    {
+        let second = next_place(self.words.len(), self.next_word);
+        Moment {
+            slot: self.turn.begun,
+            skd_m: self.random_word(),
+            iv_m: (self.words[second] % (1 << 32)) as u32,
+        }
+    }
+
     /// Carries out an accepted command that asks something of links, and notes its answer and what
     /// is answered at once.
     fn take_asking(&mut self, opcode: u16, command: &Command, out: &mut Outbox)
@@ -122,7 +151,7 @@ impl<const L: usize, const T: usize, const R: usize> Controller<L, T, R> {
         requires asks { asks_links self.old.view command.now ≡ true }
         requires room { array_vec_len out.old ≤ 50 }
         ensures at { (has : Setup) (facts : Facts) → IsAt has self.old facts → IsAt has self.new
-            (facts_asking true facts command.now (facts_accepted has facts command.now)) }
+            (facts_asking true has facts command.now (facts_accepted has facts command.now)) }
         ensures notes { (has : Setup) (facts : Facts) → IsAt has self.old facts
             → out.new.items ≡ out.old.items ++ notes_before facts command.now
             ++ notes_of_events facts.view (answer_with has facts opcode command.now 0)
@@ -131,11 +160,11 @@ impl<const L: usize, const T: usize, const R: usize> Controller<L, T, R> {
         ensures stays { Stays self.old self.new }
     {
         accepted_commands_ask_in_range();
-        let slot = SlotNo(self.turn.begun);
+        let moment = self.moment();
         self.take_accepted(opcode, command, out);
         tell_at_once(&self.view, &self.links, command, out);
         note_at_once(&mut self.view, &self.links, command);
-        ask_links(&mut self.links, command, slot);
+        ask_links(&mut self.links, command, moment);
     }
 
     /// Takes an accepted command, which may ask something of links.

@@ -16,7 +16,7 @@ ghost use Rattle.controller_model.specs.Packets.{pdu_heard};
 ghost use Rattle.controller_model.specs.Heard.{advertiser_answers, advertiser_heard};
 ghost use Rattle.controller_model.specs.Heard.{answers_by_connecting, asks_if, connects, if_pdu, taken_if};
 ghost use Rattle.controller_model.specs.Heard.{access_found, fields_sent, heard, initiator_heard};
-ghost use Rattle.controller_model.specs.Heard.{is_new_between, link_heard, link_to, reply_if};
+ghost use Rattle.controller_model.specs.Heard.{facts_with_words, is_new_between, link_heard, link_to, reply_if};
 ghost use Rattle.controller_model.specs.Heard.{scanner_heard, taken_under, unheard};
 ghost use Rattle.activities.specs.Fitting.{IsAnswerable};
 ghost use Rattle.controller.specs.Fitting.{CanDo, CanFollow, IsOpenable};
@@ -24,7 +24,7 @@ ghost use Rattle.controller.specs.Knowing.{IsAt, Passes, PassesOn};
 ghost use Rattle.controller.specs.Order.{HasNotReceived, ReceivesOnce, Stays, listens_on_link};
 ghost use Rattle.controller.specs.Steps.{held_connecting};
 
-use crate::commands::next_place;
+use crate::commands::{next_place, place_drawn};
 use crate::controllers::Controller;
 use activities::{advertiser_answer, read_pdu};
 use adv_pdu::{AdvPdu, ConnectFields};
@@ -368,17 +368,38 @@ impl<const L: usize, const T: usize, const R: usize> Controller<L, T, R> {
             → PassesOn has self.new out.old.items out.new.items result
             (link_heard has handle octets.now facts) }
         ensures can { CanFollow L result }
-        ensures few { array_vec_len out.new ≤ array_vec_len out.old + 9 }
+        ensures few { array_vec_len out.new ≤ array_vec_len out.old + 11 }
         ensures framer { self.new.framer ≡ self.old.framer }
         ensures begun { self.new.turn.begun ≡ self.old.turn.begun }
         ensures between { self.new.between ≡ self.old.between }
     {
         let slot = SlotNo(self.turn.slot);
         let before = out.len();
-        let replies = hear_on_link(&self.view, &mut self.links, handle, octets, slot, out);
+        let heard = hear_on_link(&self.view, &mut self.links, handle, octets, slot, out);
         follow_from(&mut self.view, out, before);
+        self.next_word = place_drawn(heard.draws, self.words.len(), self.next_word);
         self.turn.doing = Doing::Rests;
-        reply_if(replies, handle)
+        reply_if(heard.replies, handle)
+    }
+
+    /// The same for a peripheral. Before it hears octets it is given the next two random words, with
+    /// which it would answer LL_ENC_REQ.
+    fn hear_with_words(&mut self, handle: u16, octets: &[u8], out: &mut Outbox) -> Doing
+        requires none { HasNotReceived self.old.between self.old.turn self.old.links }
+        requires room { array_vec_len out.old ≤ 50 }
+        ensures passes { (has : Setup) (facts : Facts) → IsAt has self.old facts
+            → HasEntered (link_at handle facts.links)
+            → PassesOn has self.new out.old.items out.new.items result
+            (link_heard has handle octets.now (facts_with_words has handle facts)) }
+        ensures can { CanFollow L result }
+        ensures few { array_vec_len out.new ≤ array_vec_len out.old + 11 }
+        ensures framer { self.new.framer ≡ self.old.framer }
+        ensures begun { self.new.turn.begun ≡ self.old.turn.begun }
+        ensures between { self.new.between ≡ self.old.between }
+    {
+        let moment = self.moment();
+        self.links.enc_words(handle, moment.skd_m, moment.iv_m);
+        self.hear_on_link(handle, octets, out)
     }
 
     /// What follows what was done in a phase in which nothing was heard.
@@ -442,7 +463,7 @@ impl<const L: usize, const T: usize, const R: usize> Controller<L, T, R> {
             → IsInEvent facts.turn.doing facts.links
             → PassesOn has self.new out.old.items out.new.items result
             (heard has facts.turn.doing octets.now facts) }
-        ensures few { array_vec_len out.new ≤ array_vec_len out.old + 9 }
+        ensures few { array_vec_len out.new ≤ array_vec_len out.old + 11 }
         ensures can { CanDo L result }
         ensures once { ReceivesOnce self.new.between self.new.turn self.new.links result }
         ensures framer { self.new.framer ≡ self.old.framer }
@@ -450,9 +471,8 @@ impl<const L: usize, const T: usize, const R: usize> Controller<L, T, R> {
         ensures between { self.new.between ≡ self.old.between }
     {
         match self.turn.doing {
-            Doing::CentralListens { handle } | Doing::PeripheralListens { handle } => {
-                self.hear_on_link(handle, octets, out)
-            }
+            Doing::CentralListens { handle } => self.hear_on_link(handle, octets, out),
+            Doing::PeripheralListens { handle } => self.hear_with_words(handle, octets, out),
             _ => {
                 let doing = self.hear_elsewhere(octets, out);
                 self.rest();

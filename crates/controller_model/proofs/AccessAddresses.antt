@@ -31,7 +31,7 @@ use Rattle.link_commands.specs.open_links.declared.offers.Offer.{Offer}
 use Rattle.link_commands.specs.open_links.declared.offers.Offer.TheVariants.{NoLink, Empty, Overflow, Kept}
 use Rattle.controller_model.specs.Data.{facts_ended_turn, facts_handed, facts_offered, offer_of}
 use Rattle.controller_model.specs.Connecting.{SendsEach, SendsEachFrom, cuts_off}
-use Rattle.controller_model.specs.Heard.{asks_if, has_room, heard, link_taken, opens, replies_in, scanner_after, unheard, with_scanner}
+use Rattle.controller_model.specs.Heard.{asks_if, has_room, heard, link_taken, opens, replies_in, scanner_after, unheard, with_scanner, facts_with_words}
 use Rattle.controller_model.specs.Outcome.{Outcome, facts_passed, goes_on}
 use Rattle.controller_model.specs.Side.{facts_after, facts_fed, facts_of, result_of, with_octet}
 use Rattle.controller_model.proofs.Accepted.{same_after_counts}
@@ -71,6 +71,7 @@ address_kept setup = record {
       does = λ doing facts may knows. knows;
     };
     reports = λ facts knows. knows;
+    words = λ handle facts listens knows. knows;
     passes = λ facts knows. record {
       rests = knows;
       awaits_request = λ channel doing. knows;
@@ -250,6 +251,7 @@ phase_by : (setup : Setup) (octets : List ℕ) (facts : Facts) (doing : Doing) �
 phase_by setup octets facts doing is may makes =
     let before = subst MakesNone (sym is) makes in
     heard_is setup facts (λ outcome. MayMake (facts_passed outcome)) (phase_makes setup facts before (may.has_next before)) doing octets is
+    (λ handle. (phase_makes setup (facts_with_words setup handle facts) before (may.has_next before)).received handle octets)
 
 unheard_by : (setup : Setup) (facts : Facts) (doing : Doing) → facts.turn.doing ≡ doing → MayMake facts → MakesNone doing
     → MayMake (facts_passed (unheard doing facts))

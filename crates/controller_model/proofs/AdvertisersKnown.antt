@@ -145,6 +145,7 @@ advertisers_kept setup = record {
       does = λ doing facts may known. known;
     };
     reports = λ facts known. known;
+    words = λ handle facts listens known. known;
     passes = λ facts known. record {
       rests = known;
       awaits_request = λ channel doing. known;

@@ -19,7 +19,7 @@ use Rattle.link_commands.specs.open_links.OpenLinks.{Links, link_at}
 use Rattle.link_commands.specs.LinksCommanded.{links_commanded, view_commanded_on}
 use Rattle.controller_model.specs.Facts.{Setup, Facts, first_facts}
 use Rattle.controller_model.specs.Answers.{accepted_answer, answer_with, complete_answer, has_status_answer, refused_fields, returned, status_answer}
-use Rattle.controller_model.specs.Commands.{drawn_after, events_caused, facts_asking, facts_commanded, facts_known, is_asking, links_after, notes_asking, notes_before, notes_commanded, notes_known}
+use Rattle.controller_model.specs.Commands.{drawn_after, events_caused, facts_asking, facts_commanded, facts_known, is_asking, links_after, moment_of, notes_asking, notes_before, notes_commanded, notes_known}
 use Rattle.link_commands.specs.open_links.declared.offers.Offer.{Offer}
 use Rattle.link_commands.specs.open_links.declared.offers.Offer.TheVariants.{NoLink, Empty, Overflow, Kept}
 use Rattle.link_commands.specs.open_links.Data.{offer_by}
@@ -113,26 +113,27 @@ known_alike true setup one other command alike = record {
 known_alike false setup one other command alike = alike
 
 -- commands ask the same of their links
-abbrev AskAlike : Facts → Facts → Type 0
-AskAlike one other =
-    (command : Command) → links_commanded command one.turn.begun one.links ≡ links_commanded command other.turn.begun other.links
+abbrev AskAlike : Setup → Facts → Facts → Type 0
+AskAlike setup one other =
+    (command : Command)
+    → links_commanded command (moment_of setup one) one.links ≡ links_commanded command (moment_of setup other) other.links
 
-asking_alike : (asks : Bool) (one other left right : Facts) (command : Command) → AskAlike one other → Alike one other → Alike left right
-    → Alike (facts_asking asks one command left) (facts_asking asks other command right)
-asking_alike true one other left right command same alike after = record {
+asking_alike : (asks : Bool) (setup : Setup) (one other left right : Facts) (command : Command) → AskAlike setup one other → Alike one other
+    → Alike left right → Alike (facts_asking asks setup one command left) (facts_asking asks setup other command right)
+asking_alike true setup one other left right command same alike after = record {
   view_is = λ i. view_commanded_on (alike.view_is i) command (alike.links_are i);
   drawn_is = after.drawn_is;
   links_are = same command;
 }
-asking_alike false one other left right command same alike after = after
+asking_alike false setup one other left right command same alike after = after
 
-read_alike : (setup : Setup) (one other : Facts) (read : CmdRead) → AskAlike one other → Alike one other
+read_alike : (setup : Setup) (one other : Facts) (read : CmdRead) → AskAlike setup one other → Alike one other
     → Alike (facts_commanded setup one read) (facts_commanded setup other read)
 read_alike setup one other (Known command) same alike =
     subst (λ (view : View). Alike (facts_commanded setup one (Known command))
-    (facts_asking (is_asking view command) other command (facts_known (status_of view command == 0) setup other command)))
+    (facts_asking (is_asking view command) setup other command (facts_known (status_of view command == 0) setup other command)))
     alike.view_is
-    (asking_alike (is_asking one.view command) one other _ _ command same alike
+    (asking_alike (is_asking one.view command) setup one other _ _ command same alike
     (known_alike (status_of one.view command == 0) setup one other command alike))
 read_alike setup one other UnknownOpcode same alike = alike
 read_alike setup one other BadLength same alike = alike
@@ -153,7 +154,7 @@ offered_alike NoLink handle start octets one other alike = alike
 offered_alike Empty handle start octets one other alike = alike
 offered_alike Overflow handle start octets one other alike = alike
 
-pub fed_alike : (setup : Setup) (one other : Facts) (fed : Fed) → AskAlike one other → Alike one other
+pub fed_alike : (setup : Setup) (one other : Facts) (fed : Fed) → AskAlike setup one other → Alike one other
     → Alike (facts_fed setup one fed) (facts_fed setup other fed)
 fed_alike setup one other (Packet (HostCommand opcode body)) same alike = read_alike setup one other (command_of opcode body.items) same alike
 fed_alike setup one other (Packet (Acl handle start count body)) same alike =

@@ -18,24 +18,26 @@ use Rattle.hci_cmd.specs.declared.command.CmdRead.{CmdRead}
 use Rattle.hci_cmd.specs.declared.command.CmdRead.TheVariants.{Known, UnknownOpcode, BadLength}
 use Rattle.hci_cmd.specs.Command.{command_of}
 use Rattle.hci_evt.specs.Event.{mask_bit_of, written}
+use Rattle.host_view.specs.Links.{was_encrypted}
 use Rattle.host_view.specs.View.{View}
 use Rattle.host_view.specs.Noted.{view_noted}
 use Rattle.host_view.specs.Unbuilt.{status_of}
 use Rattle.adv_pdu.specs.declared.pdu.AdvPdu.{AdvPdu}
 use Rattle.host_view.specs.scan_init.declared.reports.ReportKind.{ReportKind}
 use Rattle.host_view.specs.scan_init.Reports.{ScannerFacts, does_ask, kind_of, scan_answer}
-use Rattle.link_commands.specs.open_links.OpenLinks.{OpenLink, link_at}
+use Rattle.link_commands.specs.open_links.link_model.Step.{WordsGiven}
+use Rattle.link_commands.specs.open_links.OpenLinks.{OpenLink, link_after, link_at}
 use Rattle.link_commands.specs.open_links.Turns.{due_in}
 use Rattle.controller_model.specs.declared.doing.Doing.{Doing}
 use Rattle.controller_model.specs.declared.doing.Doing.TheVariants.{Advertises, AwaitsRequest, Responds, Requests, AwaitsResponse, Connects, CentralSends, CentralListens, Rests}
 use Rattle.link_commands.specs.LinksCommanded.{links_commanded}
 use Rattle.controller_model.specs.Step.{Step, HostOctet, TurnBegins, PacketHeard, NothingHeard, TurnEnds}
 use Rattle.controller_model.specs.Facts.{Setup, Facts, first_facts}
-use Rattle.controller_model.specs.Commands.{facts_commanded, facts_known, received_after}
+use Rattle.controller_model.specs.Commands.{facts_commanded, facts_known, moment_of, received_after}
 use Rattle.link_commands.specs.open_links.Data.{offer_by}
 use Rattle.controller_model.specs.Data.{facts_ended_turn, facts_offered, is_full}
 use Rattle.controller_model.specs.Events.{notes_of_events, passes}
-use Rattle.controller_model.specs.Heard.{asks_if, does_report, events_received, has_room, link_received, link_taken, notes_taken, piece_taken, replies_in, reply_if, report_event, report_events, scanner_after, unheard, with_scanner}
+use Rattle.controller_model.specs.Heard.{asks_if, does_report, events_received, has_room, link_received, link_taken, notes_taken, piece_taken, replies_in, reply_if, report_event, report_events, scanner_after, unheard, with_scanner, facts_with_words, draws_in, drawn_if}
 use Rattle.controller_model.specs.Links.{facts_ending, notes_ended}
 use Rattle.controller_model.specs.Outcome.{Outcome, facts_passed, notes_passed}
 use Rattle.controller_model.specs.Packets.{notes_doing}
@@ -80,7 +82,7 @@ known_quiet false setup facts command quiet = quiet
 read_quiet : (setup : Setup) (facts : Facts) (read : CmdRead) → IsQuiet facts → IsQuiet (facts_commanded setup facts read)
 read_quiet setup facts (Known command) quiet =
     of_asking setup facts command IsQuiet (known_quiet (status_of facts.view command == 0) setup facts command quiet)
-    (λ asks left. (subst AreNone (sym (none_asked command facts.turn.begun 0 facts.links quiet.0)) quiet.0, left.1, left.2))
+    (λ asks left. (subst AreNone (sym (none_asked command (moment_of setup facts) 0 facts.links quiet.0)) quiet.0, left.1, left.2))
 read_quiet setup facts UnknownOpcode quiet = quiet
 read_quiet setup facts BadLength quiet = quiet
 
@@ -96,11 +98,11 @@ result_same : (other one : Facts) (octet : ℕ) → IsLike other one → result_
 result_same other one octet like = ap (λ (octets : List ℕ). result_of octets octet) like.octets_are
 
 -- nothing is asked of no links
-asked_alike : (other one : Facts) → IsLike other one → (command : Command)
-    → links_commanded command one.turn.begun one.links ≡ links_commanded command other.turn.begun other.links
-asked_alike other one like command =
-    none_asked command one.turn.begun 0 one.links like.none ∙ like.alike.links_are
-    ∙ sym (none_asked command other.turn.begun 0 other.links (subst AreNone like.alike.links_are like.none))
+asked_alike : (setup : Setup) (other one : Facts) → IsLike other one → (command : Command)
+    → links_commanded command (moment_of setup one) one.links ≡ links_commanded command (moment_of setup other) other.links
+asked_alike setup other one like command =
+    none_asked command (moment_of setup one) 0 one.links like.none ∙ like.alike.links_are
+    ∙ sym (none_asked command (moment_of setup other) 0 other.links (subst AreNone like.alike.links_are like.none))
 
 octet_like : (setup : Setup) (other one : Facts) (octet : ℕ) → IsLike other one
     → IsLike (facts_after setup other (HostOctet octet)) (facts_after setup one (HostOctet octet))
@@ -108,7 +110,7 @@ octet_like setup other one octet like =
     let fed = result_of one.octets octet in
     let after : Alike (facts_fed setup one fed) (facts_fed setup other (result_of other.octets octet)) =
     subst (λ (other_fed : Fed). Alike (facts_fed setup one fed) (facts_fed setup other other_fed)) (result_same other one octet like)
-    (fed_alike setup one other fed (asked_alike other one like) like.alike) in
+    (fed_alike setup one other fed (asked_alike setup other one like) like.alike) in
     let quiet = fed_quiet setup one fed (like.none, like.makes_none, like.nothing) in
     record {
       octets_are =
@@ -213,6 +215,17 @@ scanned_like other facts on like =
     scanned_alike : Alike (with_scanner on facts) other
     scanned_alike = record { view_is = like.alike.view_is; drawn_is = like.alike.drawn_is; links_are = like.alike.links_are }
 
+words_like : (setup : Setup) (other : Facts) (handle : ℕ) (facts : Facts) → IsLike other facts → IsLike other (facts_with_words setup handle facts)
+words_like setup other handle facts like =
+    let same = none_changed handle (link_after (WordsGiven _ _)) facts.links like.none in
+    record {
+      octets_are = like.octets_are;
+      alike = record { view_is = like.alike.view_is; drawn_is = like.alike.drawn_is; links_are = same ∙ like.alike.links_are };
+      none = subst AreNone (sym same) like.none;
+      nothing = like.nothing;
+      makes_none = like.makes_none;
+    }
+
 received_like : (other : Facts) (handle : ℕ) (room : Bool) (octets : List ℕ) (facts : Facts) → IsLike other facts
     → IsLike other (link_received handle room octets facts)
 received_like other handle room octets facts like =
@@ -220,10 +233,12 @@ received_like other handle room octets facts like =
     let slot = facts.turn.slot in
     let none = none_at handle facts.links like.none in
     let viewed : (link_received handle room octets facts).view ≡ facts.view =
-    λ i. fold view_noted facts.view (notes_taken slot room (none i) octets ++ notes_of_events facts.view (events_received handle slot room (none i) octets)) in
+    λ i. fold view_noted facts.view (notes_taken slot room (none i) octets ++ notes_of_events facts.view (events_received (was_encrypted handle facts.view.links) handle slot room (none i) octets)) in
+    let undrawn : (link_received handle room octets facts).drawn ≡ facts.drawn =
+    λ i. drawn_if (draws_in slot room (none i) octets) facts.drawn in
     record {
       octets_are = like.octets_are;
-      alike = record { view_is = viewed ∙ like.alike.view_is; drawn_is = like.alike.drawn_is; links_are = same ∙ like.alike.links_are };
+      alike = record { view_is = viewed ∙ like.alike.view_is; drawn_is = undrawn ∙ like.alike.drawn_is; links_are = same ∙ like.alike.links_are };
       none = subst AreNone (sym same) like.none;
       nothing = λ i. like.nothing i ++ piece_taken slot room (none i) octets;
       makes_none = like.makes_none;
@@ -269,7 +284,7 @@ phase_beside setup other facts like = record {
       let after = received_like other handle room octets facts like in (
         doing_like other (reply_if replies handle) (link_received handle room octets facts) (reply_makes replies handle) after,
         λ i. without_le_events ((notes_taken facts.turn.slot room (none_at handle facts.links like.none i) octets
-            ++ notes_of_events facts.view (events_received handle facts.turn.slot room (none_at handle facts.links like.none i) octets))
+            ++ notes_of_events facts.view (events_received (was_encrypted handle facts.view.links) handle facts.turn.slot room (none_at handle facts.links like.none i) octets))
             ++ none_noted (reply_if replies handle) (link_received handle room octets facts) after.none i),
       );
 }
@@ -295,6 +310,7 @@ grows setup least = record {
       does = λ doing facts may more. more;
     };
     reports = λ facts more. more;
+    words = λ handle facts listens more. more;
     passes = λ facts more. record {
       rests = more;
       awaits_request = λ channel doing. more;
@@ -355,7 +371,8 @@ beside_from setup other one (TurnBegins slot on ∷ past) like opened made =
 beside_from setup other one (PacketHeard octets ∷ past) like opened made =
     let next = facts_after setup one (PacketHeard octets) in
     let none = opened_in (notes_after setup one (PacketHeard octets)) (notes_from setup next past) opened in
-    let passed = heard_is setup one (IsBeside other) (phase_beside setup other one like) one.turn.doing octets refl none.0
+    let passed = heard_is setup one (IsBeside other) (phase_beside setup other one like) one.turn.doing octets refl
+    (λ handle. (phase_beside setup other (facts_with_words setup handle one) (words_like setup other handle one like)).received handle octets) none.0
     (none_made setup next past made) in
     phase_from setup other (notes_after setup one (PacketHeard octets)) next past passed.1 (beside_from setup other next past passed.0 none.1 made)
 beside_from setup other one (NothingHeard ∷ past) like opened made =

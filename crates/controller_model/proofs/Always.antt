@@ -39,14 +39,14 @@ use Rattle.link_commands.specs.open_links.declared.offers.Offer.{Offer}
 use Rattle.link_commands.specs.open_links.declared.offers.Offer.TheVariants.{NoLink, Empty, Overflow, Kept}
 use Rattle.link_commands.specs.open_links.Ended.{received_without}
 use Rattle.controller_model.specs.Data.{facts_ended_turn, facts_handed, facts_offered, offer_of}
-use Rattle.controller_model.specs.Heard.{opens}
+use Rattle.controller_model.specs.Heard.{opens, facts_with_words}
 use Rattle.controller_model.specs.Links.{ends_for, facts_ending, facts_leaving, facts_opened, facts_shut, facts_without, note_opened, radio_without, stopped}
 use Rattle.controller_model.specs.Outcome.{Outcome, facts_passed, goes_on}
 use Rattle.controller_model.specs.Packets.{facts_doing}
 use Rattle.controller_model.specs.Radio.{advertises_at, advertises_on, doing_held, doing_won, exchange_begins, exchange_if, facts_entering, facts_won, first_exchange, fixing, initiates_on, initiator_channel, links_fixing, outcome_begun, plan_in, radio_held, radio_served, scanner_channel, scans_on, second_exchange, served, served_if_on, slots_since, span_at, turn_begins, winner_served}
 use Rattle.controller_model.specs.Side.{facts_after, facts_fed, facts_of, result_of, with_octet}
 use Rattle.controller_model.proofs.Following.{entering_is, facts_at_events}
-use Rattle.controller_model.proofs.Phases.{EachOutcome, heard_is, unheard_is}
+use Rattle.controller_model.proofs.Phases.{EachOutcome, listening_is, unheard_is}
 use Rattle.link_commands.specs.open_links.Turns.{due_in, ending_in, links_without}
 use Rattle.controller_model.proofs.Asked.{facts_asked, of_asking}
 
@@ -306,6 +306,8 @@ pub record IsKeptInTurns (setup : Setup) (weak fact : Facts → Type 0) : Type 0
   pub starts : IsKeptAtStarts weak fact
   pub reports : (facts : Facts) → weak facts → weak (facts_handed facts)
   pub passes : (facts : Facts) → fact facts → EachOutcome setup facts (λ outcome. fact (facts_passed outcome))
+  -- a peripheral that is to hear is given words
+  pub words : (handle : ℕ) (facts : Facts) → facts.turn.doing ≡ PeripheralListens handle → fact facts → fact (facts_with_words setup handle facts)
 
 -- a packet of the host is kept
 abbrev pub facts_given : ℕ → Bool → List ℕ → Facts → Facts
@@ -410,7 +412,8 @@ module _ (setup : Setup) (weak fact : Facts → Type 0) (kept : IsKeptInTurns se
   turn_keeps facts (HostOctet octet) turn holds = absurd turn
   turn_keeps facts (TurnBegins slot on) turn holds = start_keeps weak fact kept.starts slot on facts holds
   turn_keeps facts (PacketHeard octets) turn holds =
-      heard_is setup facts (λ outcome. fact (facts_passed outcome)) (kept.passes facts holds) facts.turn.doing octets refl
+      listening_is setup facts (λ outcome. fact (facts_passed outcome)) (kept.passes facts holds) facts.turn.doing octets refl
+      (λ handle listens. (kept.passes (facts_with_words setup handle facts) (kept.words handle facts listens holds)).received handle octets)
   turn_keeps facts NothingHeard turn holds =
       unheard_is setup facts (λ outcome. fact (facts_passed outcome)) (kept.passes facts holds) facts.turn.doing refl
   turn_keeps facts TurnEnds turn holds =

@@ -10,7 +10,7 @@ use Rattle.ble_base.specs.declared.procedure_kinds.Kind.{Kind}
 use Rattle.ble_base.specs.declared.roles.Role.{Role}
 use Rattle.ble_base.specs.declared.roles.Role.TheVariants.{Central, Peripheral}
 use Rattle.hci_cmd.specs.declared.command.Command.{Command}
-use Rattle.hci_cmd.specs.declared.command.Command.TheVariants.{Disconnect, LeConnectionUpdate, LeCreateCancel, LeParamNegative, LeParamReply, LeReadRemoteFeatures, LeSetChannels, LeSetDataLength, ReadRemoteVersion, Reset}
+use Rattle.hci_cmd.specs.declared.command.Command.TheVariants.{Disconnect, LeConnectionUpdate, LeCreateCancel, LeEnableEncryption, LeKeyNegative, LeKeyReply, LeParamNegative, LeParamReply, LeReadRemoteFeatures, LeSetChannels, LeSetDataLength, ReadRemoteVersion, Reset}
 use Rattle.hci_cmd.specs.declared.command.CmdRead.TheVariants.{Known}
 use Rattle.host_view.specs.OnLinks.{asks_links}
 use Rattle.host_view.specs.Unbuilt.{status_of}
@@ -22,13 +22,15 @@ use Rattle.link_commands.specs.open_links.link_model.procedure_values.declared.a
 use Rattle.link_commands.specs.open_links.link_model.End.{notes_after as end_notes}
 use Rattle.link_commands.specs.open_links.link_model.Facts.{Facts as EndFacts}
 use Rattle.link_commands.specs.open_links.link_model.Setup.{Setup as EndSetup}
-use Rattle.link_commands.specs.open_links.link_model.Step.{Step as EndStep, ProcedureAsked, RequestAnswered, Disconnected}
+use Rattle.link_commands.specs.open_links.link_model.Step.{Step as EndStep, Disconnected, KeyAnswered, ProcedureAsked, RequestAnswered}
 use Rattle.link_commands.specs.open_links.OpenLinks.{HasHandle, HaveHandles, Links, OpenLink, facts_in, link_after, link_at, link_from}
+use Rattle.link_commands.proofs.open_links.KeyedLinks.{keyed_leaves}
 use Rattle.link_commands.proofs.open_links.Unmoved.{LeavesData, answered_leaves, asked_leaves, disconnected_leaves}
+use Rattle.link_commands.specs.declared.moments.Moment.{Moment}
 use Rattle.link_commands.specs.Commands.{ask_unless, host_step_of, is_about, map_by, step_if_about, step_on}
 use Rattle.link_commands.specs.LinksCommanded.{events_commanded_on, events_known_in, known_in, link_after_if, links_commanded, links_commanded_from, place_commanded, view_commanded_on, view_known_on}
 use Rattle.link_commands.specs.Views.{events_if, kind_known, view_answered}
-use Rattle.controller_model.specs.Commands.{events_caused, facts_accepted, facts_asking, facts_commanded, facts_known, is_asking, links_after, notes_asking, notes_before, notes_commanded, notes_known, received_after}
+use Rattle.controller_model.specs.Commands.{events_caused, facts_accepted, facts_asking, facts_commanded, facts_known, is_asking, links_after, moment_of, notes_asking, notes_before, notes_commanded, notes_known, received_after}
 use Rattle.controller_model.specs.Events.{notes_of_events}
 use Rattle.controller_model.specs.Facts.{Setup, Facts}
 use Rattle.controller_model.proofs.Following.{ChangesLinks, note_changes}
@@ -36,10 +38,12 @@ use Rattle.controller_model.proofs.ProcedureEvents.{AreOfProcedures, known_event
 
 -- ---- which steps a command makes
 
--- by which a host asks something of a link: for a procedure, for its answer to a request of the peer, or for its end
+-- by which a host asks something of a link: for a procedure, for its answer to a request of the peer or to one for a key,
+-- or for its end
 abbrev pub IsAskedStep : EndStep → Type 0
 IsAskedStep (ProcedureAsked ask) = ⊤
 IsAskedStep (RequestAnswered answer) = ⊤
+IsAskedStep (KeyAnswered key slot) = ⊤
 IsAskedStep (Disconnected reason slot) = ⊤
 IsAskedStep step = ⊥
 
@@ -51,130 +55,135 @@ map_is : (role : Role) (map : ℕ) → IfSome (map_by role map) IsAskedStep
 map_is Central map = tt
 map_is Peripheral map = tt
 
-step_is : (command : Command) (slot : ℕ) (role : Role) (peer : PeerFacts) → IfSome (host_step_of command slot role peer) IsAskedStep
-step_is (Disconnect handle reason) slot role peer = tt
-step_is (ReadRemoteVersion handle) slot role peer = unless_known (is_some peer.version) Version
-step_is (LeReadRemoteFeatures handle) slot role peer = unless_known (is_some peer.features) Features
-step_is (LeSetDataLength handle most time) slot role peer = tt
-step_is (LeConnectionUpdate handle min max latency timeout lengths) slot role peer = tt
-step_is (LeSetChannels map) slot role peer = map_is role map
-step_is (LeParamReply handle min max latency timeout lengths) slot role peer = tt
-step_is (LeParamNegative handle reason) slot role peer = tt
-step_is other slot role peer = tt
+step_is : (command : Command) (moment : Moment) (role : Role) (peer : PeerFacts) → IfSome (host_step_of command moment role peer) IsAskedStep
+step_is (Disconnect handle reason) moment role peer = tt
+step_is (ReadRemoteVersion handle) moment role peer = unless_known (is_some peer.version) Version
+step_is (LeReadRemoteFeatures handle) moment role peer = unless_known (is_some peer.features) Features
+step_is (LeSetDataLength handle most time) moment role peer = tt
+step_is (LeConnectionUpdate handle min max latency timeout lengths) moment role peer = tt
+step_is (LeSetChannels map) moment role peer = map_is role map
+step_is (LeParamReply handle min max latency timeout lengths) moment role peer = tt
+step_is (LeParamNegative handle reason) moment role peer = tt
+step_is (LeEnableEncryption handle rand ediv key) moment role peer = tt
+step_is (LeKeyReply handle key) moment role peer = tt
+step_is (LeKeyNegative handle) moment role peer = tt
+step_is other moment role peer = tt
 
 -- such a step notes nothing, and leaves the data of the link
 pub asked_silent : (step : EndStep) → IsAskedStep step → (setup : EndSetup) (facts : EndFacts) → end_notes setup facts step ≡ []
 asked_silent (ProcedureAsked ask) asks setup facts = refl
 asked_silent (RequestAnswered answer) asks setup facts = refl
+asked_silent (KeyAnswered key slot) asks setup facts = refl
 asked_silent (Disconnected reason slot) asks setup facts = refl
 asked_silent step asks setup facts = absurd asks
 
 pub asked_leaves_data : (step : EndStep) → IsAskedStep step → LeavesData step
 asked_leaves_data (ProcedureAsked ask) asks = asked_leaves ask
 asked_leaves_data (RequestAnswered answer) asks = answered_leaves answer
+asked_leaves_data (KeyAnswered key slot) asks = keyed_leaves key slot
 asked_leaves_data (Disconnected reason slot) asks = disconnected_leaves reason slot
 asked_leaves_data step asks = absurd asks
 
 -- ---- the links after it
 
 -- what a command asks of a link, if it is about it
-abbrev pub step_asked : Bool → Command → ℕ → OpenLink → Option EndStep
-step_asked about command slot link = step_if_about about (host_step_of command slot link.setup.link.role (facts_in link).peer)
+abbrev pub step_asked : Bool → Command → Moment → OpenLink → Option EndStep
+step_asked about command moment link = step_if_about about (host_step_of command moment link.setup.link.role (facts_in link).peer)
 
 -- a fact of a place, as the link there stays as it is or takes a step that its host asks
-pub place_asked : (P : Option OpenLink → Type 0) (command : Command) (slot : ℕ) (about : Bool) (place : Option OpenLink) → P place
-    → ((link : OpenLink) (step : EndStep) → place ≡ Some link → step_asked about command slot link ≡ Some step → IsAskedStep step
+pub place_asked : (P : Option OpenLink → Type 0) (command : Command) (moment : Moment) (about : Bool) (place : Option OpenLink) → P place
+    → ((link : OpenLink) (step : EndStep) → place ≡ Some link → step_asked about command moment link ≡ Some step → IsAskedStep step
     → P (Some (link_after step link)))
-    → P (place_commanded about command slot place)
-place_asked P command slot false place holds asked = holds
-place_asked P command slot true None holds asked = holds
-place_asked P command slot true (Some link) holds asked =
-    by (step_asked true command slot link) refl (step_is command slot link.setup.link.role (facts_in link).peer)
+    → P (place_commanded about command moment place)
+place_asked P command moment false place holds asked = holds
+place_asked P command moment true None holds asked = holds
+place_asked P command moment true (Some link) holds asked =
+    by (step_asked true command moment link) refl (step_is command moment link.setup.link.role (facts_in link).peer)
   where
-    by : (step : Option EndStep) → step_asked true command slot link ≡ step → IfSome step IsAskedStep → P (Some (link_after_if step link))
+    by : (step : Option EndStep) → step_asked true command moment link ≡ step → IfSome step IsAskedStep → P (Some (link_after_if step link))
     by None is of = holds
     by (Some step) is of = asked link step refl is of
 
-asked_from : (command : Command) (slot first handle : ℕ) (links : Links)
-    → link_from first handle (links_commanded_from first command slot links)
-    ≡ place_commanded (is_about handle command) command slot (link_from first handle links)
-asked_from command slot first handle [] = none (is_about handle command)
+asked_from : (command : Command) (moment : Moment) (first handle : ℕ) (links : Links)
+    → link_from first handle (links_commanded_from first command moment links)
+    ≡ place_commanded (is_about handle command) command moment (link_from first handle links)
+asked_from command moment first handle [] = none (is_about handle command)
   where
-    none : (about : Bool) → None ≡ place_commanded about command slot None
+    none : (about : Bool) → None ≡ place_commanded about command moment None
     none true = refl
     none false = refl
-asked_from command slot first handle (place ∷ links) = by (first == handle) refl (asked_from command slot (first + 1) handle links)
+asked_from command moment first handle (place ∷ links) = by (first == handle) refl (asked_from command moment (first + 1) handle links)
   where
     by : (same : Bool) → (first == handle) ≡ same
-        → link_from (first + 1) handle (links_commanded_from (first + 1) command slot links)
-        ≡ place_commanded (is_about handle command) command slot (link_from (first + 1) handle links)
-        → (if same then place_commanded (is_about first command) command slot place
-        else link_from (first + 1) handle (links_commanded_from (first + 1) command slot links))
-        ≡ place_commanded (is_about handle command) command slot (if same then place else link_from (first + 1) handle links)
-    by true is rest = ap (λ (h : ℕ). place_commanded (is_about h command) command slot place) (eqb-true first handle is)
+        → link_from (first + 1) handle (links_commanded_from (first + 1) command moment links)
+        ≡ place_commanded (is_about handle command) command moment (link_from (first + 1) handle links)
+        → (if same then place_commanded (is_about first command) command moment place
+        else link_from (first + 1) handle (links_commanded_from (first + 1) command moment links))
+        ≡ place_commanded (is_about handle command) command moment (if same then place else link_from (first + 1) handle links)
+    by true is rest = ap (λ (h : ℕ). place_commanded (is_about h command) command moment place) (eqb-true first handle is)
     by false is rest = rest
 
-pub asked_at : (command : Command) (slot handle : ℕ) (links : Links)
-    → link_at handle (links_commanded command slot links) ≡ place_commanded (is_about handle command) command slot (link_at handle links)
-asked_at command slot handle links = asked_from command slot 0 handle links
+pub asked_at : (command : Command) (moment : Moment) (handle : ℕ) (links : Links)
+    → link_at handle (links_commanded command moment links) ≡ place_commanded (is_about handle command) command moment (link_at handle links)
+asked_at command moment handle links = asked_from command moment 0 handle links
 
 -- a fact of what is under a handle
-pub at_asked : (P : Option OpenLink → Type 0) (command : Command) (slot handle : ℕ) (links : Links) → P (link_at handle links)
+pub at_asked : (P : Option OpenLink → Type 0) (command : Command) (moment : Moment) (handle : ℕ) (links : Links) → P (link_at handle links)
     → ((link : OpenLink) (step : EndStep) → link_at handle links ≡ Some link
-    → step_on handle command slot link.setup.link.role (facts_in link).peer ≡ Some step → IsAskedStep step → P (Some (link_after step link)))
-    → P (link_at handle (links_commanded command slot links))
-at_asked P command slot handle links holds asked =
-    subst P (sym (asked_at command slot handle links)) (place_asked P command slot (is_about handle command) (link_at handle links) holds asked)
+    → step_on handle command moment link.setup.link.role (facts_in link).peer ≡ Some step → IsAskedStep step → P (Some (link_after step link)))
+    → P (link_at handle (links_commanded command moment links))
+at_asked P command moment handle links holds asked =
+    subst P (sym (asked_at command moment handle links)) (place_asked P command moment (is_about handle command) (link_at handle links) holds asked)
 
 -- a fact that each such step keeps: of what is under a handle, and of each place
 pub at_kept : (P : Option OpenLink → Type 0)
     → ((link : OpenLink) (step : EndStep) → IsAskedStep step → P (Some link) → P (Some (link_after step link)))
-    → (command : Command) (slot handle : ℕ) (links : Links) → P (link_at handle links) → P (link_at handle (links_commanded command slot links))
-at_kept P keeps command slot handle links holds =
-    at_asked P command slot handle links holds (λ link step is asked asks. keeps link step asks (subst P is holds))
+    → (command : Command) (moment : Moment) (handle : ℕ) (links : Links) → P (link_at handle links) → P (link_at handle (links_commanded command moment links))
+at_kept P keeps command moment handle links holds =
+    at_asked P command moment handle links holds (λ link step is asked asks. keeps link step asks (subst P is holds))
 
 pub all_asked : (P : Option OpenLink → Type 0)
     → ((link : OpenLink) (step : EndStep) → IsAskedStep step → P (Some link) → P (Some (link_after step link)))
-    → (command : Command) (slot first : ℕ) (links : Links) → AllByRecursion P links → AllByRecursion P (links_commanded_from first command slot links)
-all_asked P keeps command slot first [] are = tt
-all_asked P keeps command slot first (place ∷ links) are = (
-  place_asked P command slot (is_about first command) place are.0 (λ link step is asked asks. keeps link step asks (subst P is are.0)),
-  all_asked P keeps command slot (first + 1) links are.1,
+    → (command : Command) (moment : Moment) (first : ℕ) (links : Links) → AllByRecursion P links → AllByRecursion P (links_commanded_from first command moment links)
+all_asked P keeps command moment first [] are = tt
+all_asked P keeps command moment first (place ∷ links) are = (
+  place_asked P command moment (is_about first command) place are.0 (λ link step is asked asks. keeps link step asks (subst P is are.0)),
+  all_asked P keeps command moment (first + 1) links are.1,
 )
 
 -- what each place is mapped to, where such a step leaves that
 pub asked_same : {A : Type 0} (part : Option OpenLink → A)
     → ((link : OpenLink) (step : EndStep) → IsAskedStep step → part (Some (link_after step link)) ≡ part (Some link))
-    → (command : Command) (slot first : ℕ) (links : Links) → map part (links_commanded_from first command slot links) ≡ map part links
-asked_same part keeps command slot first [] = refl
-asked_same part keeps command slot first (place ∷ links) =
-    λ i. here i ∷ asked_same part keeps command slot (first + 1) links i
+    → (command : Command) (moment : Moment) (first : ℕ) (links : Links) → map part (links_commanded_from first command moment links) ≡ map part links
+asked_same part keeps command moment first [] = refl
+asked_same part keeps command moment first (place ∷ links) =
+    λ i. here i ∷ asked_same part keeps command moment (first + 1) links i
   where
-    here : part (place_commanded (is_about first command) command slot place) ≡ part place
+    here : part (place_commanded (is_about first command) command moment place) ≡ part place
     here =
-        place_asked (λ now. part now ≡ part place) command slot (is_about first command) place refl
+        place_asked (λ now. part now ≡ part place) command moment (is_about first command) place refl
         (λ link step is asked asks. keeps link step asks ∙ ap part (sym is))
 
 -- there are as many places, each link is under its handle, and a free handle is free
-many_from : (command : Command) (slot first : ℕ) (links : Links) → length (links_commanded_from first command slot links) ≡ length links
-many_from command slot first [] = refl
-many_from command slot first (place ∷ links) = ap suc (many_from command slot (first + 1) links)
+many_from : (command : Command) (moment : Moment) (first : ℕ) (links : Links) → length (links_commanded_from first command moment links) ≡ length links
+many_from command moment first [] = refl
+many_from command moment first (place ∷ links) = ap suc (many_from command moment (first + 1) links)
 
-pub asked_many : (command : Command) (slot : ℕ) (links : Links) → length (links_commanded command slot links) ≡ length links
-asked_many command slot links = many_from command slot 0 links
+pub asked_many : (command : Command) (moment : Moment) (links : Links) → length (links_commanded command moment links) ≡ length links
+asked_many command moment links = many_from command moment 0 links
 
-pub asked_handles : (command : Command) (slot first : ℕ) (links : Links) → HaveHandles first links
-    → HaveHandles first (links_commanded_from first command slot links)
-asked_handles command slot first [] have = tt
-asked_handles command slot first (place ∷ links) have = (
-  place_asked (HasHandle first) command slot (is_about first command) place have.0 (λ link step is asked asks. subst (HasHandle first) is have.0),
-  asked_handles command slot (first + 1) links have.1,
+pub asked_handles : (command : Command) (moment : Moment) (first : ℕ) (links : Links) → HaveHandles first links
+    → HaveHandles first (links_commanded_from first command moment links)
+asked_handles command moment first [] have = tt
+asked_handles command moment first (place ∷ links) have = (
+  place_asked (HasHandle first) command moment (is_about first command) place have.0 (λ link step is asked asks. subst (HasHandle first) is have.0),
+  asked_handles command moment (first + 1) links have.1,
 )
 
-pub asked_none : (command : Command) (slot handle : ℕ) (links : Links) → link_at handle links ≡ None
-    → link_at handle (links_commanded command slot links) ≡ None
-asked_none command slot handle links none =
-    at_asked (λ (place : Option OpenLink). place ≡ None) command slot handle links none (λ link step is asked asks. absurd cc)
+pub asked_none : (command : Command) (moment : Moment) (handle : ℕ) (links : Links) → link_at handle links ≡ None
+    → link_at handle (links_commanded command moment links) ≡ None
+asked_none command moment handle links none =
+    at_asked (λ (place : Option OpenLink). place ≡ None) command moment handle links none (λ link step is asked asks. absurd cc)
 
 -- ---- the view after it
 
@@ -202,11 +211,11 @@ asked_view_is view command links = known_changes (view_after view command) comma
 abbrev pub facts_asked : Setup → Facts → Command → Facts
 facts_asked setup facts command = record (facts_accepted setup facts command) {
   view = view_asked facts.view command facts.links;
-  links = links_commanded command facts.turn.begun facts.links;
+  links = links_commanded command (moment_of setup facts) facts.links;
 }
 
 asking_is : (setup : Setup) (facts : Facts) (command : Command)
-    → facts_asking true facts command (facts_accepted setup facts command) ≡ facts_asked setup facts command
+    → facts_asking true setup facts command (facts_accepted setup facts command) ≡ facts_asked setup facts command
 asking_is setup facts command =
     ap (λ (view : View). record (facts_asked setup facts command) { view = view }) (asked_view_is facts.view command facts.links)
 
@@ -285,7 +294,7 @@ module _ (setup : Setup) (facts : Facts) (command : Command) where
   of_asking P holds asked = by accepts (asks_links facts.view command) refl refl holds
     where
       by : (accepts asks : Bool) → (status_of facts.view command == 0) ≡ accepts → asks_links facts.view command ≡ asks
-          → P (facts_known accepts setup facts command) → P (facts_asking (accepts && asks) facts command (facts_known accepts setup facts command))
+          → P (facts_known accepts setup facts command) → P (facts_asking (accepts && asks) setup facts command (facts_known accepts setup facts command))
       by true true takes asks holds =
           subst P (sym (asking_is setup facts command)) (asked (λ i. takes i && asks i) holds)
       by true false takes asks holds = holds
@@ -309,7 +318,7 @@ module _ (setup : Setup) (facts : Facts) (command : Command) where
     where
       by : (accepts asks : Bool) → (status_of facts.view command == 0) ≡ accepts → asks_links facts.view command ≡ asks
           → P (facts_known accepts setup facts command) (notes_known accepts setup facts opcode command)
-          → P (facts_asking (accepts && asks) facts command (facts_known accepts setup facts command))
+          → P (facts_asking (accepts && asks) setup facts command (facts_known accepts setup facts command))
           (notes_asking (accepts && asks) facts command (notes_known accepts setup facts opcode command))
       by true true takes asks holds =
           subst (λ (after : Facts). P after (notes_known true setup facts opcode command ++ notes_at_once facts command))
@@ -324,6 +333,6 @@ pub refused_leaves : (setup : Setup) (facts : Facts) (command : Command) → (st
 refused_leaves setup facts command refused = by (status_of facts.view command == 0) refl
   where
     by : (accepted : Bool) → (status_of facts.view command == 0) ≡ accepted
-        → facts_asking (accepted && asks_links facts.view command) facts command (facts_known accepted setup facts command) ≡ facts
+        → facts_asking (accepted && asks_links facts.view command) setup facts command (facts_known accepted setup facts command) ≡ facts
     by true is = absurd (refused (eqb-true (status_of facts.view command) 0 is))
     by false is = refl

@@ -23,7 +23,7 @@ use Rattle.link_commands.specs.open_links.OpenLinks.{Links, OpenLink, facts_in, 
 use Rattle.link_commands.specs.open_links.Turns.{ending_in, links_without, staying_by}
 use Rattle.controller_model.specs.Step.{Step, HostOctet, TurnBegins, PacketHeard, NothingHeard, TurnEnds}
 use Rattle.controller_model.specs.Facts.{Setup, Facts, first_facts}
-use Rattle.controller_model.specs.Commands.{facts_commanded, facts_known, links_after, received_after}
+use Rattle.controller_model.specs.Commands.{facts_commanded, facts_known, links_after, moment_of, received_after}
 use Rattle.link_commands.specs.open_links.declared.ended.LinkEnded.{LinkEnded}
 use Rattle.link_commands.specs.open_links.declared.offers.Offer.{Offer}
 use Rattle.link_commands.specs.open_links.declared.offers.Offer.TheVariants.{NoLink, Empty, Overflow, Kept}
@@ -135,7 +135,7 @@ read_settled setup facts (Known command) settled =
     of_asking setup facts command IsSettled (known_settled (status_of facts.view command == 0) setup facts command settled)
     (λ asks left. record {
       received = left.received;
-      reported = all_asked IsReported asked_reported command facts.turn.begun 0 facts.links settled.reported;
+      reported = all_asked IsReported asked_reported command (moment_of setup facts) 0 facts.links settled.reported;
     })
 read_settled setup facts UnknownOpcode settled = settled
 read_settled setup facts BadLength settled = settled

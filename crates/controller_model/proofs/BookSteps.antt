@@ -1,10 +1,10 @@
 -- Each step of a controller keeps the book of a handle.
-use Rattle.std.proofs.Common.{ℕ, Bool, true, false, Option, Some, None, List, ◌++◌, refl, sym, subst}
+use Rattle.std.proofs.Common.{ℕ, Bool, true, false, Option, Some, None, List, ◌++◌, refl, sym, subst, IfSome}
 use Rattle.std.specs.Prelude.{filter}
 use Rattle.std.specs.Option.{option_map}
 use Rattle.acl_banks.specs.declared.pieces.Piece.{Piece}
 use Rattle.ble_base.specs.declared.notes.Note.{Note}
-use Rattle.link_commands.specs.open_links.link_model.Step.{Step as EndStep, EventEntered, PduFixed, PacketSent, PacketReceived, RequestAnswered}
+use Rattle.link_commands.specs.open_links.link_model.Step.{Step as EndStep, EventEntered, PduFixed, PacketSent, PacketReceived}
 use Rattle.link_commands.specs.open_links.OpenLinks.{Links, OpenLink, HaveHandles, link_after, link_at, link_served, with_change}
 use Rattle.link_commands.specs.open_links.Turns.{entered_if, enters_in, link_entered}
 use Rattle.link_commands.proofs.open_links.Handles.{changed_is, has_its_handle, other_stays}
@@ -17,7 +17,7 @@ use Rattle.controller_model.specs.Packets.{links_sending, notes_doing, notes_sen
 use Rattle.controller_model.specs.Radio.{links_fixing}
 use Rattle.controller_model.specs.Since.{is_piece_on}
 use Rattle.controller_model.proofs.Books.{Fact, IsBook, IsBookAfter, IsKeptInBook, IsSilent, by_handle, elsewhere_kept, elsewhere_sent, elsewhere_took, others_noted, received_book, sent_book, served_book, silent_book}
-use Rattle.controller_model.proofs.Places.{at_changed, refusal}
+use Rattle.controller_model.proofs.Places.{at_changed}
 use Rattle.controller_model.specs.Entering.{all_entered}
 
 module _ (most handle : ℕ) (fact : Fact) (kept : IsKeptInBook most handle fact) where
@@ -81,11 +81,11 @@ module _ (most handle : ℕ) (fact : Fact) (kept : IsKeptInBook most handle fact
       (others_noted most handle fact kept (link_at handle links) (filter (is_piece_on handle) received) since count notes
       (elsewhere_took most handle fact kept slot room octets (link_at other links) other has differs) book)))
 
-  pub refusing_at : (refuses : Bool) (other : ℕ) (links : Links) (waiting : List (ℕ × Piece)) (since : List Note) (count : ℕ)
+  pub refusing_at : (refusal : Option EndStep) → IfSome refusal IsSilent → (other : ℕ) (links : Links) (waiting : List (ℕ × Piece)) (since : List Note) (count : ℕ)
       → IsBook most handle fact (link_at handle links) waiting since count
-      → IsBook most handle fact (link_at handle (links_refusing refuses other links)) waiting since count
-  refusing_at true other links waiting since count book = silent_at (RequestAnswered refusal) other links waiting since count tt book
-  refusing_at false other links waiting since count book = book
+      → IsBook most handle fact (link_at handle (links_refusing refusal other links)) waiting since count
+  refusing_at (Some step) silent other links waiting since count book = silent_at step other links waiting since count silent book
+  refusing_at None silent other links waiting since count book = book
 
   -- ---- what is done next
 

@@ -16,7 +16,7 @@ use Rattle.link_commands.specs.open_links.link_model.Facts.{Facts as EndFacts}
 use Rattle.link_commands.specs.open_links.link_model.Packets.{good_pdu}
 use Rattle.link_commands.specs.open_links.link_model.Verdicts.{pdu_of}
 use Rattle.link_commands.specs.open_links.link_model.Setup.{Setup as EndSetup}
-use Rattle.link_commands.specs.open_links.link_model.Step.{Step as EndStep, DataGiven, ProcedureAsked, RequestAnswered, Disconnected, EventEntered, PduFixed, PacketSent, PacketReceived, DataReported}
+use Rattle.link_commands.specs.open_links.link_model.Step.{Step as EndStep, DataGiven, ProcedureAsked, KeyAnswered, RequestAnswered, Disconnected, EventEntered, PduFixed, PacketSent, PacketReceived, DataReported, WordsGiven}
 use Rattle.link_commands.specs.open_links.link_model.End.{facts_of as end_facts, notes_after as end_notes}
 use Rattle.link_commands.specs.open_links.link_model.Receiving.{accepts, facts_before_taking}
 use Rattle.link_commands.specs.open_links.link_model.Kept.{kept_from, kept_of}
@@ -37,9 +37,11 @@ abbrev pub IsSilent : EndStep → Type 0
 IsSilent (DataGiven start body) = ⊤
 IsSilent (ProcedureAsked ask) = ⊤
 IsSilent (RequestAnswered answer) = ⊤
+IsSilent (KeyAnswered key slot) = ⊤
 IsSilent (Disconnected reason slot) = ⊤
 IsSilent (EventEntered slot) = ⊤
 IsSilent PduFixed = ⊤
+IsSilent (WordsGiven skd_s iv_s) = ⊤
 IsSilent step = ⊥
 
 -- of what its end is set up with, what happened to it, the pieces that it took and the host has not received, what was

@@ -1,5 +1,5 @@
 -- At any time a controller keeps the book of each handle.
-use Rattle.std.proofs.Common.{◌≡◌, ℕ, zero, suc, ◌+◌, ◌<◌, ◌==◌, Bool, true, false, Option, Some, None, List, [], ◌∷◌, ◌++◌, length, map, cond, refl, sym, subst, append-nil, arith}
+use Rattle.std.proofs.Common.{◌≡◌, ℕ, zero, suc, ◌+◌, ◌<◌, ◌==◌, Bool, true, false, Option, Some, None, List, [], ◌∷◌, ◌++◌, length, map, cond, refl, sym, subst, append-nil, arith, IfSome}
 use Rattle.std.specs.Prelude.{◌&&◌, ◌||◌, filter, fold, nat_lt, replicate}
 use Rattle.std.proofs.lemmas.Bool.{eq-eqb, eqb-true}
 use Rattle.std.proofs.lemmas.List.Sums.{fold-append}
@@ -14,13 +14,14 @@ use Rattle.hci_cmd.specs.declared.command.CmdRead.{CmdRead}
 use Rattle.hci_cmd.specs.declared.command.CmdRead.TheVariants.{Known, UnknownOpcode, BadLength}
 use Rattle.hci_cmd.specs.Command.{command_of}
 use Rattle.hci_evt.specs.declared.event.Event.TheVariants.{BufferOverflow, HardwareError}
+use Rattle.host_view.specs.Links.{was_encrypted}
 use Rattle.host_view.specs.Unbuilt.{status_of}
 use Rattle.adv_pdu.specs.declared.pdu.AdvPdu.{AdvPdu}
 use Rattle.host_view.specs.scan_init.Reports.{ScannerFacts, does_ask, scan_answer}
 use Rattle.slot_plan.specs.declared.Activity.{Activity}
 use Rattle.slot_plan.specs.declared.Activity.TheVariants.{Link, Advertise, Scan, Initiate}
 use Rattle.link_commands.specs.open_links.link_model.declared.setup.LinkSetup.{LinkSetup}
-use Rattle.link_commands.specs.open_links.link_model.Step.{Step as EndStep, DataGiven, Disconnected, PacketReceived, ProcedureAsked, RequestAnswered}
+use Rattle.link_commands.specs.open_links.link_model.Step.{Step as EndStep, DataGiven, Disconnected, KeyAnswered, PacketReceived, ProcedureAsked, RequestAnswered, WordsGiven}
 use Rattle.link_commands.specs.open_links.declared.offers.Offer.{Offer}
 use Rattle.link_commands.specs.open_links.declared.offers.Offer.TheVariants.{Empty, Overflow, Kept}
 use Rattle.link_commands.specs.open_links.Offered.{buffer_octets}
@@ -30,11 +31,11 @@ use Rattle.link_commands.specs.open_links.Turns.{due_in, ending_in}
 use Rattle.controller_model.specs.declared.doing.Doing.{Doing}
 use Rattle.controller_model.specs.Step.{Step, HostOctet, TurnBegins, PacketHeard, NothingHeard, TurnEnds}
 use Rattle.controller_model.specs.Facts.{Setup, Facts, first_facts}
-use Rattle.controller_model.specs.Commands.{facts_accepted, facts_commanded, facts_known, is_asking, links_after, notes_commanded, received_after}
+use Rattle.controller_model.specs.Commands.{facts_accepted, facts_commanded, facts_known, is_asking, links_after, moment_of, notes_commanded, received_after}
 use Rattle.controller_model.specs.Data.{event_completed, facts_ended_turn, facts_handed, facts_offered, note_received, notes_ended_turn, notes_handed, notes_offered, is_full}
 use Rattle.controller_model.specs.Entering.{notes_all_entering}
 use Rattle.controller_model.specs.Events.{notes_of_events}
-use Rattle.controller_model.specs.Heard.{asks_if, events_received, events_reported, has_room, link_heard, link_received, link_taken, notes_taken, opens, replies_in, reply_if, scanner_after, with_scanner}
+use Rattle.controller_model.specs.Heard.{asks_if, events_received, events_reported, has_room, link_heard, link_received, link_taken, notes_taken, opens, replies_in, reply_if, scanner_after, with_scanner, facts_with_words}
 use Rattle.controller_model.specs.Links.{ends_for, facts_ending, notes_ending, notes_leaving, notes_opened}
 use Rattle.controller_model.specs.Outcome.{facts_passed, notes_passed}
 use Rattle.controller_model.specs.Packets.{facts_doing, notes_doing}
@@ -45,10 +46,10 @@ use Rattle.controller_model.proofs.Always.{facts_ended, holds_step, leaving_is, 
 use Rattle.controller_model.proofs.BookEnds.{ending_book, handing_book, opening_book, reporting_book}
 use Rattle.controller_model.proofs.Books.{Fact, IsBook, IsBookAfter, IsKeptInBook, IsSilent, and_then, by_handle, is_not, one_more, others_noted, silent_book}
 use Rattle.controller_model.proofs.BookSteps.{doing_at, entering_at, fixing_at, received_at, refusing_at, served_at, silent_at}
-use Rattle.controller_model.proofs.Handles.{HaveOwnHandles, IsNew, free_is_new, handles_kept, receiving_opens}
+use Rattle.controller_model.proofs.Handles.{HaveOwnHandles, IsNew, free_is_new, handles_kept, receiving_opens, words_own}
 use Rattle.controller_model.proofs.OtherNotes.{both_other, command_other, completed_other, ends_other, entering_other, events_other, procedures_other, reporting_other}
 use Rattle.controller_model.proofs.Phases.{EachOutcome, heard_is, unheard_is}
-use Rattle.controller_model.proofs.Places.{refuses_at}
+use Rattle.controller_model.proofs.Places.{refusal_at, refusal_is}
 use Rattle.controller_model.proofs.ProcedureEvents.{reception_events}
 use Rattle.controller_model.proofs.PiecesBelow.{AreBelow, ArePieces, first_pieces, pieces_kept}
 use Rattle.controller_model.proofs.Asked.{IsAskedStep, asking_leaves, at_kept, facts_asked, of_asking}
@@ -182,6 +183,18 @@ module _ (handle : ℕ) (fact : Fact) (setup : Setup) (kept : IsKeptInBook setup
       (others_noted most handle fact kept (link_at handle facts.links) (filter (is_piece_on handle) facts.received) since count notes
       (reporting_other most handle answer pdu facts.view) book)
 
+  -- what a host asks is noted nowhere
+  asks_in_silence : (step : EndStep) → IsAskedStep step → IsSilent step
+  asks_in_silence (ProcedureAsked ask) asks = tt
+  asks_in_silence (RequestAnswered answer) asks = tt
+  asks_in_silence (KeyAnswered key slot) asks = tt
+  asks_in_silence (Disconnected reason slot) asks = tt
+  asks_in_silence step asks = absurd asks
+
+  silent_if : (step : Option EndStep) → IfSome step IsAskedStep → IfSome step IsSilent
+  silent_if None asks = tt
+  silent_if (Some step) asks = asks_in_silence step asks
+
   heard_book : (other : ℕ) (octets : List ℕ) (facts : Facts) (since : List Note) (count : ℕ) → HaveOwnHandles setup facts
       → IsBookOf most handle fact facts since count
       → IsBookOfAfter most handle fact (facts_passed (link_heard setup other octets facts)) since count (notes_passed (link_heard setup other octets facts))
@@ -190,10 +203,11 @@ module _ (handle : ℕ) (fact : Fact) (setup : Setup) (kept : IsKeptInBook setup
       let room = has_room setup facts in
       let place = link_at other facts.links in
       let taken = notes_taken slot room place octets in
-      let events = events_received other slot room place octets in
+      let events = events_received (was_encrypted other facts.view.links) other slot room place octets in
       let after = link_received other room octets facts in
       let waiting = filter (is_piece_on handle) after.received in
-      let heard = refusing_at most handle fact kept (refuses_at other room octets facts) other
+      let heard = refusing_at most handle fact kept (refusal_at other room octets facts)
+      (silent_if (refusal_at other room octets facts) (refusal_is other room octets facts)) other
       (with_change other (link_after (PacketReceived slot octets room)) facts.links) waiting (fold (note_since handle) since taken)
       (fold (count_since handle) count taken)
       (received_at most handle fact kept slot room octets other facts.links facts.received since count own.handles book) in
@@ -202,7 +216,7 @@ module _ (handle : ℕ) (fact : Fact) (setup : Setup) (kept : IsKeptInBook setup
       (and_then most handle fact kept (link_at handle after.links) waiting since count taken (notes_of_events facts.view events)
       (others_noted most handle fact kept (link_at handle after.links) waiting (fold (note_since handle) since taken)
       (fold (count_since handle) count taken) (notes_of_events facts.view events)
-      (procedures_other most handle facts.view events (reception_events other slot room place octets)) heard))
+      (procedures_other most handle facts.view events (reception_events (was_encrypted other facts.view.links) other slot room place octets)) heard))
 
   phase_book : (facts : Facts) (since : List Note) (count : ℕ) → HaveOwnHandles setup facts → IsBookOf most handle fact facts since count
       → EachOutcome setup facts (λ outcome. IsBookOfAfter most handle fact (facts_passed outcome) since count (notes_passed outcome))
@@ -256,12 +270,6 @@ module _ (handle : ℕ) (fact : Fact) (setup : Setup) (kept : IsKeptInBook setup
 
   -- ---- an octet of the host
 
-  asks_in_silence : (step : EndStep) → IsAskedStep step → IsSilent step
-  asks_in_silence (ProcedureAsked ask) asks = tt
-  asks_in_silence (RequestAnswered answer) asks = tt
-  asks_in_silence (Disconnected reason slot) asks = tt
-  asks_in_silence step asks = absurd asks
-
   none_left : (links : Links) (first : ℕ) → link_from first handle (without_links links) ≡ None
   none_left [] first = refl
   none_left (place ∷ links) first = at (first == handle) (none_left links (first + 1))
@@ -289,7 +297,7 @@ module _ (handle : ℕ) (fact : Fact) (setup : Setup) (kept : IsKeptInBook setup
       let waiting = filter (is_piece_on handle) (received_after command facts.received) in
       at_kept (λ (place : Option OpenLink). IsBook most handle fact place waiting since count)
       (λ link step asks book. silent_book most handle fact kept step (Some link) waiting since count (asks_in_silence step asks) book)
-      command facts.turn.begun handle facts.links
+      command (moment_of setup facts) handle facts.links
       (subst (λ (links : Links). IsBook most handle fact (link_at handle links) waiting since count) (asking_leaves facts command asks) book)
 
   commanded_book : (read : CmdRead) (facts : Facts) (since : List Note) (count : ℕ) → IsBookOf most handle fact facts since count
@@ -402,6 +410,8 @@ module _ (handle : ℕ) (fact : Fact) (setup : Setup) (kept : IsKeptInBook setup
   step_book facts (PacketHeard octets) since count own below book =
       heard_is setup facts (λ outcome. IsBookOfAfter most handle fact (facts_passed outcome) since count (notes_passed outcome))
       (phase_book facts since count own book) facts.turn.doing octets refl
+      (λ other. (phase_book (facts_with_words setup other facts) since count (words_own setup other facts own)
+      (silent_at most handle fact kept (WordsGiven _ _) other facts.links (filter (is_piece_on handle) facts.received) since count tt book)).received other octets)
   step_book facts NothingHeard since count own below book =
       unheard_is setup facts (λ outcome. IsBookOfAfter most handle fact (facts_passed outcome) since count (notes_passed outcome))
       (phase_book facts since count own book) facts.turn.doing refl

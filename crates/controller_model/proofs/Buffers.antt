@@ -1,5 +1,5 @@
 -- A controller holds no more packets of its host, and no more pieces for it, than it has buffers.
-use Rattle.std.proofs.Common.{◌≡◌, ℕ, zero, suc, ◌+◌, ◌≤◌, ◌==◌, Bool, true, false, Option, Some, None, List, [], ◌∷◌, length, map, replicate, cond, refl, ap, sym, subst, length-append, arith}
+use Rattle.std.proofs.Common.{◌≡◌, ℕ, zero, suc, ◌+◌, ◌≤◌, ◌==◌, Bool, true, false, Option, Some, None, List, [], ◌∷◌, length, map, replicate, cond, refl, ap, sym, subst, length-append, arith, IfSome}
 use Rattle.std.specs.Prelude.{◌||◌, ◌&&◌, filter, is_some, nat_lt, not}
 use Rattle.std.specs.List.{find}
 use Rattle.std.specs.Option.{option_map}
@@ -41,10 +41,11 @@ use Rattle.link_commands.specs.open_links.Turns.{entered_if, enters_in, link_ent
 use Rattle.controller_model.specs.declared.doing.Doing.{Doing}
 use Rattle.controller_model.specs.declared.doing.Doing.TheVariants.{Advertises, CentralSends, PeripheralListens, PeripheralSends, Rests}
 use Rattle.link_commands.specs.Commands.{is_about}
+use Rattle.link_commands.specs.declared.moments.Moment.{Moment}
 use Rattle.link_commands.specs.LinksCommanded.{links_commanded, links_commanded_from, place_commanded}
 use Rattle.controller_model.specs.Step.{Step}
 use Rattle.controller_model.specs.Facts.{Setup, Facts}
-use Rattle.controller_model.specs.Commands.{links_after, received_after}
+use Rattle.controller_model.specs.Commands.{links_after, moment_of, received_after}
 use Rattle.link_commands.specs.open_links.declared.offers.Offer.TheVariants.{Kept, Empty, Overflow}
 use Rattle.link_commands.specs.open_links.Data.{offer_by, received_past}
 use Rattle.link_commands.specs.open_links.Ended.{received_without}
@@ -55,7 +56,7 @@ use Rattle.controller_model.specs.Radio.{links_fixing}
 use Rattle.controller_model.specs.Side.{facts_of}
 use Rattle.controller_model.proofs.Asked.{IsAskedStep, place_asked}
 use Rattle.controller_model.proofs.Always.{IsKept, always, facts_opening, links_won, opening_passes, received_shut}
-use Rattle.controller_model.proofs.Places.{refusal, refuses_at}
+use Rattle.controller_model.proofs.Places.{refusal_at, refusal_is}
 use Rattle.controller_model.specs.Entering.{all_entered}
 use Rattle.controller_model.specs.Links.{ends_for}
 
@@ -221,6 +222,7 @@ step_takes step (Some link) = after_waiting step link
 asks_none : (step : EndStep) → IsAskedStep step → more_in step ≡ 0
 asks_none (ProcedureAsked ask) asks = refl
 asks_none (RequestAnswered answer) asks = refl
+asks_none (KeyAnswered key slot) asks = refl
 asks_none (Disconnected reason slot) asks = refl
 asks_none step asks = absurd asks
 
@@ -232,17 +234,17 @@ asked_less place link step is asks =
     let same : buffers_in place ≡ waiting (facts_in link) = ap buffers_in is in
     omega (arith, more, none, same)
 
-asked_takes : (command : Command) (slot first : ℕ) (links : Links)
-    → buffers_taken (links_commanded_from first command slot links) ≤ buffers_taken links
-asked_takes command slot first [] = omega arith
-asked_takes command slot first (place ∷ links) =
-    let now = place_commanded (is_about first command) command slot place in
-    let a = sum_by-cons buffers_in now (links_commanded_from (first + 1) command slot links) in
+asked_takes : (command : Command) (moment : Moment) (first : ℕ) (links : Links)
+    → buffers_taken (links_commanded_from first command moment links) ≤ buffers_taken links
+asked_takes command moment first [] = omega arith
+asked_takes command moment first (place ∷ links) =
+    let now = place_commanded (is_about first command) command moment place in
+    let a = sum_by-cons buffers_in now (links_commanded_from (first + 1) command moment links) in
     let b = sum_by-cons buffers_in place links in
     let c : buffers_in now ≤ buffers_in place =
-    place_asked (λ (now : Option OpenLink). buffers_in now ≤ buffers_in place) command slot (is_about first command) place (omega arith)
+    place_asked (λ (now : Option OpenLink). buffers_in now ≤ buffers_in place) command moment (is_about first command) place (omega arith)
     (λ link step is asked asks. asked_less place link step is asks) in
-    let rest = asked_takes command slot (first + 1) links in
+    let rest = asked_takes command moment (first + 1) links in
     omega (arith, a, b, c, rest)
 
 served_takes : (slot : ℕ) → TakesAtMost 0 (option_map (link_served slot))
@@ -299,16 +301,16 @@ changed_fits setup step handle links none fits =
     let less = changed_takes (more_in step) (option_map (link_after step)) (step_takes step) 0 handle links in
     omega (arith, less, none, fits)
 
-refused_fits : (setup : Setup) (refuses : Bool) (handle : ℕ) (links : Links) → buffers_taken links ≤ setup.host_buffers
-    → buffers_taken (links_refusing refuses handle links) ≤ setup.host_buffers
-refused_fits setup true handle links fits = changed_fits setup (RequestAnswered refusal) handle links refl fits
-refused_fits setup false handle links fits = fits
+refused_fits : (setup : Setup) (refusal : Option EndStep) → IfSome refusal IsAskedStep → (handle : ℕ) (links : Links)
+    → buffers_taken links ≤ setup.host_buffers → buffers_taken (links_refusing refusal handle links) ≤ setup.host_buffers
+refused_fits setup (Some step) asks handle links fits = changed_fits setup step handle links (asks_none step asks) fits
+refused_fits setup None asks handle links fits = fits
 
 received_fits : (setup : Setup) (handle : ℕ) (room : Bool) (octets : List ℕ) (facts : Facts) → FitsBuffers setup facts
     → FitsBuffers setup (link_received handle room octets facts)
 received_fits setup handle room octets facts fits =
     let step = PacketReceived facts.turn.slot octets room in
-    refused_fits setup (refuses_at handle room octets facts) handle (with_change handle (link_after step) facts.links)
+    refused_fits setup (refusal_at handle room octets facts) (refusal_is handle room octets facts) handle (with_change handle (link_after step) facts.links)
     (changed_fits setup step handle facts.links refl fits)
 
 commanded_fits : (setup : Setup) (command : Command) (links : Links) → buffers_taken links ≤ setup.host_buffers
@@ -367,7 +369,7 @@ opened_fits setup link links fits =
 buffers_kept : (setup : Setup) → IsKept setup (FitsBuffers setup) (FitsBuffers setup)
 buffers_kept setup = record {
   accepted = λ facts opcode octets command is accepted fits. commanded_fits setup command facts.links fits;
-  asked = λ facts command asks fits left. fewer setup facts.links (links_commanded command facts.turn.begun facts.links) (asked_takes command facts.turn.begun 0 facts.links) fits;
+  asked = λ facts command asks fits left. fewer setup facts.links (links_commanded command (moment_of setup facts) facts.links) (asked_takes command (moment_of setup facts) 0 facts.links) fits;
   given = λ facts handle count start octets is fits. given_fits setup facts handle count start octets is fits;
   octet = λ facts octet fits. fits;
   turns = record {
@@ -381,6 +383,7 @@ buffers_kept setup = record {
       does = λ doing facts may fits. sent_fits setup facts.turn.slot doing facts.links fits;
     };
     reports = λ facts fits. fewer setup facts.links (links_reported facts.links) (mapped_takes (option_map link_reported) reporting_takes facts.links) fits;
+    words = λ handle facts listens fits. changed_fits setup (WordsGiven _ _) handle facts.links refl fits;
     passes = λ facts fits. record {
       rests = fits;
       awaits_request = λ channel doing. fits;
@@ -492,6 +495,7 @@ pieces_kept setup = record {
       does = λ doing facts may fits. fits;
     };
     reports = λ facts fits. omega arith;
+    words = λ handle facts listens fits. fits;
     passes = λ facts fits. record {
       rests = fits;
       awaits_request = λ channel doing. fits;

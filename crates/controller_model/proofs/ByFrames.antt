@@ -8,6 +8,7 @@ use Rattle.h4_frames.specs.declared.packet.Fed.TheVariants.{More, Packet, LostSy
 use Rattle.h4_frames.specs.Frames.{frames, frame_entry}
 use Rattle.hci_cmd.specs.declared.command.Command.{Command}
 use Rattle.link_commands.specs.LinksCommanded.{links_commanded}
+use Rattle.controller_model.specs.Commands.{moment_by, moment_of}
 use Rattle.controller_model.specs.Step.{HostOctet}
 use Rattle.controller_model.specs.Facts.{Setup, Facts, first_facts}
 use Rattle.controller_model.specs.Side.{facts_after, facts_fed, notes_after, notes_fed, notes_from, notes_of, result_of}
@@ -52,9 +53,9 @@ record FollowsFrames (setup : Setup) (start facts : Facts) : Type 0 where
 -- so commands ask the same of their links
 asked_alike : (setup : Setup) (start facts : Facts) → FollowsFrames setup start facts → (command : Command)
     → let other = held_from setup start (frames facts.octets) in
-    links_commanded command facts.turn.begun facts.links ≡ links_commanded command other.turn.begun other.links
+    links_commanded command (moment_of setup facts) facts.links ≡ links_commanded command (moment_of setup other) other.links
 asked_alike setup start facts follows command =
-    λ i. links_commanded command (follows.begun_is i) (follows.alike.links_are i)
+    λ i. links_commanded command (moment_by setup (follows.begun_is i) (follows.alike.drawn_is i)) (follows.alike.links_are i)
 
 follows_more : (setup : Setup) (start facts : Facts) (octet : ℕ) → FollowsFrames setup start facts → FollowsFrames setup start (facts_after setup facts (HostOctet octet))
 follows_more setup start facts octet follows =

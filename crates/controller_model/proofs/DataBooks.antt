@@ -25,7 +25,7 @@ use Rattle.link_commands.specs.open_links.link_model.Pieces.{kept_if}
 use Rattle.link_commands.specs.open_links.link_model.Packets.{good_pdu, is_forged}
 use Rattle.link_commands.specs.open_links.link_model.Verdicts.{pdu_of}
 use Rattle.link_commands.specs.open_links.link_model.Setup.{Setup as EndSetup}
-use Rattle.link_commands.specs.open_links.link_model.Step.{Step as EndStep, DataGiven, ProcedureAsked, RequestAnswered, Disconnected, EventEntered, PduFixed, PacketSent, PacketReceived, DataReported}
+use Rattle.link_commands.specs.open_links.link_model.Step.{Step as EndStep, DataGiven, ProcedureAsked, KeyAnswered, RequestAnswered, Disconnected, EventEntered, PduFixed, PacketSent, PacketReceived, DataReported, WordsGiven}
 use Rattle.link_commands.proofs.open_links.link_model.Pasts.{grows}
 use Rattle.link_commands.specs.open_links.OpenLinks.{OpenLink, facts_in, link_at}
 use Rattle.controller_model.specs.Between.{is_between_turns}
@@ -105,6 +105,8 @@ silent_same setup facts (DataGiven start body) is = refl
 silent_same setup facts (ProcedureAsked ask) is =
     ap (λ (a : Acknowledgement). a.accepted) (asked_leaves (is_to_come ask facts) ask facts)
 silent_same setup facts (RequestAnswered answer) is = refl
+silent_same setup facts (KeyAnswered key slot) is = refl
+silent_same setup facts (WordsGiven skd_s iv_s) is = refl
 silent_same setup facts (Disconnected reason slot) is = refl
 silent_same setup facts (EventEntered slot) is =
     ap (λ (a : Acknowledgement). a.accepted) (entered_leaves (goes_on facts) setup slot facts)

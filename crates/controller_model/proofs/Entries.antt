@@ -37,6 +37,7 @@ use Rattle.link_commands.specs.open_links.Turns.{due_in, ending_in, entered_if, 
 use Rattle.link_commands.proofs.open_links.Anchors.{one_more_entered}
 use Rattle.link_commands.proofs.open_links.Ends.{stays_where_not_due}
 use Rattle.link_commands.proofs.open_links.Handles.{has_its_handle}
+use Rattle.controller_model.specs.Heard.{facts_with_words}
 use Rattle.controller_model.specs.Step.{Step, HostOctet, TurnBegins, PacketHeard, NothingHeard, TurnEnds}
 use Rattle.controller_model.specs.Facts.{Setup, Facts}
 use Rattle.controller_model.specs.Answers.{answer_to}
@@ -209,7 +210,8 @@ only_begun setup facts (TurnBegins slot on) = begun_let (notes_after setup facts
 only_begun setup facts (PacketHeard octets) =
     let P = IsNoEntryUnless false in
     heard_is setup facts (λ outcome. ⊤ → All P (notes_passed outcome))
-    (phase_too P (others_let false) (λ handle kind code. tt) (λ handle kind. tt) setup facts) facts.turn.doing octets refl tt
+    (phase_too P (others_let false) (λ handle kind code. tt) (λ handle kind. tt) setup facts) facts.turn.doing octets refl
+    (λ handle. (phase_too P (others_let false) (λ handle kind code. tt) (λ handle kind. tt) setup (facts_with_words setup handle facts)).received handle octets) tt
 only_begun setup facts NothingHeard =
     let P = IsNoEntryUnless false in
     unheard_is setup facts (λ outcome. ⊤ → All P (notes_passed outcome))

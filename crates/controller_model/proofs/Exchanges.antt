@@ -19,26 +19,27 @@ use Rattle.host_view.specs.scan_init.Reports.{ScannerFacts, does_ask, scan_answe
 use Rattle.slot_plan.specs.declared.Activity.{Activity}
 use Rattle.slot_plan.specs.declared.Activity.TheVariants.{Link, Advertise, Scan, Initiate}
 use Rattle.slot_plan.specs.Holding.{is_held_in}
-use Rattle.link_commands.specs.open_links.link_model.Step.{Step as EndStep, DataGiven, PacketReceived, PacketSent, PduFixed, RequestAnswered}
+use Rattle.link_commands.specs.open_links.link_model.Step.{Step as EndStep, DataGiven, PacketReceived, PacketSent, PduFixed, WordsGiven}
 use Rattle.link_commands.specs.open_links.link_model.Times.{has_second_exchange}
 use Rattle.link_commands.specs.open_links.OpenLinks.{Links, OpenLink, facts_in, free_from, has_entered, in_event, link_after, link_at, link_served, with_change}
 use Rattle.link_commands.proofs.open_links.OnTime.{stays_entered}
 use Rattle.link_commands.proofs.open_links.UnderHandles.{map_at}
 use Rattle.controller_model.specs.declared.doing.Doing.{Doing}
 use Rattle.controller_model.specs.declared.doing.Doing.TheVariants.{Advertises, AwaitsRequest, Scans, Requests, AwaitsResponse, Initiates, Connects, CentralSends, CentralListens, PeripheralListens, PeripheralSends, Rests}
+use Rattle.link_commands.specs.declared.moments.Moment.{Moment}
 use Rattle.link_commands.specs.LinksCommanded.{links_commanded}
 use Rattle.controller_model.specs.Step.{Step, HostOctet, TurnBegins, PacketHeard, NothingHeard, TurnEnds}
 use Rattle.controller_model.specs.Facts.{Setup, Facts}
-use Rattle.controller_model.specs.Commands.{links_after}
+use Rattle.controller_model.specs.Commands.{links_after, moment_of}
 use Rattle.controller_model.specs.Entering.{HasEntered, IsInEvent}
-use Rattle.controller_model.specs.Heard.{advertiser_answers, advertiser_heard, asks_if, connects, heard, if_pdu, initiator_heard, is_new_between, link_heard, link_received, link_to, links_refusing, replies_in, reply_if, scanner_heard, has_room, taken_if, taken_under, unheard}
+use Rattle.controller_model.specs.Heard.{advertiser_answers, advertiser_heard, asks_if, connects, heard, if_pdu, initiator_heard, is_new_between, link_heard, link_received, link_to, links_refusing, replies_in, reply_if, scanner_heard, has_room, taken_if, taken_under, unheard, facts_with_words}
 use Rattle.controller_model.specs.Outcome.{Outcome, facts_passed}
 use Rattle.controller_model.specs.Packets.{facts_doing, links_sending, pdu_heard}
 use Rattle.controller_model.specs.Radio.{advertises_at, advertises_on, doing_held, doing_won, exchange_begins, exchange_if, facts_won, first_exchange, fixing, initiates_on, initiator_channel, links_fixing, outcome_begun, radio_served, scanner_channel, scans_on, second_exchange, served, slots_since, winner_served}
 use Rattle.controller_model.specs.Side.{facts_after, facts_of}
 use Rattle.controller_model.proofs.Asked.{at_kept}
 use Rattle.controller_model.proofs.Always.{facts_before_doing, kept_always, octet_keeps, winner_before_doing}
-use Rattle.controller_model.proofs.Places.{at_changed, refusal, refuses_at}
+use Rattle.controller_model.proofs.Places.{at_changed, refusal_at}
 
 -- nothing is done on a link
 abbrev IsOnNone : Doing → Type 0
@@ -98,23 +99,23 @@ sending_stays slot (PeripheralSends handle) links = step_stays (PacketSent slot)
 sending_stays slot (Advertises channel) links = λ other has. has
 sending_stays slot other links = λ other has. has
 
-refusing_stays : (refuses : Bool) (handle : ℕ) (links : Links) → StayEntered links (links_refusing refuses handle links)
-refusing_stays true handle links = step_stays (RequestAnswered refusal) handle links
-refusing_stays false handle links = λ other has. has
+refusing_stays : (refusal : Option EndStep) (handle : ℕ) (links : Links) → StayEntered links (links_refusing refusal handle links)
+refusing_stays (Some step) handle links = step_stays step handle links
+refusing_stays None handle links = λ other has. has
 
 pub receiving_stays : (handle : ℕ) (room : Bool) (octets : List ℕ) (facts : Facts)
     → StayEntered facts.links (link_received handle room octets facts).links
 receiving_stays handle room octets facts other has =
     let step = PacketReceived facts.turn.slot octets room in
-    refusing_stays (refuses_at handle room octets facts) handle (with_change handle (link_after step) facts.links) other
+    refusing_stays (refusal_at handle room octets facts) handle (with_change handle (link_after step) facts.links) other
     (step_stays step handle facts.links other has)
 
 command_stays : (command : Command) (links : Links) → StayEntered links (links_after command links)
 command_stays Reset links other has = subst HasEntered (sym (map_at (λ place. None) 0 other links refl)) tt
 command_stays command links other has = has
 
-asked_stays : (command : Command) (slot : ℕ) (links : Links) → StayEntered links (links_commanded command slot links)
-asked_stays command slot links other has = at_kept HasEntered (λ link step asks has. stays_entered step link has) command slot other links has
+asked_stays : (command : Command) (moment : Moment) (links : Links) → StayEntered links (links_commanded command moment links)
+asked_stays command moment links other has = at_kept HasEntered (λ link step asks has. stays_entered step link has) command moment other links has
 
 -- what is done next
 pub doing_stays : (doing : Doing) (facts : Facts) → IsInEvent doing facts.links → IsInEvent doing (facts_doing doing facts).links
@@ -298,7 +299,8 @@ pub heard_in_event : (setup : Setup) (doing : Doing) (octets : List ℕ) (facts 
 heard_in_event setup (CentralListens handle) octets facts doing is =
     received_in_event setup handle octets facts (subst (λ (doing : Doing). IsInEvent doing facts.links) doing is)
 heard_in_event setup (PeripheralListens handle) octets facts doing is =
-    received_in_event setup handle octets facts (subst (λ (doing : Doing). IsInEvent doing facts.links) doing is)
+    received_in_event setup handle octets (facts_with_words setup handle facts)
+    (step_stays (WordsGiven _ _) handle facts.links handle (subst (λ (doing : Doing). IsInEvent doing facts.links) doing is))
 heard_in_event setup (AwaitsRequest channel) octets facts doing is =
     by_pdu (pdu_heard channel octets) facts _ (λ pdu. advertiser_none facts.advertising.on channel pdu facts)
 heard_in_event setup (Scans channel) octets facts doing is =
@@ -317,8 +319,8 @@ step_in_event setup facts (HostOctet octet) is =
     (λ facts opcode octets command known accepted is.
     stays_in_event facts.turn.doing facts.links (links_after command facts.links) (command_stays command facts.links) is)
     (λ facts command asks is left.
-    stays_in_event facts.turn.doing facts.links (links_commanded command facts.turn.begun facts.links)
-    (asked_stays command facts.turn.begun facts.links) is)
+    stays_in_event facts.turn.doing facts.links (links_commanded command (moment_of setup facts) facts.links)
+    (asked_stays command (moment_of setup facts) facts.links) is)
     (λ facts handle count start octets kept is.
     stays_in_event facts.turn.doing facts.links _ (step_stays (DataGiven start octets) handle facts.links) is)
     (λ facts octet is. is) facts octet is

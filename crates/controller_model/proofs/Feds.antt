@@ -145,6 +145,7 @@ octets_kept setup octets = record {
     does = λ doing facts may is. is;
   };
   reports = λ facts is. is;
+  words = λ handle facts listens is. is;
   passes = λ facts is. record {
     rests = is;
     awaits_request = λ channel doing. is;

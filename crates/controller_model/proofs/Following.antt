@@ -3,13 +3,14 @@ use Rattle.std.proofs.Common.{◌≡◌, ℕ, ◌+◌, Bool, true, false, Option
 use Rattle.std.specs.Prelude.{fold, filter, ⊤}
 use Rattle.std.specs.List.{AllByRecursion}
 use Rattle.ble_base.specs.declared.notes.Note.{Note}
-use Rattle.ble_base.specs.declared.notes.Note.TheVariants.{Up, Opened, Shut}
+use Rattle.ble_base.specs.declared.notes.Note.TheVariants.{Up, Opened, Shut, Took}
 use Rattle.hci_evt.specs.declared.event.Event.{Event}
 use Rattle.hci_evt.specs.Event.{mask_bit_of, written}
+use Rattle.host_view.specs.Links.{was_encrypted}
 use Rattle.host_view.specs.declared.links.Link.{Link as ViewLink}
 use Rattle.host_view.specs.View.{View}
 use Rattle.host_view.specs.Changes.{on_link}
-use Rattle.host_view.specs.Noted.{acl_handle, after_packet, event_handle, is_acl_data, is_le_event, view_noted}
+use Rattle.host_view.specs.Noted.{acl_handle, after_packet, encrypted_if, event_handle, is_acl_data, is_le_event, is_start_rsp, view_noted}
 use Rattle.link_commands.specs.open_links.link_model.Packets.{good_pdu}
 use Rattle.link_commands.specs.open_links.OpenLinks.{Links, OpenLink, facts_in, link_at}
 use Rattle.link_commands.specs.open_links.Turns.{enters_in, notes_entering, notes_if}
@@ -68,7 +69,7 @@ taken_are slot room (Some link) octets =
 pub received_are : (handle : ℕ) (room : Bool) (octets : List ℕ) (facts : Facts) → AreOfOpenLinks (notes_received handle room octets facts)
 received_are handle room octets facts =
     let place = link_at handle facts.links in
-    let events = events_received handle facts.turn.slot room place octets in
+    let events = events_received (was_encrypted handle facts.view.links) handle facts.turn.slot room place octets in
     both_each IsOfOpenLink (notes_taken facts.turn.slot room place octets) (notes_of_events facts.view events)
     (taken_are facts.turn.slot room place octets) (events_are facts.view events)
 
@@ -90,11 +91,16 @@ packet_changes octets view = by (is_acl_data octets) (is_le_event 0x05 octets) (
     by false false true flow one two three = refl
     by false false false flow one two three = refl
 
+started_changes : (view : View) (handle : ℕ) (starts : Bool) → ChangesLinks view (encrypted_if starts handle view)
+started_changes view handle true = refl
+started_changes view handle false = refl
+
 pub note_changes : (view : View) (note : Note) → IsOfOpenLink note → ChangesLinks view (view_noted view note)
 unfolding view_noted
 note_changes view (Up packet) of = packet_changes packet.items view
 note_changes view (Opened handle role own peer) of = absurd of
 note_changes view (Shut handle reason) of = absurd of
+note_changes view (Took handle number llid body) of = started_changes view handle (is_start_rsp llid body.items)
 note_changes view other of = refl
 
 abbrev pub view_followed : View → List Note → View

@@ -11,7 +11,7 @@ use Rattle.adv_pdu.specs.Pdu.{sender_of}
 use Rattle.host_view.specs.scan_init.Reports.{does_ask, scan_answer}
 use Rattle.link_commands.specs.open_links.link_model.declared.setup.LinkSetup.{LinkSetup}
 use Rattle.link_commands.specs.open_links.link_model.Setup.{Setup as EndSetup}
-use Rattle.link_commands.specs.open_links.link_model.Step.{DataGiven, DataReported, PduFixed, PacketSent, PacketReceived}
+use Rattle.link_commands.specs.open_links.link_model.Step.{Step as EndStep, DataGiven, DataReported, PduFixed, PacketSent, PacketReceived, WordsGiven}
 use Rattle.slot_plan.specs.declared.Activity.{Activity}
 use Rattle.slot_plan.specs.declared.Activity.TheVariants.{Link, Advertise, Scan, Initiate}
 use Rattle.link_commands.specs.open_links.Data.{complete_in, link_reported}
@@ -24,11 +24,12 @@ use Rattle.link_commands.proofs.open_links.UnderHandles.{map_at}
 use Rattle.link_commands.proofs.open_links.Handles.{changed_have, free_is, none_have, opened_has, place_keeps}
 use Rattle.controller_model.specs.declared.doing.Doing.{Doing}
 use Rattle.controller_model.specs.declared.doing.Doing.TheVariants.{Advertises, AwaitsRequest, Responds, Requests, AwaitsResponse, Connects, CentralSends, CentralListens, PeripheralListens, PeripheralSends, Rests}
+use Rattle.link_commands.specs.declared.moments.Moment.{Moment}
 use Rattle.link_commands.specs.LinksCommanded.{links_commanded}
 use Rattle.controller_model.specs.Step.{Step}
 use Rattle.controller_model.specs.Facts.{Setup, Facts}
-use Rattle.controller_model.specs.Commands.{links_after}
-use Rattle.controller_model.specs.Heard.{asks_if, facts_connecting, fields_sent, has_room, link_made, link_received, link_taken, opens, replies_in, reply_if, scanner_after, with_scanner}
+use Rattle.controller_model.specs.Commands.{links_after, moment_of}
+use Rattle.controller_model.specs.Heard.{asks_if, facts_connecting, fields_sent, has_room, link_made, link_received, link_taken, opens, replies_in, reply_if, scanner_after, with_scanner, facts_with_words}
 use Rattle.controller_model.specs.Data.{facts_ended_turn, facts_handed}
 use Rattle.controller_model.specs.Links.{facts_without}
 use Rattle.controller_model.specs.Packets.{facts_doing, links_sending}
@@ -38,7 +39,7 @@ use Rattle.controller_model.specs.Side.{facts_of}
 use Rattle.controller_model.proofs.Asked.{asked_handles, asked_many, asked_none}
 use Rattle.controller_model.proofs.Always.{IsKept, MayBegin, always, links_won, opening_passes, without_is}
 use Rattle.controller_model.proofs.Phases.{EachOutcome}
-use Rattle.controller_model.proofs.Places.{link_receiving, receiving_is, refused_if, refuses_at}
+use Rattle.controller_model.proofs.Places.{link_receiving, receiving_is, refused_if, refusal_at}
 
 -- ---- changes of links that open none
 
@@ -146,11 +147,11 @@ change_opens handle change links same = record {
 -- a link that receives a packet
 receiving_same : (handle : ℕ) (room : Bool) (octets : List ℕ) (facts : Facts) (link : OpenLink)
     → (link_receiving handle room octets facts link).setup ≡ link.setup
-receiving_same handle room octets facts link = refused_setup (refuses_at handle room octets facts)
+receiving_same handle room octets facts link = refused_setup (refusal_at handle room octets facts)
   where
-    refused_setup : (refuses : Bool) → (refused_if refuses (link_after (PacketReceived facts.turn.slot octets room) link)).setup ≡ link.setup
-    refused_setup true = refl
-    refused_setup false = refl
+    refused_setup : (refusal : Option EndStep) → (refused_if refusal (link_after (PacketReceived facts.turn.slot octets room) link)).setup ≡ link.setup
+    refused_setup (Some step) = refl
+    refused_setup None = refl
 
 pub receiving_opens : (handle : ℕ) (room : Bool) (octets : List ℕ) (facts : Facts)
     → OpensNone facts.links (link_received handle room octets facts).links
@@ -190,6 +191,11 @@ fits_still setup before after opens same fits = record {
   new = subst (IsNew after.links) (sym same) (new_still before.links after.links before.turn.doing opens fits.new);
 }
 
+-- a link that is given words
+pub words_own : (setup : Setup) (handle : ℕ) (facts : Facts) → HaveOwnHandles setup facts → HaveOwnHandles setup (facts_with_words setup handle facts)
+words_own setup handle facts own =
+    fits_still setup facts (facts_with_words setup handle facts) (change_opens handle (link_after (WordsGiven _ _)) facts.links (λ link. refl)) refl own
+
 -- what is done next
 sending_opens : (slot : ℕ) (doing : Doing) (links : Links) → OpensNone links (links_sending slot doing links)
 sending_opens slot (CentralSends handle) links = change_opens handle (link_after (PacketSent slot)) links (λ link. refl)
@@ -213,11 +219,11 @@ command_opens : (command : Command) (links : Links) → OpensNone links (links_a
 command_opens Reset links = reset_opens links
 command_opens other links = nothing_opens links
 
-asked_opens : (command : Command) (slot : ℕ) (links : Links) → OpensNone links (links_commanded command slot links)
-asked_opens command slot links = record {
-  many = asked_many command slot links;
-  handles = λ have. asked_handles command slot 0 links have;
-  free = λ handle none. asked_none command slot handle links none;
+asked_opens : (command : Command) (moment : Moment) (links : Links) → OpensNone links (links_commanded command moment links)
+asked_opens command moment links = record {
+  many = asked_many command moment links;
+  handles = λ have. asked_handles command moment 0 links have;
+  free = λ handle none. asked_none command moment handle links none;
 }
 
 pub won_opens : (slot : ℕ) (activity : Activity) (links : Links) → OpensNone links (links_won slot activity links)
@@ -286,7 +292,7 @@ pub handles_kept : (setup : Setup) → IsKept setup (HaveOwnHandles setup) (Have
 handles_kept setup = record {
   accepted = λ facts opcode octets command is accepted fits.
       fits_still setup facts _ (command_opens command facts.links) refl fits;
-  asked = λ facts command asks fits left. fits_still setup facts _ (asked_opens command facts.turn.begun facts.links) refl fits;
+  asked = λ facts command asks fits left. fits_still setup facts _ (asked_opens command (moment_of setup facts) facts.links) refl fits;
   given = λ facts handle count start octets is fits.
       fits_still setup facts _ (change_opens handle (link_after (DataGiven start octets)) facts.links (λ link. refl)) refl fits;
   octet = λ facts octet fits. record { many = fits.many; handles = fits.handles; new = fits.new };
@@ -302,6 +308,7 @@ handles_kept setup = record {
     };
     reports = λ facts fits. fits_still setup facts _ (mapped_opens link_reported facts.links reported_same) refl fits;
     passes = λ facts fits. passes_fits setup facts fits;
+    words = λ handle facts listens fits. words_own setup handle facts fits;
   };
 }
 

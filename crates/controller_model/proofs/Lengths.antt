@@ -91,6 +91,7 @@ long_kept setup = record {
       does = λ doing facts may long. long;
     };
     reports = λ facts long. long;
+    words = λ handle facts listens long. long;
     passes = λ facts long. record {
       rests = long;
       awaits_request = λ channel doing. long;

@@ -13,6 +13,7 @@ use Rattle.ble_base.specs.declared.procedure_kinds.Kind.{Kind}
 use Rattle.hci_evt.specs.declared.event.Event.{Event}
 use Rattle.hci_evt.specs.declared.event.Event.TheVariants.{DisconnectionComplete, CompletedPackets, BufferOverflow}
 use Rattle.hci_evt.specs.Event.{mask_bit_of, written}
+use Rattle.host_view.specs.Links.{was_encrypted}
 use Rattle.host_view.specs.View.{View}
 use Rattle.link_commands.specs.open_links.link_model.declared.setup.LinkSetup.{LinkSetup}
 use Rattle.link_commands.specs.open_links.link_model.Packets.{good_pdu}
@@ -203,7 +204,7 @@ module _ (P : Note → Type 0) (of : IsOfOthers P) where
             let place = link_at handle facts.links in
             passed_too (link_heard setup handle octets facts)
             (All-append P (notes_taken facts.turn.slot room place octets) _ (taken handle octets holds)
-            (events_too facts.view (events_received handle facts.turn.slot room place octets)));
+            (events_too facts.view (events_received (was_encrypted handle facts.view.links) handle facts.turn.slot room place octets)));
       }
 
   -- what comes of any phase

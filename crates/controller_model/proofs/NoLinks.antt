@@ -13,6 +13,7 @@ use Rattle.link_commands.specs.open_links.OpenLinks.{Links, OpenLink, link_after
 use Rattle.link_commands.specs.open_links.Turns.{ending_in, ends_by, link_entered, links_without, place_without}
 use Rattle.controller_model.specs.declared.doing.Doing.{Doing}
 use Rattle.controller_model.specs.declared.doing.Doing.TheVariants.{Advertises, Connects, CentralSends, PeripheralListens, PeripheralSends}
+use Rattle.link_commands.specs.declared.moments.Moment.{Moment}
 use Rattle.link_commands.specs.LinksCommanded.{links_commanded_from, place_commanded}
 use Rattle.link_commands.specs.Commands.{is_about}
 use Rattle.controller_model.specs.Facts.{Facts}
@@ -62,15 +63,15 @@ none_change change is first handle (None ∷ links) none = at (first == handle) 
     at false rest = λ i. None ∷ rest i
 none_change change is first handle (Some link ∷ links) none = absurd none
 
-none_placed : (about : Bool) (command : Command) (slot : ℕ) → place_commanded about command slot None ≡ None
-none_placed true command slot = refl
-none_placed false command slot = refl
+none_placed : (about : Bool) (command : Command) (moment : Moment) → place_commanded about command moment None ≡ None
+none_placed true command moment = refl
+none_placed false command moment = refl
 
-pub none_asked : (command : Command) (slot first : ℕ) (links : Links) → AreNone links → links_commanded_from first command slot links ≡ links
-none_asked command slot first [] none = refl
-none_asked command slot first (None ∷ links) none =
-    λ i. none_placed (is_about first command) command slot i ∷ none_asked command slot (first + 1) links none i
-none_asked command slot first (Some link ∷ links) none = absurd none
+pub none_asked : (command : Command) (moment : Moment) (first : ℕ) (links : Links) → AreNone links → links_commanded_from first command moment links ≡ links
+none_asked command moment first [] none = refl
+none_asked command moment first (None ∷ links) none =
+    λ i. none_placed (is_about first command) command moment i ∷ none_asked command moment (first + 1) links none i
+none_asked command moment first (Some link ∷ links) none = absurd none
 
 pub none_end : (reason : OpenLink → Option ℕ) (first : ℕ) (links : Links) → AreNone links → ends_by reason first links ≡ []
 none_end reason first [] none = refl

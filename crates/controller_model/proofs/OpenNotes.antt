@@ -12,13 +12,14 @@ use Rattle.h4_frames.specs.declared.packet.Fed.{Fed}
 use Rattle.h4_frames.specs.declared.packet.Fed.TheVariants.{More, Packet, LostSync}
 use Rattle.hci_cmd.specs.Command.{command_of}
 use Rattle.hci_evt.specs.declared.event.Event.TheVariants.{BufferOverflow, HardwareError}
+use Rattle.host_view.specs.Links.{was_encrypted}
 use Rattle.host_view.specs.View.{View}
 use Rattle.adv_pdu.specs.declared.pdu.AdvPdu.{AdvPdu}
 use Rattle.host_view.specs.scan_init.Reports.{ScannerFacts, does_ask, scan_answer}
 use Rattle.link_commands.specs.open_links.link_model.declared.setup.LinkSetup.{LinkSetup}
 use Rattle.ble_base.specs.declared.error_codes.ErrCode.{ErrCode}
 use Rattle.link_commands.specs.open_links.link_model.Facts.{Facts as EndFacts}
-use Rattle.link_commands.specs.open_links.link_model.Step.{DataReported, PacketSent}
+use Rattle.link_commands.specs.open_links.link_model.Step.{DataReported, PacketSent, WordsGiven}
 use Rattle.link_commands.specs.open_links.link_model.Times.{ending_of}
 use Rattle.link_commands.proofs.open_links.link_model.Pasts.{grows}
 use Rattle.link_commands.specs.open_links.declared.offers.Offer.TheVariants.{Empty, Overflow, Kept}
@@ -37,7 +38,7 @@ use Rattle.controller_model.specs.Commands.{facts_commanded, notes_commanded}
 use Rattle.controller_model.specs.Data.{event_completed, facts_handed, facts_offered, is_full, note_received, notes_handed, notes_offered}
 use Rattle.controller_model.specs.Entering.{notes_all_entering}
 use Rattle.controller_model.specs.Events.{notes_of_events}
-use Rattle.controller_model.specs.Heard.{asks_if, events_received, events_reported, has_room, link_heard, link_received, link_taken, notes_taken, opens, replies_in, reply_if, scanner_after, with_scanner}
+use Rattle.controller_model.specs.Heard.{asks_if, events_received, events_reported, has_room, link_heard, link_received, link_taken, notes_taken, opens, replies_in, reply_if, scanner_after, with_scanner, facts_with_words}
 use Rattle.controller_model.specs.Links.{ends_for, events_opened, facts_ending, notes_ending, notes_leaving, notes_opened}
 use Rattle.controller_model.specs.Shutting.{StaysIn}
 use Rattle.controller_model.specs.Outcome.{facts_passed, notes_passed}
@@ -49,7 +50,7 @@ use Rattle.controller_model.proofs.Always.{leaving_is, left_doing}
 use Rattle.controller_model.proofs.Books.{Fact, IsKeptInBook, by_handle, elsewhere_sent, elsewhere_took}
 use Rattle.controller_model.proofs.BookEnds.{reports_apart}
 use Rattle.controller_model.proofs.BooksAlways.{none_waits, within}
-use Rattle.controller_model.proofs.Handles.{HaveOwnHandles, fixing_opens, handles_kept, mapped_opens, entered_same, receiving_opens, staying_opens, won_opens}
+use Rattle.controller_model.proofs.Handles.{HaveOwnHandles, fixing_opens, handles_kept, mapped_opens, entered_same, receiving_opens, staying_opens, won_opens, words_own}
 use Rattle.controller_model.proofs.OtherNotes.{AreOther, IsOther, both_other, command_other, completed_other, data_other, ends_other, entering_other, events_other, opening_other, procedures_other, reporting_other}
 use Rattle.controller_model.proofs.Phases.{EachOutcome, heard_is, unheard_is}
 use Rattle.controller_model.proofs.PiecesBelow.{AreBelow, all_pieces}
@@ -71,6 +72,10 @@ any_kept most handle = record {
   reported = λ setup past waiting since count complete below is fact. tt;
   emptied = λ setup past waiting since count below fact. tt;
 }
+
+some_of : (change : OpenLink → OpenLink) (place : Option OpenLink) → IsSome (option_map change place) → IsSome place
+some_of change None some = absurd cc
+some_of change (Some link) some = refl
 
 some_kept : (change : OpenLink → OpenLink) (place : Option OpenLink) → IsSome place → IsSome (option_map change place)
 some_kept change None some = absurd cc
@@ -115,6 +120,18 @@ module _ (handle : ℕ) (setup : Setup) (few : setup.links ≤ 4096) where
   lifted mid before after [] first last are = tt
   lifted mid before after (note ∷ notes) first last are =
       ((λ is. (first (are.0 is).0, last (are.0 is).1)), lifted mid before after notes first last are.1)
+
+  opened_before : (mid before after : Links) (notes : List Note) → (IsSome (link_at handle mid) → IsSome (link_at handle before))
+      → AreOpenIn mid after notes → AreOpenIn before after notes
+  opened_before mid before after [] back are = tt
+  opened_before mid before after (note ∷ notes) back are =
+      ((λ is. (back (are.0 is).0, (are.0 is).1)), opened_before mid before after notes back are.1)
+
+  some_unchanged : (other : ℕ) (change : OpenLink → OpenLink) (links : Links) → IsSome (link_at handle (with_change other change links))
+      → IsSome (link_at handle links)
+  some_unchanged other change links =
+      at_changed (λ (place : Option OpenLink). IsSome place → IsSome (link_at handle links)) other handle change links (λ some. some)
+      (λ same. some_of change (link_at handle links))
 
   some_changed : (other : ℕ) (change : OpenLink → OpenLink) (links : Links) → IsSome (link_at handle links)
       → IsSome (link_at handle (with_change other change links))
@@ -255,7 +272,7 @@ module _ (handle : ℕ) (setup : Setup) (few : setup.links ≤ 4096) where
       let mid = link_received other room octets facts in
       let opens = receiving_opens other room octets facts in
       let taken = notes_taken slot room place octets in
-      let events = events_received other slot room place octets in
+      let events = events_received (was_encrypted other facts.view.links) other slot room place octets in
       let told = notes_of_events facts.view events in
       both facts.links (facts_doing next mid).links (taken ++ told) (notes_doing next mid)
       (both facts.links (facts_doing next mid).links taken told
@@ -263,7 +280,7 @@ module _ (handle : ℕ) (setup : Setup) (few : setup.links ≤ 4096) where
       (λ some. some_sending slot next mid.links (some_received other room octets facts some))
       (taken_in slot room octets other facts.links place own.handles refl))
       (others facts.links (facts_doing next mid).links told
-      (procedures_other most handle facts.view events (reception_events other slot room place octets))))
+      (procedures_other most handle facts.view events (reception_events (was_encrypted other facts.view.links) other slot room place octets))))
       (passing_in facts.links next mid (λ is. opens.free handle is) (opens.handles own.handles))
 
   phase_in : (facts : Facts) → HaveOwnHandles setup facts
@@ -398,6 +415,16 @@ module _ (handle : ℕ) (setup : Setup) (few : setup.links ≤ 4096) where
       (events_other most handle facts.view (HardwareError 0x01 ∷ []) (tt, tt))
   fed_in facts More own = tt
 
+  -- what an end is given opens no link and shuts none
+  words_in : (other : ℕ) (octets : List ℕ) (facts : Facts) → HaveOwnHandles setup facts
+      → let outcome = link_heard setup other octets (facts_with_words setup other facts) in
+      AreOpenIn facts.links (facts_passed outcome).links (notes_passed outcome)
+  words_in other octets facts own =
+      let outcome = link_heard setup other octets (facts_with_words setup other facts) in
+      opened_before (facts_with_words setup other facts).links facts.links (facts_passed outcome).links (notes_passed outcome)
+      (some_unchanged other (link_after (WordsGiven _ _)) facts.links)
+      (heard_in other octets (facts_with_words setup other facts) (words_own setup other facts own))
+
   -- ---- each step
 
   -- the links after a step; as a turn ends, those before some of them end
@@ -412,7 +439,7 @@ module _ (handle : ℕ) (setup : Setup) (few : setup.links ≤ 4096) where
   step_in facts (TurnBegins slot on) own below waits = turn_in slot on facts own
   step_in facts (PacketHeard octets) own below waits =
       heard_is setup facts (λ outcome. AreOpenIn facts.links (facts_passed outcome).links (notes_passed outcome)) (phase_in facts own)
-      facts.turn.doing octets refl
+      facts.turn.doing octets refl (λ other. words_in other octets facts own)
   step_in facts NothingHeard own below waits =
       unheard_is setup facts (λ outcome. AreOpenIn facts.links (facts_passed outcome).links (notes_passed outcome)) (phase_in facts own)
       facts.turn.doing refl

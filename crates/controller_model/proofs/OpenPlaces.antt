@@ -9,20 +9,21 @@ use Rattle.std.proofs.lemmas.List.{map-set}
 use Rattle.std.proofs.lemmas.List.Sums.{sum_by-append}
 use Rattle.ble_base.specs.declared.notes.Note.{Note}
 use Rattle.ble_base.specs.declared.procedure_kinds.Kind.{Kind}
-use Rattle.ble_base.specs.declared.notes.Note.TheVariants.{Up, Opened, Shut, Refused, Done}
+use Rattle.ble_base.specs.declared.notes.Note.TheVariants.{Up, Opened, Shut, Took, Refused, Done}
 use Rattle.hci_cmd.specs.declared.command.HandleCount.{HandleCount}
 use Rattle.hci_cmd.specs.declared.command.Command.{Command}
 use Rattle.hci_cmd.specs.declared.command.Command.TheVariants.{Disconnect, ReadRemoteVersion, HostCompleted, Reset, LeConnectionUpdate, LeReadRemoteFeatures, LeEnableEncryption, LeKeyReply, LeKeyNegative, LeParamReply, LeParamNegative, LeSetDataLength, LeSetPhy}
 use Rattle.host_view.specs.declared.links.Link.{Link as ViewLink}
 use Rattle.host_view.specs.View.{View}
 use Rattle.host_view.specs.Changes.{after_count, after_counts, changed_at, on_link, view_after}
-use Rattle.host_view.specs.Noted.{acl_handle, after_packet, event_handle, is_acl_data, is_le_event, view_noted}
+use Rattle.host_view.specs.Noted.{acl_handle, after_packet, encrypted_if, event_handle, is_acl_data, is_le_event, is_start_rsp, view_noted}
 use Rattle.host_view.specs.Links.{link_in}
 use Rattle.link_commands.specs.open_links.link_model.Step.{PacketSent, PduFixed}
 use Rattle.slot_plan.specs.declared.Activity.{Activity}
 use Rattle.slot_plan.specs.declared.Activity.TheVariants.{Link, Advertise, Scan, Initiate}
 use Rattle.link_commands.specs.open_links.OpenLinks.{Links, OpenLink, free_from, link_after, link_at, link_served, with_change, with_change_from, without_links}
 use Rattle.link_commands.specs.open_links.Ended.{end_by}
+use Rattle.link_commands.specs.declared.moments.Moment.{Moment}
 use Rattle.link_commands.specs.LinksCommanded.{known_in, links_commanded, view_known_on}
 use Rattle.link_commands.specs.Views.{view_answered}
 use Rattle.link_commands.specs.open_links.Turns.{ends_by, links_without, staying_by}
@@ -141,8 +142,8 @@ pub received_opens : (handle : ℕ) (room : Bool) (octets : List ℕ) (facts : F
 received_opens handle room octets facts =
     ap opens (receiving_is handle room octets facts) ∙ changed_opens (link_receiving handle room octets facts) handle facts.links
 
-pub asked_opens : (command : Command) (slot : ℕ) (links : Links) → opens (links_commanded command slot links) ≡ opens links
-asked_opens command slot links = asked_same is_some (λ link step asks. refl) command slot 0 links
+pub asked_opens : (command : Command) (moment : Moment) (links : Links) → opens (links_commanded command moment links) ≡ opens links
+asked_opens command moment links = asked_same is_some (λ link step asks. refl) command moment 0 links
 
 -- a place this much later than the first one is another
 later_than : (first place : ℕ) → (first == first + suc place) ≡ false
@@ -192,11 +193,16 @@ packet_opens octets view = by (is_acl_data octets) (is_le_event 0x05 octets) (is
     by false false true flow one two three = view_changed three (event_handle octets) view.links
     by false false false flow one two three = refl
 
+started_opens : (view : View) (handle : ℕ) (starts : Bool) → opens (encrypted_if starts handle view).links ≡ opens view.links
+started_opens view handle true = view_changed _ handle view.links
+started_opens view handle false = refl
+
 note_opens : (view : View) (note : Note) → IsOfOpenLink note → opens (view_noted view note).links ≡ opens view.links
 unfolding view_noted
 note_opens view (Up packet) of = packet_opens packet.items view
 note_opens view (Opened handle role own peer) of = absurd of
 note_opens view (Shut handle reason) of = absurd of
+note_opens view (Took handle number llid body) of = started_opens view handle (is_start_rsp llid body.items)
 note_opens view (Refused handle kind code) of = view_changed _ handle view.links
 note_opens view (Done handle kind) of = view_changed _ handle view.links
 note_opens view other of = refl

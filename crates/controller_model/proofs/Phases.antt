@@ -15,7 +15,7 @@ use Rattle.link_commands.specs.open_links.OpenLinks.{free_from}
 use Rattle.controller_model.specs.declared.doing.Doing.{Doing}
 use Rattle.controller_model.specs.declared.doing.Doing.TheVariants.{Advertises, AwaitsRequest, Responds, Scans, Requests, AwaitsResponse, Initiates, Connects, CentralSends, CentralListens, PeripheralListens, Rests}
 use Rattle.controller_model.specs.Facts.{Setup, Facts}
-use Rattle.controller_model.specs.Heard.{advertiser_answers, advertiser_heard, answers_by_connecting, connects as makes, facts_connecting, fields_sent, heard, if_pdu, initiator_heard, link_heard, link_if, link_made, link_taken, link_under, link_wanted, link_with, next_access_of, opens, scanner_heard, taken_if, taken_under, unheard}
+use Rattle.controller_model.specs.Heard.{advertiser_answers, advertiser_heard, answers_by_connecting, connects as makes, facts_connecting, fields_sent, heard, if_pdu, initiator_heard, link_heard, link_if, link_made, link_taken, link_under, link_wanted, link_with, next_access_of, opens, scanner_heard, taken_if, taken_under, unheard, facts_with_words}
 use Rattle.controller_model.specs.Outcome.{Outcome, goes_on}
 use Rattle.controller_model.specs.Packets.{pdu_heard}
 
@@ -147,15 +147,22 @@ module _ (setup : Setup) (facts : Facts) (P : Outcome → Type 0) (each : EachOu
   unheard_is (CentralSends handle) is = each.central_listens handle is
   unheard_is other is = each.rests
 
-  pub heard_is : (doing : Doing) (octets : List ℕ) → facts.turn.doing ≡ doing → P (heard setup doing octets facts)
-  heard_is (AwaitsRequest channel) octets is =
+  -- a peripheral hears with the words that it was given
+  pub listening_is : (doing : Doing) (octets : List ℕ) → facts.turn.doing ≡ doing
+      → ((handle : ℕ) → facts.turn.doing ≡ PeripheralListens handle → P (link_heard setup handle octets (facts_with_words setup handle facts)))
+      → P (heard setup doing octets facts)
+  listening_is (AwaitsRequest channel) octets is worded =
       by_pdu (pdu_heard channel octets) _ (λ pdu hears. advertiser_is facts.advertising.on channel octets pdu is refl hears)
-  heard_is (Scans channel) octets is =
+  listening_is (Scans channel) octets is worded =
       by_pdu (pdu_heard channel octets) _ (λ pdu hears. scanner_is facts.scanning.on channel octets pdu is refl hears)
-  heard_is (AwaitsResponse channel) octets is =
+  listening_is (AwaitsResponse channel) octets is worded =
       by_pdu (pdu_heard channel octets) _ (λ pdu hears. asker_is facts.scanning.on channel octets pdu is refl hears)
-  heard_is (Initiates channel) octets is =
+  listening_is (Initiates channel) octets is worded =
       by_pdu (pdu_heard channel octets) _ (λ pdu hears. initiator_is facts.initiator channel octets pdu is refl hears)
-  heard_is (CentralListens handle) octets is = each.received handle octets
-  heard_is (PeripheralListens handle) octets is = each.received handle octets
-  heard_is doing octets is = unheard_is doing is
+  listening_is (CentralListens handle) octets is worded = each.received handle octets
+  listening_is (PeripheralListens handle) octets is worded = worded handle is
+  listening_is doing octets is worded = unheard_is doing is
+
+  pub heard_is : (doing : Doing) (octets : List ℕ) → facts.turn.doing ≡ doing
+      → ((handle : ℕ) → P (link_heard setup handle octets (facts_with_words setup handle facts))) → P (heard setup doing octets facts)
+  heard_is doing octets is worded = listening_is doing octets is (λ handle listens. worded handle)

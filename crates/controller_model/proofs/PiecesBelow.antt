@@ -85,6 +85,7 @@ pieces_kept setup =
           does = λ doing facts may are. record { own = starts.does doing facts may are.own; below = are.below };
         };
         reports = λ facts are. record { own = handles.turns.reports facts are.own; below = tt };
+        words = λ handle facts listens are. record { own = handles.turns.words handle facts listens are.own; below = are.below };
         passes = λ facts are.
             let passes = handles.turns.passes facts are.own in
             record {

@@ -1,16 +1,22 @@
 -- The links of a controller place by place, as the one under a handle changes.
-use Rattle.std.proofs.Common.{◌≡◌, ℕ, ◌+◌, ◌==◌, Bool, true, false, Option, Some, None, Result, List, [], ◌∷◌, sym, subst, ap, refl, ◌∙◌, if◌then◌else◌}
+use Rattle.std.proofs.Common.{◌≡◌, ℕ, ◌+◌, ◌==◌, Bool, true, false, Option, Some, None, List, [], ◌∷◌, sym, subst, ap, refl, ◌∙◌, if◌then◌else◌}
 use Rattle.std.specs.Option.{option_map}
-use Rattle.std.specs.Prelude.{Err}
+use Rattle.std.specs.Prelude.{IfSome}
 use Rattle.std.proofs.lemmas.Bool.{eq-eqb, eqb-true}
-use Rattle.ble_base.specs.declared.error_codes.ErrCode.{ErrCode}
-use Rattle.ble_base.specs.ErrorCodes.{unsupported_remote_feature}
-use Rattle.link_commands.specs.open_links.link_model.procedure_values.declared.asks.Ask.{Ask}
-use Rattle.link_commands.specs.open_links.link_model.Step.{PacketReceived, RequestAnswered}
+use Rattle.data_pdu.specs.declared.ctrl.Ctrl.{Ctrl}
+use Rattle.data_pdu.specs.declared.ctrl.Ctrl.TheVariants.{EncReq}
+use Rattle.hci_evt.specs.declared.event.Event.TheVariants.{KeyRequest, ParamRequest}
+use Rattle.hci_evt.specs.Event.{mask_bit_of}
+use Rattle.host_view.specs.View.{View}
+use Rattle.link_commands.specs.open_links.link_model.procedure_stages.declared.steps.Effect.{Effect}
+use Rattle.link_commands.specs.open_links.link_model.procedure_stages.declared.steps.Effect.TheVariants.{AskHost, Cipher}
+use Rattle.link_commands.specs.open_links.link_model.Step.{Step as EndStep, PacketReceived}
 use Rattle.link_commands.specs.open_links.OpenLinks.{Links, OpenLink, link_after, link_at, with_change, with_change_from}
 use Rattle.link_commands.proofs.open_links.Handles.{changed_is, other_stays}
+use Rattle.controller_model.specs.Events.{passes}
 use Rattle.controller_model.specs.Facts.{Facts}
-use Rattle.controller_model.specs.Heard.{effect_in, is_refused, link_received, links_refusing}
+use Rattle.controller_model.specs.Heard.{answer_unless, effect_in, kept_effect_in, key_refusal, link_received, links_refusing, or_refusal, refusal_in, refusal_of}
+use Rattle.controller_model.proofs.Asked.{IsAskedStep}
 
 -- a fact of what is under a handle, as what is under another one changes, or what is under that one
 pub at_changed : (P : Option OpenLink → Type 0) (handle other : ℕ) (change : OpenLink → OpenLink) (links : Links)
@@ -28,22 +34,45 @@ at_changed P handle other change links holds changed = at (handle == other) refl
         (sym (other_stays (option_map change) 0 handle other links (λ is. absurd (let h : true ≡ false = sym (eq-eqb handle other (sym is)) ∙ same in absurd cc))))
         holds
 
--- ---- a link that receives a packet, and may refuse a request of its peer at once
+-- ---- a link that receives a packet, a request of which may be answered at once
 
-abbrev pub refusal : Result Ask ErrCode
-refusal = Err (record { 0 = unsupported_remote_feature })
+abbrev pub refused_if : Option EndStep → OpenLink → OpenLink
+refused_if None link = link
+refused_if (Some step) link = link_after step link
 
-abbrev pub refused_if : Bool → OpenLink → OpenLink
-refused_if refuses link = if refuses then link_after (RequestAnswered refusal) link else link
+-- the packet has a request that is answered at once
+abbrev pub refusal_at : ℕ → Bool → List ℕ → Facts → Option EndStep
+refusal_at handle room octets facts =
+    refusal_in facts.view handle facts.turn.slot room (link_at handle facts.links) octets
 
--- the packet has a request that is refused
-abbrev pub refuses_at : ℕ → Bool → List ℕ → Facts → Bool
-refuses_at handle room octets facts =
-    is_refused facts.view handle (effect_in facts.turn.slot room (link_at handle facts.links) octets)
+-- it is answered as a host does
+unless_is : (passes : Bool) (step : EndStep) → IsAskedStep step → IfSome (answer_unless passes step) IsAskedStep
+unless_is true step asks = tt
+unless_is false step asks = asks
+
+key_is : (view : View) (handle slot : ℕ) (ctrl : Ctrl) → IfSome (key_refusal view handle slot ctrl) IsAskedStep
+key_is view handle slot (EncReq rand ediv skd_m iv_m) = unless_is (passes view (mask_bit_of (KeyRequest handle rand ediv))) _ tt
+key_is view handle slot other = tt
+
+effect_is : (view : View) (handle slot : ℕ) (effect : Effect) → IfSome (refusal_of view handle slot effect) IsAskedStep
+effect_is view handle slot (AskHost min max latency timeout) =
+    unless_is (passes view (mask_bit_of (ParamRequest handle min max latency timeout))) _ tt
+effect_is view handle slot (Cipher ctrl) = key_is view handle slot ctrl
+effect_is view handle slot other = tt
+
+either_is : (one other : Option EndStep) → IfSome one IsAskedStep → IfSome other IsAskedStep → IfSome (or_refusal one other) IsAskedStep
+either_is None other is also = also
+either_is (Some step) other is also = is
+
+pub refusal_is : (handle : ℕ) (room : Bool) (octets : List ℕ) (facts : Facts) → IfSome (refusal_at handle room octets facts) IsAskedStep
+refusal_is handle room octets facts =
+    let place = link_at handle facts.links in
+    either_is _ _ (effect_is facts.view handle facts.turn.slot (effect_in facts.turn.slot room place octets))
+    (effect_is facts.view handle facts.turn.slot (kept_effect_in facts.turn.slot room place octets))
 
 abbrev pub link_receiving : ℕ → Bool → List ℕ → Facts → OpenLink → OpenLink
 link_receiving handle room octets facts link =
-    refused_if (refuses_at handle room octets facts) (link_after (PacketReceived facts.turn.slot octets room) link)
+    refused_if (refusal_at handle room octets facts) (link_after (PacketReceived facts.turn.slot octets room) link)
 
 -- two changes of one link are one
 changed_twice : (first handle : ℕ) (change next : OpenLink → OpenLink) (links : Links)
@@ -66,16 +95,16 @@ changed_twice first handle change next (place ∷ links) = at (first == handle) 
     at true is rest = rw is (ap (λ (now : Option OpenLink). now ∷ links) (here place))
     at false is rest = rw is (ap (λ (later : Links). place ∷ later) rest)
 
-refusing_after : (refuses : Bool) (handle : ℕ) (change : OpenLink → OpenLink) (links : Links)
-    → links_refusing refuses handle (with_change handle change links) ≡ with_change handle (λ link. refused_if refuses (change link)) links
-refusing_after true handle change links = changed_twice 0 handle change (link_after (RequestAnswered refusal)) links
-refusing_after false handle change links = refl
+refusing_after : (refusal : Option EndStep) (handle : ℕ) (change : OpenLink → OpenLink) (links : Links)
+    → links_refusing refusal handle (with_change handle change links) ≡ with_change handle (λ link. refused_if refusal (change link)) links
+refusing_after (Some step) handle change links = changed_twice 0 handle change (link_after step) links
+refusing_after None handle change links = refl
 
 -- all that a reception changes is the link under its handle
 pub receiving_is : (handle : ℕ) (room : Bool) (octets : List ℕ) (facts : Facts)
     → (link_received handle room octets facts).links ≡ with_change handle (link_receiving handle room octets facts) facts.links
 receiving_is handle room octets facts =
-    refusing_after (refuses_at handle room octets facts) handle (link_after (PacketReceived facts.turn.slot octets room)) facts.links
+    refusing_after (refusal_at handle room octets facts) handle (link_after (PacketReceived facts.turn.slot octets room)) facts.links
 
 -- a fact of what is under a handle, as the link under one receives
 pub at_received : (P : Option OpenLink → Type 0) (handle other : ℕ) (room : Bool) (octets : List ℕ) (facts : Facts)

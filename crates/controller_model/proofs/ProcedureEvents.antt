@@ -6,28 +6,32 @@ use Rattle.std.specs.Option.{option_to_list}
 use Rattle.ble_base.specs.declared.error_codes.ErrCode.{ErrCode}
 use Rattle.ble_base.specs.declared.procedure_kinds.Kind.{Kind}
 use Rattle.ble_base.specs.declared.procedure_kinds.Kind.TheVariants.{Encrypt, Features, Phy, Request, Version}
+use Rattle.data_pdu.specs.declared.ctrl.Ctrl.{Ctrl}
+use Rattle.data_pdu.specs.declared.ctrl.Ctrl.TheVariants.{EncReq, StartEncRsp}
 use Rattle.hci_evt.specs.declared.event.Event.{Event}
-use Rattle.hci_evt.specs.declared.event.Event.TheVariants.{EncryptionChange, LengthChange, ParamRequest, PhyComplete, RemoteFeatures, RemoteVersion, UpdateComplete}
+use Rattle.hci_evt.specs.declared.event.Event.TheVariants.{EncryptionChange, KeyRefresh, KeyRequest, LengthChange, ParamRequest, PhyComplete, RemoteFeatures, RemoteVersion, UpdateComplete}
 use Rattle.instants.specs.declared.indications.Params.{Params}
 use Rattle.link_commands.specs.open_links.link_model.procedure_stages.declared.steps.Effect.{Effect}
-use Rattle.link_commands.specs.open_links.link_model.procedure_stages.declared.steps.Effect.TheVariants.{AskHost, Lengths}
+use Rattle.link_commands.specs.open_links.link_model.procedure_stages.declared.steps.Effect.TheVariants.{AskHost, Cipher, Lengths}
 use Rattle.link_commands.specs.open_links.link_model.control_end.declared.answers.Entry.{Entry}
 use Rattle.link_commands.specs.open_links.link_model.declared.state.PeerFacts.{PeerFacts}
 use Rattle.link_commands.specs.open_links.link_model.declared.state.PeerVersion.{PeerVersion}
 use Rattle.link_commands.specs.open_links.link_model.Facts.{params_of}
-use Rattle.link_commands.specs.open_links.link_model.Receiving.{effect_of}
+use Rattle.link_commands.specs.open_links.link_model.Receiving.{effect_of, kept_effect_of}
 use Rattle.link_commands.specs.open_links.link_model.Step.{PacketReceived}
-use Rattle.link_commands.specs.open_links.link_end.Answers.{acked_of, given_of}
+use Rattle.link_commands.specs.open_links.link_end.Answers.{acked_of, given_of, kept_given_of}
 use Rattle.link_commands.specs.open_links.OpenLinks.{OpenLink, facts_in, link_after}
 use Rattle.link_commands.specs.open_links.Turns.{entry_at, link_entered}
 use Rattle.link_commands.specs.procedure_events.Calls.{event_if_done, event_if_refused, events_known, events_of_entry}
-use Rattle.link_commands.specs.procedure_events.Events.{event_of_done, event_of_effect, event_of_refusal, features_event, version_event}
+use Rattle.link_commands.specs.procedure_events.Events.{encryption_event, event_of_cipher, event_of_done, event_of_effect, event_of_refusal, features_event, version_event}
 use Rattle.controller_model.specs.Entering.{events_entering, events_of}
 use Rattle.controller_model.specs.Heard.{events_received}
 
 -- the events that control procedures can cause
 abbrev pub IsOfProcedure : Event → Type 0
 IsOfProcedure (EncryptionChange status handle enabled) = ⊤
+IsOfProcedure (KeyRefresh status handle) = ⊤
+IsOfProcedure (KeyRequest handle rand ediv) = ⊤
 IsOfProcedure (RemoteVersion status handle version company sub) = ⊤
 IsOfProcedure (UpdateComplete status handle interval latency timeout) = ⊤
 IsOfProcedure (RemoteFeatures status handle features) = ⊤
@@ -93,10 +97,20 @@ if_refused : (handle : ℕ) (params : Params) (refused : Option (Kind × ErrCode
 if_refused handle params None = tt
 if_refused handle params (Some (kind, code)) = refusal_is handle params kind code
 
-effect_is : (handle : ℕ) (effect : Effect) → IsIfAny (event_of_effect handle effect)
-effect_is handle (Lengths rx tx) = (tt, tt)
-effect_is handle (AskHost min max latency timeout) = (tt, tt)
-effect_is handle other = tt
+encrypted_is : (handle : ℕ) (before : Bool) → IsOfProcedure (encryption_event handle before)
+encrypted_is handle true = tt
+encrypted_is handle false = tt
+
+cipher_is : (handle : ℕ) (before : Bool) (ctrl : Ctrl) → IsIfAny (event_of_cipher handle before ctrl)
+cipher_is handle before (EncReq rand ediv skd_m iv_m) = (tt, tt)
+cipher_is handle before StartEncRsp = (encrypted_is handle before, tt)
+cipher_is handle before other = tt
+
+effect_is : (handle : ℕ) (before : Bool) (effect : Effect) → IsIfAny (event_of_effect handle before effect)
+effect_is handle before (Lengths rx tx) = (tt, tt)
+effect_is handle before (AskHost min max latency timeout) = (tt, tt)
+effect_is handle before (Cipher ctrl) = cipher_is handle before ctrl
+effect_is handle before other = tt
 
 -- ---- what is known already is answered at once
 
@@ -107,14 +121,18 @@ known_events handle peer other = tt
 
 -- ---- all of a packet
 
-pub reception_events : (handle slot : ℕ) (room : Bool) (place : Option OpenLink) (octets : List ℕ)
-    → AreOfProcedures (events_received handle slot room place octets)
-reception_events handle slot room None octets = tt
-reception_events handle slot room (Some link) octets =
+pub reception_events : (before : Bool) (handle slot : ℕ) (room : Bool) (place : Option OpenLink) (octets : List ℕ)
+    → AreOfProcedures (events_received before handle slot room place octets)
+reception_events before handle slot room None octets = tt
+reception_events before handle slot room (Some link) octets =
     let peer = (facts_in (link_after (PacketReceived slot octets room) link)).peer in
     let given = given_of link.setup (facts_in link) slot octets room in
     both _ _
     (both _ _
-    (both _ _ (if_done handle peer (acked_of link.setup (facts_in link) octets)) (effect_is handle (effect_of link.setup (facts_in link) slot octets room)))
+    (both _ _
+    (both _ _ (if_done handle peer (acked_of link.setup (facts_in link) octets))
+    (effect_is handle before (effect_of link.setup (facts_in link) slot octets room)))
     (if_refused handle (params_of (facts_in link)) given.refused))
-    (if_done handle peer given.done)
+    (if_done handle peer given.done))
+    (both _ _ (effect_is handle before (kept_effect_of link.setup (facts_in link) slot octets room))
+    (if_done handle peer (kept_given_of link.setup (facts_in link) slot octets room).done))

@@ -1,14 +1,22 @@
--- A random word was drawn for each accepted LE Rand, and for each link that the controller began to make.
-use Rattle.std.proofs.Common.{◌≡◌, ℕ, ◌+◌, ◌==◌, Bool, true, false, List, [], ◌∷◌, ◌++◌, cond, refl, ap, sym, ◌∙◌, append-nil, append_assoc, arith}
-use Rattle.std.specs.Prelude.{count_by, fold}
+-- A random word was drawn for each accepted LE Rand, two for each accepted LE Enable Encryption and for each LL_ENC_REQ
+-- that was answered, and one for each link that the controller began to make.
+use Rattle.std.proofs.Common.{◌≡◌, ℕ, ◌+◌, ◌==◌, Bool, true, false, Option, Some, None, subst, List, [], ◌∷◌, ◌++◌, cond, refl, ap, sym, ◌∙◌, append-nil, append_assoc, arith}
+use Rattle.std.specs.Prelude.{fold, sum_by}
 use Rattle.std.proofs.lemmas.List.Sums.{sum_by-append}
 use Rattle.ble_base.specs.declared.notes.Note.TheVariants.{Up}
+use Rattle.adv_pdu.specs.declared.pdu.AdvPdu.{AdvPdu}
+use Rattle.adv_pdu.specs.declared.pdu.ConnectFields.{ConnectFields}
+use Rattle.adv_pdu.specs.Pdu.{sender_of}
+use Rattle.advertise.specs.declared.answers.AdvAnswer.{AdvAnswer}
+use Rattle.advertise.specs.declared.answers.AdvAnswer.TheVariants.{Ignore, Respond, Connect as Takes}
+use Rattle.advertise.specs.Advertising.{AdvertiserFacts}
+use Rattle.advertise.specs.Answers.{advertiser_answer}
 use Rattle.h4_frames.specs.declared.packet.HostPacket.TheVariants.{Command as HostCommand, Acl}
 use Rattle.h4_frames.specs.declared.packet.Fed.{Fed}
 use Rattle.h4_frames.specs.declared.packet.Fed.TheVariants.{More, Packet, LostSync}
 use Rattle.wire_fields.specs.Field.{little_endian}
 use Rattle.hci_cmd.specs.declared.command.Command.{Command}
-use Rattle.hci_cmd.specs.declared.command.Command.TheVariants.{LeRand}
+use Rattle.hci_cmd.specs.declared.command.Command.TheVariants.{LeEnableEncryption, LeRand}
 use Rattle.hci_cmd.specs.declared.command.CmdRead.{CmdRead}
 use Rattle.hci_cmd.specs.declared.command.CmdRead.TheVariants.{Known, UnknownOpcode, BadLength}
 use Rattle.hci_cmd.specs.Command.{command_of, layout_of, layouts}
@@ -18,20 +26,28 @@ use Rattle.controller_model.specs.Step.{Step, HostOctet, TurnBegins, PacketHeard
 use Rattle.controller_model.specs.Facts.{Setup, Facts, first_facts}
 use Rattle.controller_model.specs.Answers.{complete_answer, next_word}
 use Rattle.controller_model.specs.Commands.{drawn_after, facts_commanded, facts_known}
+use Rattle.host_view.specs.scan_init.Initiating.{InitiatorFacts}
+use Rattle.host_view.specs.scan_init.Reports.{ScannerFacts}
+use Rattle.link_commands.specs.open_links.link_model.declared.setup.LinkSetup.{LinkSetup}
+use Rattle.link_commands.specs.open_links.OpenLinks.{free_from, link_at}
 use Rattle.link_commands.specs.open_links.declared.offers.Offer.{Offer}
 use Rattle.link_commands.specs.open_links.declared.offers.Offer.TheVariants.{NoLink, Empty, Overflow, Kept}
-use Rattle.controller_model.specs.Data.{facts_offered, offer_of}
-use Rattle.controller_model.specs.Heard.{link_taken}
+use Rattle.controller_model.specs.Data.{facts_ended_turn, facts_handed, facts_offered, offer_of}
+use Rattle.controller_model.specs.Heard.{advertiser_answers, advertiser_heard, connects, draws_in, drawn_if, facts_with_words, has_room, heard, if_pdu, initiator_heard, is_new_between, link_heard, link_taken, link_to, opens, scanner_heard, taken_if, taken_under, unheard}
+use Rattle.controller_model.specs.Outcome.{Outcome, facts_passed}
+use Rattle.controller_model.specs.Packets.{pdu_heard}
+use Rattle.controller_model.specs.declared.doing.Doing.{Doing}
+use Rattle.controller_model.specs.declared.doing.Doing.TheVariants.{Advertises, AwaitsRequest, AwaitsResponse, CentralListens, CentralSends, Connects, Initiates, PeripheralListens, Requests, Scans}
 use Rattle.controller_model.specs.Side.{facts_after, facts_fed, facts_of, notes_after, notes_fed, result_of}
-use Rattle.controller_model.proofs.Always.{IsInTurn, IsKeptInTurns, opening_passes, turn_keeps}
-use Rattle.controller_model.specs.Host.{commands_accepted_after, commands_accepted_by, commands_accepted_from, commands_accepted_in, commands_accepted, is_le_rand, le_rand_count}
+use Rattle.controller_model.proofs.Always.{IsKeptAtStarts, leaving_is, opening_passes, start_keeps}
+use Rattle.controller_model.specs.Host.{commands_accepted_after, commands_accepted_by, commands_accepted_from, commands_accepted_in, commands_accepted, words_answered, words_drawn, words_heard, words_heard_from, words_hearing, words_if, words_of, words_received}
 use Rattle.controller_model.proofs.Asked.{of_asking}
 
 abbrev rands : List Command → ℕ
-rands commands = count_by is_le_rand commands
+rands commands = sum_by words_of commands
 
 rands-append : (xs ys : List Command) → rands (xs ++ ys) ≡ rands xs + rands ys
-rands-append xs ys = sum_by-append (λ (command : Command). cond (is_le_rand command) 1 0) xs ys
+rands-append xs ys = sum_by-append words_of xs ys
 
 no_more : (n : ℕ) → n ≡ n + 0
 no_more n = omega arith
@@ -40,6 +56,7 @@ no_more n = omega arith
 
 drawn_accepted : (command : Command) (drawn : ℕ) → drawn_after command drawn ≡ drawn + rands (command ∷ [])
 drawn_accepted LeRand drawn = refl
+drawn_accepted (LeEnableEncryption handle rand ediv key) drawn = refl
 drawn_accepted other drawn = no_more drawn
 
 -- the same number of words and of links more
@@ -76,73 +93,151 @@ drawn_fed setup facts (Packet (Acl handle start count body)) = drawn_offered (of
 drawn_fed setup facts LostSync = grow_by facts.connections facts.drawn facts.drawn 0 (no_more facts.drawn)
 drawn_fed setup facts More = grow_by facts.connections facts.drawn facts.drawn 0 (no_more facts.drawn)
 
--- in a turn
-drawn_kept : (setup : Setup) (facts : Facts) → IsKeptInTurns setup (GrowBy facts 0) (GrowBy facts 0)
-drawn_kept setup facts = record {
-  starts = record {
-    weakens = λ next grow. grow;
-    ends = λ reason next grow. grow;
-    begins = λ slot next grow. grow;
-    enters = λ slot next grow. grow;
-    wins = λ slot activity next grow. grow;
-    fixes = λ doing next grow. grow;
-    does = λ doing next may grow. grow;
-  };
-  reports = λ next grow. grow;
-  passes = λ next grow. record {
-    rests = grow;
-    awaits_request = λ channel doing. grow;
-    awaits_response = λ channel advertiser doing. grow;
-    central_listens = λ handle doing. grow;
-    sent = λ channel link doing. opening_passes (GrowBy facts 0) link next grow;
-    responds = λ channel on doing is_on. grow;
-    taken = λ channel octets pdu on fields handle is_on hears takes free.
-        opening_passes (GrowBy facts 0) (link_taken on.params.own pdu fields handle) next grow;
-    scanned = λ channel octets pdu on doing is_on hears. grow;
-    answered = λ channel octets pdu on doing is_on hears. grow;
-    connects = λ channel octets pdu on access handle doing is_on hears answers free_access free in_range. omega (arith, grow);
-    received = λ handle octets. grow;
-  };
+plus_none : (facts : Facts) (count : ℕ) (next : Facts) → GrowBy facts count next → GrowBy facts (count + 0) next
+plus_none facts count next grow = omega (arith, grow)
+
+none_plus : (facts : Facts) (count : ℕ) (next : Facts) → GrowBy facts count next → GrowBy facts (0 + count) next
+none_plus facts count next grow = omega (arith, grow)
+
+-- ---- a phase
+
+none_more : (facts next : Facts) → next.drawn ≡ facts.drawn → next.connections ≡ facts.connections → GrowBy facts 0 next
+none_more facts next same also = omega arith
+
+opened_grows : (facts : Facts) (link : LinkSetup) → GrowBy facts 0 (facts_passed (opens link facts))
+opened_grows facts link = opening_passes (GrowBy facts 0) link facts (none_more facts facts refl refl)
+
+by_pdu : (found : Option AdvPdu) (facts : Facts) (outcome : AdvPdu → Outcome) → ((pdu : AdvPdu) → GrowBy facts 0 (facts_passed (outcome pdu)))
+    → GrowBy facts 0 (facts_passed (if_pdu found facts outcome))
+by_pdu None facts outcome grow = none_more facts facts refl refl
+by_pdu (Some pdu) facts outcome grow = grow pdu
+
+advertiser_grows : (on : Option AdvertiserFacts) (channel : ℕ) (pdu : AdvPdu) (facts : Facts)
+    → GrowBy facts 0 (facts_passed (advertiser_heard on channel pdu facts))
+advertiser_grows None channel pdu facts = none_more facts facts refl refl
+advertiser_grows (Some on) channel pdu facts = answered (advertiser_answer on.params facts.view.accepted pdu)
+  where
+    under : (free : Option ℕ) (fields : ConnectFields) → GrowBy facts 0 (facts_passed (taken_under free on.params.own pdu fields facts))
+    under None fields = none_more facts facts refl refl
+    under (Some handle) fields = opened_grows facts (link_taken on.params.own pdu fields handle)
+
+    new : (test : Bool) (fields : ConnectFields) → GrowBy facts 0 (facts_passed (taken_if test on.params.own pdu fields facts))
+    new true fields = under (free_from 0 facts.links) fields
+    new false fields = none_more facts facts refl refl
+
+    answered : (answer : AdvAnswer) → GrowBy facts 0 (facts_passed (advertiser_answers answer channel on.params.own pdu facts))
+    answered Ignore = none_more facts facts refl refl
+    answered Respond = none_more facts facts refl refl
+    answered (Takes fields) = new (is_new_between on.params.own (sender_of pdu) facts.links) fields
+
+scanner_grows : (on : Option ScannerFacts) (may_ask : Bool) (channel : ℕ) (pdu : AdvPdu) (facts : Facts)
+    → GrowBy facts 0 (facts_passed (scanner_heard on may_ask channel pdu facts))
+scanner_grows None may_ask channel pdu facts = none_more facts facts refl refl
+scanner_grows (Some on) may_ask channel pdu facts = none_more facts facts refl refl
+
+initiator_grows : (on : Option InitiatorFacts) (setup : Setup) (channel : ℕ) (pdu : AdvPdu) (facts : Facts)
+    → GrowBy facts 0 (facts_passed (initiator_heard on setup channel pdu facts))
+initiator_grows None setup channel pdu facts = none_more facts facts refl refl
+initiator_grows (Some on) setup channel pdu facts = made (link_to setup on pdu facts)
+  where
+    made : (link : Option LinkSetup) → GrowBy facts 0 (facts_passed (connects link setup channel facts))
+    made None = none_more facts facts refl refl
+    made (Some link) = omega arith
+
+-- an end that hears may draw two
+words_more : (draws : Bool) (drawn connections : ℕ) → drawn_if draws drawn + connections ≡ drawn + words_if draws + connections
+words_more true drawn connections = refl
+words_more false drawn connections = omega arith
+
+received_grows : (setup : Setup) (handle : ℕ) (octets : List ℕ) (facts : Facts)
+    → GrowBy facts (words_received setup handle octets facts) (facts_passed (link_heard setup handle octets facts))
+received_grows setup handle octets facts =
+    words_more (draws_in facts.turn.slot (has_room setup facts) (link_at handle facts.links) octets) facts.drawn facts.connections
+
+drawn_unheard : (doing : Doing) (facts : Facts) → GrowBy facts 0 (facts_passed (unheard doing facts))
+drawn_unheard (Advertises channel) facts = none_more facts facts refl refl
+drawn_unheard (Requests channel advertiser) facts = none_more facts facts refl refl
+drawn_unheard (Connects channel link) facts = opened_grows facts link
+drawn_unheard (CentralSends handle) facts = none_more facts facts refl refl
+drawn_unheard other facts = none_more facts facts refl refl
+
+drawn_heard : (setup : Setup) (doing : Doing) (octets : List ℕ) (facts : Facts)
+    → GrowBy facts (words_hearing setup doing octets facts) (facts_passed (heard setup doing octets facts))
+drawn_heard setup (AwaitsRequest channel) octets facts =
+    by_pdu (pdu_heard channel octets) facts _ (λ pdu. advertiser_grows facts.advertising.on channel pdu facts)
+drawn_heard setup (Scans channel) octets facts =
+    by_pdu (pdu_heard channel octets) facts _ (λ pdu. scanner_grows facts.scanning.on true channel pdu facts)
+drawn_heard setup (AwaitsResponse channel) octets facts =
+    by_pdu (pdu_heard channel octets) facts _ (λ pdu. scanner_grows facts.scanning.on false channel pdu facts)
+drawn_heard setup (Initiates channel) octets facts =
+    by_pdu (pdu_heard channel octets) facts _ (λ pdu. initiator_grows facts.initiator setup channel pdu facts)
+drawn_heard setup (CentralListens handle) octets facts = received_grows setup handle octets facts
+drawn_heard setup (PeripheralListens handle) octets facts = received_grows setup handle octets (facts_with_words setup handle facts)
+drawn_heard setup doing octets facts = drawn_unheard doing facts
+
+-- ---- a turn begins, and ends
+
+drawn_starts : (facts : Facts) → IsKeptAtStarts (GrowBy facts 0) (GrowBy facts 0)
+drawn_starts facts = record {
+  weakens = λ next grow. grow;
+  ends = λ reason next grow. grow;
+  begins = λ slot next grow. grow;
+  enters = λ slot next grow. grow;
+  wins = λ slot activity next grow. grow;
+  fixes = λ doing next grow. grow;
+  does = λ doing next may grow. grow;
 }
 
-drawn_turn : (setup : Setup) (facts : Facts) (step : Step) → IsInTurn step → GrowBy facts 0 (facts_after setup facts step)
-drawn_turn setup facts step turn =
-    turn_keeps setup (GrowBy facts 0) (GrowBy facts 0) (drawn_kept setup facts) facts step turn
-    (grow_by facts.connections facts.drawn facts.drawn 0 (no_more facts.drawn))
+drawn_ended : (facts : Facts) → GrowBy facts 0 (facts_ended_turn facts)
+drawn_ended facts = subst (GrowBy facts 0) (sym (leaving_is (facts_handed facts))) (none_more facts facts refl refl)
+
+-- ---- each step
 
 drawn_step : (setup : Setup) (facts : Facts) (step : Step)
-    → GrowBy facts (rands (commands_accepted_after facts step)) (facts_after setup facts step)
-drawn_step setup facts (HostOctet octet) = drawn_fed setup facts (result_of facts.octets octet)
-drawn_step setup facts (TurnBegins slot on) = drawn_turn setup facts (TurnBegins slot on) tt
-drawn_step setup facts (PacketHeard octets) = drawn_turn setup facts (PacketHeard octets) tt
-drawn_step setup facts NothingHeard = drawn_turn setup facts NothingHeard tt
-drawn_step setup facts TurnEnds = drawn_turn setup facts TurnEnds tt
+    → GrowBy facts (rands (commands_accepted_after facts step) + words_heard setup facts step) (facts_after setup facts step)
+drawn_step setup facts (HostOctet octet) =
+    plus_none facts _ (facts_after setup facts (HostOctet octet)) (drawn_fed setup facts (result_of facts.octets octet))
+drawn_step setup facts (TurnBegins slot on) =
+    start_keeps (GrowBy facts 0) (GrowBy facts 0) (drawn_starts facts) slot on facts (none_more facts facts refl refl)
+drawn_step setup facts (PacketHeard octets) =
+    none_plus facts _ (facts_after setup facts (PacketHeard octets)) (drawn_heard setup facts.turn.doing octets facts)
+drawn_step setup facts NothingHeard = drawn_unheard facts.turn.doing facts
+drawn_step setup facts TurnEnds = drawn_ended facts
 
 -- ---- all steps
 
 plus_assoc : (d0 c0 d1 c1 d2 c2 a b n : ℕ) → d1 + c0 ≡ d0 + a + c1 → d2 + c1 ≡ d1 + b + c2 → n ≡ a + b → d2 + c0 ≡ d0 + n + c2
 plus_assoc d0 c0 d1 c1 d2 c2 a b n is later also = omega arith
 
+-- the words of a step and of those after it
+two_sums : (a b c d n : ℕ) → n ≡ a + c → n + (b + d) ≡ a + b + (c + d)
+two_sums a b c d n is = omega (arith, is)
+
 drawn_from : (setup : Setup) (facts : Facts) (past : List Step)
-    → GrowBy facts (rands (commands_accepted_from setup facts past)) (fold (facts_after setup) facts past)
-drawn_from setup facts [] = grow_by facts.connections facts.drawn facts.drawn 0 (no_more facts.drawn)
+    → GrowBy facts (rands (commands_accepted_from setup facts past) + words_heard_from setup facts past) (fold (facts_after setup) facts past)
+drawn_from setup facts [] = none_more facts facts refl refl
 drawn_from setup facts (step ∷ past) =
     let next = facts_after setup facts step in
     let last = fold (facts_after setup) next past in
     let now = commands_accepted_after facts step in
     let later = commands_accepted_from setup next past in
-    plus_assoc facts.drawn facts.connections next.drawn next.connections last.drawn last.connections (rands now) (rands later)
-    (rands (now ++ later)) (drawn_step setup facts step) (drawn_from setup next past) (rands-append now later)
+    plus_assoc facts.drawn facts.connections next.drawn next.connections last.drawn last.connections
+    (rands now + words_heard setup facts step) (rands later + words_heard_from setup next past)
+    (rands (now ++ later) + (words_heard setup facts step + words_heard_from setup next past)) (drawn_step setup facts step)
+    (drawn_from setup next past)
+    (two_sums (rands now) (words_heard setup facts step) (rands later) (words_heard_from setup next past) (rands (now ++ later)) (rands-append now later))
 
 first_none : (drawn connections count : ℕ) → drawn + 0 ≡ 0 + count + connections → drawn ≡ count + connections
 first_none drawn connections count is = omega arith
 
 pub drawn : (setup : Setup) (past : List Step)
-    → (facts_of setup past).drawn ≡ le_rand_count setup past + (facts_of setup past).connections
-unfolding facts_of commands_accepted
+    → (facts_of setup past).drawn ≡ words_drawn setup past + words_answered setup past + (facts_of setup past).connections
+unfolding facts_of commands_accepted words_answered
 drawn setup past =
     let last = fold (facts_after setup) (first_facts setup) past in
-    first_none last.drawn last.connections (rands (commands_accepted_from setup (first_facts setup) past)) (drawn_from setup (first_facts setup) past)
+    let first = first_facts setup in
+    first_none last.drawn last.connections (rands (commands_accepted_from setup first past) + words_heard_from setup first past)
+    (drawn_from setup first past)
 
 -- ---- LE Rand
 

@@ -27,7 +27,7 @@ use Rattle.link_commands.specs.open_links.link_model.Packets.{good_pdu, is_forge
 use Rattle.link_commands.specs.open_links.link_model.Payload.{payload_made}
 use Rattle.link_commands.specs.open_links.link_model.Verdicts.{pdu_of}
 use Rattle.link_commands.specs.open_links.link_model.Setup.{Setup as EndSetup}
-use Rattle.link_commands.specs.open_links.link_model.Step.{Step as EndStep, DataGiven, ProcedureAsked, RequestAnswered, Disconnected, EventEntered, PduFixed, PacketSent, PacketReceived, DataReported}
+use Rattle.link_commands.specs.open_links.link_model.Step.{Step as EndStep, DataGiven, ProcedureAsked, KeyAnswered, RequestAnswered, Disconnected, EventEntered, PduFixed, PacketSent, PacketReceived, DataReported, WordsGiven}
 use Rattle.link_commands.proofs.open_links.link_model.Choices.{either_data, either_forged}
 use Rattle.link_commands.proofs.open_links.link_model.Pasts.{grows}
 use Rattle.link_commands.specs.open_links.OpenLinks.{OpenLink, facts_in, link_at}
@@ -98,6 +98,8 @@ silent_same : (setup : EndSetup) (facts : EndFacts) (step : EndStep) → IsSilen
 silent_same setup facts (DataGiven start body) is = given_same setup.link.handle start body facts.outgoing
 silent_same setup facts (ProcedureAsked ask) is = asked_same (is_to_come ask facts) ask facts
 silent_same setup facts (RequestAnswered answer) is = refl
+silent_same setup facts (KeyAnswered key slot) is = refl
+silent_same setup facts (WordsGiven skd_s iv_s) is = refl
 silent_same setup facts (Disconnected reason slot) is = refl
 silent_same setup facts (EventEntered slot) is = entered_same (goes_on facts) setup slot facts
 silent_same setup facts PduFixed is = fixed_same (is_control facts.outgoing.fixed) facts

@@ -96,6 +96,7 @@ asks_kept setup = record {
       does = λ doing facts begins may. record { map_is = may.map_is; request = may.request };
     };
     reports = λ facts may. record { map_is = may.map_is; request = may.request };
+    words = λ handle facts listens may. record { map_is = may.map_is; request = may.request };
     passes = λ facts may. record {
       rests = record { map_is = may.map_is; request = may.request };
       awaits_request = λ channel doing. record { map_is = may.map_is; request = may.request };

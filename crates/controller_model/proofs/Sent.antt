@@ -21,7 +21,7 @@ use Rattle.host_view.specs.scan_init.declared.scanner.ScanParams.{ScanParams}
 use Rattle.host_view.specs.scan_init.Initiating.{InitiatorFacts}
 use Rattle.host_view.specs.scan_init.Reports.{ScannerFacts, does_ask, scan_answer}
 use Rattle.link_commands.specs.open_links.link_model.declared.setup.LinkSetup.{LinkSetup}
-use Rattle.link_commands.specs.open_links.link_model.Step.{Step as EndStep, DataGiven, Disconnected, PacketSent, ProcedureAsked, RequestAnswered}
+use Rattle.link_commands.specs.open_links.link_model.Step.{Step as EndStep, DataGiven, Disconnected, KeyAnswered, PacketSent, ProcedureAsked, RequestAnswered}
 use Rattle.slot_plan.specs.declared.Activity.{Activity}
 use Rattle.slot_plan.specs.declared.Activity.TheVariants.{Link, Advertise, Scan, Initiate}
 use Rattle.link_commands.specs.open_links.Data.{links_given}
@@ -30,12 +30,13 @@ use Rattle.link_commands.proofs.open_links.Handles.{changed_is}
 use Rattle.controller_model.specs.declared.doing.Doing.{Doing}
 use Rattle.controller_model.specs.declared.doing.Turn.{Turn}
 use Rattle.controller_model.specs.declared.doing.Doing.TheVariants.{Advertises, AwaitsRequest, Responds, Scans, Requests, AwaitsResponse, Initiates, Connects, CentralSends, CentralListens, PeripheralListens, PeripheralSends, Rests}
+use Rattle.link_commands.specs.declared.moments.Moment.{Moment}
 use Rattle.link_commands.specs.LinksCommanded.{links_commanded}
 use Rattle.controller_model.specs.Step.{Step}
 use Rattle.controller_model.specs.Facts.{Setup, Facts, Advertising, Scanning, Use, Sends, Listens, Idle}
-use Rattle.controller_model.specs.Commands.{advertiser_enabled, advertiser_turned_on, advertising_after, facts_accepted, initiator_after, links_after, own_address, random_or_public, scanner_enabled, scanner_turned_on, scanning_after}
+use Rattle.controller_model.specs.Commands.{advertiser_enabled, advertiser_turned_on, advertising_after, facts_accepted, initiator_after, links_after, moment_of, own_address, random_or_public, scanner_enabled, scanner_turned_on, scanning_after}
 use Rattle.controller_model.specs.Data.{facts_handed}
-use Rattle.controller_model.specs.Heard.{asks_if, facts_connecting, fields_sent, has_room, link_made, link_taken, opens, replies_in, reply_if, scanner_after, with_scanner}
+use Rattle.controller_model.specs.Heard.{asks_if, facts_connecting, fields_sent, has_room, link_made, link_taken, opens, replies_in, reply_if, scanner_after, with_scanner, facts_with_words}
 use Rattle.controller_model.specs.Outcome.{facts_passed}
 use Rattle.controller_model.specs.Packets.{advertisement_sent, connect_sent, facts_doing, listens_on, request_sent, response_sent, sends_on, sends_pdu, use_for}
 use Rattle.controller_model.specs.Radio.{served_if_on, turn_begins}
@@ -391,13 +392,14 @@ given_place link start octets (Some after) is = heard_more link after (DataGiven
 asks_of_host : (step : EndStep) → IsAskedStep step → IsHostStep step
 asks_of_host (ProcedureAsked ask) asks = tt
 asks_of_host (RequestAnswered answer) asks = tt
+asks_of_host (KeyAnswered key slot) asks = tt
 asks_of_host (Disconnected reason slot) asks = tt
 asks_of_host step asks = absurd asks
 
-asked_last : (command : Command) (slot : ℕ) (links : Links) → StillLast links (links_commanded command slot links)
-asked_last command slot links other link is =
+asked_last : (command : Command) (moment : Moment) (links : Links) → StillLast links (links_commanded command moment links)
+asked_last command moment links other link is =
     at_kept (λ (found : Option OpenLink). IfSome found (HasOnlyHeardHost link))
-    (λ after step asks is. heard_more link after step (asks_of_host step asks) is) command slot other links is
+    (λ after step asks is. heard_more link after step (asks_of_host step asks) is) command moment other links is
 
 given_last : (handle : ℕ) (start : Bool) (octets : List ℕ) (links : Links) → StillLast links (links_given handle start octets links)
 given_last handle start octets links other link is =
@@ -493,6 +495,24 @@ passes_well setup facts well = record {
       (sends_doing (reply_if replies handle) after (can_still facts after refl refl refl refl well.can) (reply_fits replies handle));
 }
 
+-- a peripheral that is given words listens, and sends nothing
+listening_still : (before after : Facts) (handle : ℕ) (wanted : Use) → before.turn.doing ≡ PeripheralListens handle
+    → IsWanted before wanted → IsWanted after wanted
+listening_still before after handle (Sends channel octets) listens is = elim is [
+  | inl packet ↦ inl packet
+  | inr packet ↦ absurd (subst (SendsOn packet.handle) listens packet.sends)
+]
+listening_still before after handle (Listens channel) listens is = tt
+listening_still before after handle Idle listens is = tt
+
+words_well : (setup : Setup) (handle : ℕ) (facts : Facts) → facts.turn.doing ≡ PeripheralListens handle → SendsWell facts
+    → SendsWell (facts_with_words setup handle facts)
+words_well setup handle facts listens well = record {
+  can = can_still facts (facts_with_words setup handle facts) refl refl refl refl well.can;
+  does = well.does;
+  wanted = listening_still facts (facts_with_words setup handle facts) handle facts.wanted listens well.wanted;
+}
+
 pub well_kept : (setup : Setup) → length setup.public ≡ 6 → IsKept setup CanSend SendsWell
 well_kept setup six = record {
   accepted = λ facts opcode octets command is accepted well.
@@ -515,7 +535,7 @@ well_kept setup six = record {
     does = well.does;
     wanted =
         wanted_still facts (facts_asked setup facts command) facts.wanted refl
-        (asked_last command facts.turn.begun facts.links) well.wanted;
+        (asked_last command (moment_of setup facts) facts.links) well.wanted;
   };
   given = λ facts handle count start octets is well. record {
     can = can_still facts (facts_given handle start octets facts) refl refl refl refl well.can;
@@ -551,6 +571,7 @@ well_kept setup six = record {
     };
     reports = λ facts can. can_still facts (facts_handed facts) refl refl refl refl can;
     passes = λ facts well. passes_well setup facts well;
+    words = λ handle facts listens well. words_well setup handle facts listens well;
   };
 }
 

@@ -32,6 +32,7 @@ use Rattle.link_commands.specs.open_links.OpenLinks.{Links, OpenLink, HaveHandle
 use Rattle.link_commands.specs.open_links.Ended.{IsAmong, end_by}
 use Rattle.link_commands.specs.open_links.Turns.{due_in, ending_in, ends_by, reason_at}
 use Rattle.link_commands.proofs.open_links.Ends.{due_is_among}
+use Rattle.controller_model.specs.Heard.{facts_with_words}
 use Rattle.controller_model.specs.Step.{Step, HostOctet, TurnBegins, PacketHeard, NothingHeard, TurnEnds}
 use Rattle.controller_model.specs.Facts.{Setup, Facts}
 use Rattle.controller_model.specs.Answers.{answer_to}
@@ -331,7 +332,9 @@ step_shuts setup facts (PacketHeard octets) handle reason have noted =
     let P = IsOfReset [] facts.links in
     reset_shuts facts (PacketHeard octets) handle reason _
     (heard_is setup facts (λ outcome. ⊤ → All P (notes_passed outcome))
-    (phase_too P (others_too [] facts.links) (λ handle kind code. tt) (λ handle kind. tt) setup facts) facts.turn.doing octets refl tt)
+    (phase_too P (others_too [] facts.links) (λ handle kind code. tt) (λ handle kind. tt) setup facts) facts.turn.doing octets refl
+    (λ handle. (phase_too P (others_too [] facts.links) (λ handle kind code. tt) (λ handle kind. tt) setup (facts_with_words setup handle facts)).received handle octets)
+    tt)
     noted
 step_shuts setup facts NothingHeard handle reason have noted =
     let P = IsOfReset [] facts.links in

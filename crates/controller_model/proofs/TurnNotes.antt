@@ -11,6 +11,7 @@ use Rattle.adv_pdu.specs.declared.pdu.AdvPdu.{AdvPdu}
 use Rattle.hci_evt.specs.declared.event.Event.{Event}
 use Rattle.hci_evt.specs.declared.event.Event.TheVariants.{DisconnectionComplete, CompletedPackets, ConnectionComplete, AdvertisingReport, EnhancedConnection, ChannelSelection}
 use Rattle.hci_evt.specs.Event.{mask_bit_of, written}
+use Rattle.host_view.specs.Links.{was_encrypted}
 use Rattle.host_view.specs.View.{View}
 use Rattle.link_commands.specs.open_links.link_model.declared.setup.LinkSetup.{LinkSetup}
 use Rattle.link_commands.specs.open_links.link_model.Packets.{good_pdu}
@@ -30,14 +31,14 @@ use Rattle.controller_model.specs.declared.doing.Doing.{Doing}
 use Rattle.controller_model.specs.declared.doing.Doing.TheVariants.{Advertises, CentralSends, PeripheralSends}
 use Rattle.controller_model.specs.Data.{event_completed, facts_handed, note_received, notes_handed}
 use Rattle.controller_model.specs.Entering.{notes_all_entering}
-use Rattle.controller_model.specs.Heard.{asks_if, does_report, events_received, events_reported, has_room, link_received, link_taken, notes_taken, replies_in, reply_if, report_event, report_events, scanner_after, with_scanner}
+use Rattle.controller_model.specs.Heard.{asks_if, does_report, events_received, events_reported, has_room, link_received, link_taken, notes_taken, replies_in, reply_if, report_event, report_events, scanner_after, with_scanner, facts_with_words}
 use Rattle.controller_model.specs.Links.{connection_complete, facts_ending, note_opened, note_shut, notes_ended, notes_ending, notes_leaving, notes_opened, wants_enhanced}
 use Rattle.controller_model.specs.Outcome.{notes_passed}
 use Rattle.controller_model.specs.Packets.{notes_doing, notes_sent}
 use Rattle.controller_model.specs.Side.{notes_after}
 use Rattle.controller_model.proofs.Always.{IsInTurn, begun_doing, ending_is, facts_ended}
 use Rattle.controller_model.proofs.EndNotes.{entered_each, received_each, sent_each}
-use Rattle.controller_model.proofs.Handles.{HaveOwnHandles, IsNew, below_at, free_is_new, handles_kept, mapped_opens, receiving_opens, reported_same}
+use Rattle.controller_model.proofs.Handles.{HaveOwnHandles, IsNew, below_at, free_is_new, handles_kept, mapped_opens, receiving_opens, reported_same, words_own}
 use Rattle.controller_model.proofs.LinkNotes.{all_in, entering_too, procedures_too}
 use Rattle.controller_model.proofs.Phases.{EachOutcome, heard_is, unheard_is}
 use Rattle.controller_model.proofs.ProcedureEvents.{IsOfProcedure, reception_events}
@@ -242,10 +243,10 @@ module _ (most : ℕ) (P : Note → Type 0) (each : EachNote most P) where
             let room = has_room setup facts in
             let place = link_at handle facts.links in
             let opens = receiving_opens handle room octets facts in
-            both (notes_taken slot room place octets ++ notes_of_events facts.view (events_received handle slot room place octets)) _
+            both (notes_taken slot room place octets ++ notes_of_events facts.view (events_received (was_encrypted handle facts.view.links) handle slot room place octets)) _
             (both (notes_taken slot room place octets) _ (took_noted slot room place octets (below_most handle facts.links own.handles many))
-            (procedures_too P (λ event is. each.up event (of_turn event is)) facts.view (events_received handle slot room place octets)
-            (reception_events handle slot room place octets)))
+            (procedures_too P (λ event is. each.up event (of_turn event is)) facts.view (events_received (was_encrypted handle facts.view.links) handle slot room place octets)
+            (reception_events (was_encrypted handle facts.view.links) handle slot room place octets)))
             (doing_noted (reply_if (replies_in slot room place octets) handle) (link_received handle room octets facts) (opens.handles own.handles)
             (opens.many ∙ many));
       }
@@ -266,6 +267,7 @@ module _ (most : ℕ) (P : Note → Type 0) (each : EachNote most P) where
       (λ doing facts may own. doing_noted doing facts own.handles (own.many ∙ is)) slot on facts own)
   turn_noted setup facts (PacketHeard octets) is own turn =
       heard_is setup facts (λ outcome. All P (notes_passed outcome)) (phase_noted setup facts is own) facts.turn.doing octets refl
+      (λ handle. (phase_noted setup (facts_with_words setup handle facts) is (words_own setup handle facts own)).received handle octets)
   turn_noted setup facts NothingHeard is own turn =
       unheard_is setup facts (λ outcome. All P (notes_passed outcome)) (phase_noted setup facts is own) facts.turn.doing refl
   turn_noted setup facts TurnEnds is own turn =

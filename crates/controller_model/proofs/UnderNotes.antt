@@ -1,5 +1,5 @@
 -- What is noted under a handle is what the end of the link there notes, between the notes that it is opened and shut.
-use Rattle.std.proofs.Common.{◌≡◌, ◌≢◌, ℕ, zero, suc, ◌+◌, ◌<◌, ◌==◌, ◌||◌, ◌⊎◌, inl, inr, Bool, true, false, Option, Some, None, List, [], ◌∷◌, ◌++◌, length, map, cond, refl, ap, sym, subst, ◌∙◌, append-nil, append_assoc, arith}
+use Rattle.std.proofs.Common.{◌≡◌, ◌≢◌, ℕ, zero, suc, ◌+◌, ◌<◌, ◌==◌, ◌||◌, ◌⊎◌, inl, inr, Bool, true, false, Option, Some, None, List, [], ◌∷◌, ◌++◌, length, map, cond, refl, ap, sym, subst, ◌∙◌, append-nil, append_assoc, arith, IfSome}
 use Rattle.std.specs.Prelude.{◌&&◌, filter, flat_map, fold, nat_lt, replicate}
 use Rattle.std.specs.List.{AllByRecursion}
 use Rattle.std.specs.Option.{option_map}
@@ -22,6 +22,7 @@ use Rattle.hci_cmd.specs.Command.{command_of}
 use Rattle.hci_evt.specs.declared.event.Event.{Event}
 use Rattle.hci_evt.specs.declared.event.Event.TheVariants.{BufferOverflow, CompletedPackets, DisconnectionComplete, HardwareError}
 use Rattle.hci_evt.specs.Event.{mask_bit_of, written}
+use Rattle.host_view.specs.Links.{was_encrypted}
 use Rattle.host_view.specs.View.{View}
 use Rattle.host_view.specs.Unbuilt.{status_of}
 use Rattle.host_view.specs.scan_init.Reports.{ScannerFacts, does_ask, scan_answer}
@@ -33,7 +34,7 @@ use Rattle.link_commands.specs.open_links.link_model.End.{facts_after as end_aft
 use Rattle.link_commands.specs.open_links.link_model.Facts.{Facts as EndFacts, first_facts as first_end}
 use Rattle.link_commands.specs.open_links.link_model.Packets.{good_pdu}
 use Rattle.link_commands.specs.open_links.link_model.Setup.{Setup as EndSetup}
-use Rattle.link_commands.specs.open_links.link_model.Step.{Step as EndStep, DataGiven, EventEntered, PduFixed, PacketSent, PacketReceived, RequestAnswered, DataReported}
+use Rattle.link_commands.specs.open_links.link_model.Step.{Step as EndStep, DataGiven, EventEntered, PduFixed, PacketSent, PacketReceived, DataReported, WordsGiven}
 use Rattle.link_commands.proofs.open_links.link_model.Pasts.{notes_grow}
 use Rattle.link_commands.specs.open_links.Data.{complete_in, completed_from, link_reported, links_reported}
 use Rattle.link_commands.specs.open_links.declared.offers.Offer.{Offer}
@@ -50,10 +51,10 @@ use Rattle.controller_model.specs.Step.{Step, HostOctet, TurnBegins, PacketHeard
 use Rattle.controller_model.specs.Facts.{Setup, Facts, first_facts}
 use Rattle.controller_model.specs.Answers.{answer_to}
 use Rattle.link_commands.specs.LinksCommanded.{events_commanded_on, links_commanded}
-use Rattle.controller_model.specs.Commands.{events_caused, facts_commanded, facts_known, is_asking, links_after, notes_before, notes_commanded, notes_known}
+use Rattle.controller_model.specs.Commands.{events_caused, facts_commanded, facts_known, is_asking, links_after, moment_of, notes_before, notes_commanded, notes_known}
 use Rattle.controller_model.specs.Data.{event_completed, facts_ended_turn, facts_handed, facts_offered, note_received, notes_ended_turn, notes_handed, notes_offered, offer_of}
 use Rattle.controller_model.specs.Events.{notes_of_events, passes}
-use Rattle.controller_model.specs.Heard.{asks_if, events_received, events_reported, has_room, link_heard, link_received, link_taken, links_refusing, notes_taken, opens, replies_in, reply_if, scanner_after, with_scanner}
+use Rattle.controller_model.specs.Heard.{asks_if, events_received, events_reported, has_room, link_heard, link_received, link_taken, links_refusing, notes_taken, opens, replies_in, reply_if, scanner_after, with_scanner, facts_with_words}
 use Rattle.controller_model.specs.Links.{events_opened, note_opened, note_shut, notes_ended, notes_ending, notes_leaving, notes_opened}
 use Rattle.controller_model.specs.Outcome.{Outcome, facts_passed, notes_passed}
 use Rattle.controller_model.specs.Packets.{facts_doing, links_sending, notes_doing, notes_sent}
@@ -63,11 +64,11 @@ use Rattle.controller_model.specs.Since.{AreOfShutLink, is_under, note_under, no
 use Rattle.controller_model.proofs.Always.{ending_is, facts_before_doing, facts_ended, holds_step, leaving_is, left_entering, links_won, opening_passes, served_is, winner_before_doing}
 use Rattle.controller_model.proofs.Books.{by_handle, is_not}
 use Rattle.controller_model.proofs.EndNotes.{both_each, entered_each, received_each, sent_each}
-use Rattle.controller_model.proofs.Handles.{HaveOwnHandles, IsNew, free_is_new, handles_kept, mapped_opens, own_handles, receiving_opens, reported_same}
+use Rattle.controller_model.proofs.Handles.{HaveOwnHandles, IsNew, free_is_new, handles_kept, mapped_opens, own_handles, receiving_opens, reported_same, words_own}
 use Rattle.controller_model.proofs.Phases.{EachOutcome, heard_is, unheard_is}
-use Rattle.controller_model.proofs.Places.{at_changed, refusal, refuses_at}
+use Rattle.controller_model.proofs.Places.{at_changed, refusal_at, refusal_is}
 use Rattle.controller_model.specs.Entering.{all_entered, events_entering, notes_all_entering}
-use Rattle.controller_model.proofs.Asked.{asked_silent, asking_shuts_none, at_kept, both_asking, notes_at_once}
+use Rattle.controller_model.proofs.Asked.{IsAskedStep, asked_silent, asking_shuts_none, at_kept, both_asking, notes_at_once}
 
 -- ---- lists of notes
 
@@ -565,11 +566,11 @@ module _ (handle : ℕ) where
     taken_are slot room octets None = refl
     taken_are slot room octets (Some link) = refl
 
-    -- a request that is refused at once
-    refusing_noted : (refuses : Bool) (other : ℕ) (links : Links) (notes : List Note) → IsNoted (link_at handle links) notes
-        → IsNoted (link_at handle (links_refusing refuses other links)) notes
-    refusing_noted true other links notes is = silent_at (RequestAnswered refusal) other links notes (λ setup facts. refl) is
-    refusing_noted false other links notes is = is
+    -- a request that is answered at once
+    refusing_noted : (refusal : Option EndStep) → IfSome refusal IsAskedStep → (other : ℕ) (links : Links) (notes : List Note)
+        → IsNoted (link_at handle links) notes → IsNoted (link_at handle (links_refusing refusal other links)) notes
+    refusing_noted (Some step) asks other links notes is = silent_at step other links notes (asked_silent step asks) is
+    refusing_noted None asks other links notes is = is
 
     heard_noted : (other : ℕ) (octets : List ℕ) (facts : Facts) (notes : List Note) → HaveOwnHandles setup facts → IsNoted (link_at handle facts.links) notes
         → IsKeptBy notes (link_heard setup other octets facts)
@@ -579,9 +580,9 @@ module _ (handle : ℕ) where
         let step = PacketReceived slot octets room in
         let place = link_at other facts.links in
         let taken = notes_taken slot room place octets in
-        let events = events_received other slot room place octets in
+        let events = events_received (was_encrypted other facts.view.links) other slot room place octets in
         let after = link_received other room octets facts in
-        let heard = refusing_noted (refuses_at other room octets facts) other (with_change other (link_after step) facts.links) (then_noted notes taken)
+        let heard = refusing_noted (refusal_at other room octets facts) (refusal_is other room octets facts) other (with_change other (link_after step) facts.links) (then_noted notes taken)
         (subst (IsNotedAfter (link_at handle (with_change other (link_after step) facts.links)) notes) (taken_are slot room octets place)
         (step_at step other facts.links notes own.handles is)) in
         reply_noted (replies_in slot room place octets) other after notes (taken ++ notes_of_events facts.view events)
@@ -654,13 +655,13 @@ module _ (handle : ℕ) where
 
     asked_noted : (facts : Facts) (opcode : ℕ) (command : Command) (notes : List Note) → is_asking facts.view command ≡ true
         → IsNoted (link_at handle facts.links) notes
-        → IsNotedAfter (link_at handle (links_commanded command facts.turn.begun facts.links)) notes
+        → IsNotedAfter (link_at handle (links_commanded command (moment_of setup facts) facts.links)) notes
         (notes_known true setup facts opcode command ++ notes_at_once facts command)
     asked_noted facts opcode command notes asks is =
         let before = notes_before facts command in
         let answer = notes_of_events facts.view (answer_to setup facts opcode (Known command)) in
         let caused = notes_of_events facts.view (events_caused facts command) in
-        elsewhere (link_at handle (links_commanded command facts.turn.begun facts.links)) notes ((before ++ answer ++ caused) ++ notes_at_once facts command)
+        elsewhere (link_at handle (links_commanded command (moment_of setup facts) facts.links)) notes ((before ++ answer ++ caused) ++ notes_at_once facts command)
         (both_else (before ++ answer ++ caused) (notes_at_once facts command)
         (both_else (before ++ answer) caused
         (both_else before answer (subst AreElse (sym (asking_shuts_none facts command asks)) tt)
@@ -668,7 +669,7 @@ module _ (handle : ℕ) where
         (events_else facts.view (events_caused facts command)))
         (events_else facts.view (events_commanded_on command facts.links)))
         (at_kept (λ place. IsNoted place notes) (λ link step asks is. silent_noted step (Some link) notes (asked_silent step asks) is) command
-        facts.turn.begun handle facts.links is)
+        (moment_of setup facts) handle facts.links is)
 
     read_noted : (read : CmdRead) (facts : Facts) (opcode : ℕ) (notes : List Note) → HaveOwnHandles setup facts → IsNoted (link_at handle facts.links) notes
         → IsNotedAfter (link_at handle (facts_commanded setup facts read).links) notes (notes_commanded setup facts opcode read)
@@ -698,6 +699,8 @@ module _ (handle : ℕ) where
     step_noted_by (HostOctet octet) facts notes own is = fed_noted (result_of facts.octets octet) facts notes own is
     step_noted_by (TurnBegins slot on) facts notes own is = turn_noted slot on facts notes own is
     step_noted_by (PacketHeard octets) facts notes own is = heard_is setup facts (IsKeptBy notes) (phase_noted facts notes own is) facts.turn.doing octets refl
+        (λ other. (phase_noted (facts_with_words setup other facts) notes (words_own setup other facts own)
+        (silent_at (WordsGiven _ _) other facts.links notes (λ setup facts. refl) is)).received other octets)
     step_noted_by NothingHeard facts notes own is = unheard_is setup facts (IsKeptBy notes) (phase_noted facts notes own is) facts.turn.doing refl
     step_noted_by TurnEnds facts notes own is = ended_noted facts notes own is
 

@@ -27,7 +27,7 @@ use Rattle.advertise.proofs.Takings.{taken_connection}
 use Rattle.host_view.specs.scan_init.Initiating.{InitiatorFacts}
 use Rattle.host_view.specs.scan_init.Reports.{does_ask, scan_answer}
 use Rattle.link_commands.specs.open_links.link_model.declared.setup.LinkSetup.{LinkSetup}
-use Rattle.link_commands.specs.open_links.link_model.Step.{DataGiven}
+use Rattle.link_commands.specs.open_links.link_model.Step.{DataGiven, WordsGiven}
 use Rattle.link_commands.specs.open_links.declared.ended.LinkEnded.{LinkEnded}
 use Rattle.link_commands.specs.open_links.Data.{link_reported}
 use Rattle.link_commands.specs.open_links.OpenLinks.{Links, OpenLink, free_from, link_after, link_at, new_link, with_link}
@@ -37,9 +37,9 @@ use Rattle.controller_model.specs.declared.doing.Doing.{Doing}
 use Rattle.controller_model.specs.declared.doing.Doing.TheVariants.{Advertises, AwaitsRequest, Responds, AwaitsResponse, Connects, CentralListens, Rests}
 use Rattle.controller_model.specs.Step.{Step, HostOctet, TurnBegins, PacketHeard, NothingHeard, TurnEnds}
 use Rattle.controller_model.specs.Facts.{Setup, Facts, first_facts}
-use Rattle.controller_model.specs.Commands.{facts_accepted, initiator_after, is_asking, links_after}
+use Rattle.controller_model.specs.Commands.{facts_accepted, initiator_after, is_asking, links_after, moment_of}
 use Rattle.controller_model.specs.Data.{facts_ended_turn, facts_handed}
-use Rattle.controller_model.specs.Heard.{has_room, asks_if, facts_connecting, fields_sent, link_made, link_taken, notes_received, replies_in, reply_if, scanner_after, with_scanner}
+use Rattle.controller_model.specs.Heard.{has_room, asks_if, facts_connecting, fields_sent, link_made, link_taken, notes_received, replies_in, reply_if, scanner_after, with_scanner, facts_with_words}
 use Rattle.controller_model.specs.Outcome.{facts_passed}
 use Rattle.controller_model.specs.Packets.{facts_doing}
 use Rattle.controller_model.specs.Radio.{notes_entered}
@@ -48,7 +48,7 @@ use Rattle.controller_model.proofs.Asked.{asking_leaves, facts_asked}
 use Rattle.controller_model.proofs.Following.{AreOfOpenLinks, all_entering_are, facts_receiving, received_are, receiving_passes, view_followed}
 use Rattle.controller_model.proofs.Always.{IsInTurn, MayBegin, advertising_noted, facts_ended, facts_opening, holds_step, initiating_noted, initiator_stopped, leaving_is, left_doing, links_shut, octet_keeps, opening_passes}
 use Rattle.controller_model.proofs.AdvertisersKnown.{AdvertisersKnown, advertisers_kept, advertisers_known, connectable_known}
-use Rattle.controller_model.proofs.Handles.{HaveOwnHandles, IsNew, free_is_new, handles_kept, own_handles}
+use Rattle.controller_model.proofs.Handles.{HaveOwnHandles, IsNew, free_is_new, handles_kept, own_handles, words_own}
 use Rattle.controller_model.proofs.OpenPlaces.{asked_opens, changed_opens, ended_agree, first_opens, fixed_opens, followed_opens, known_opens, many, many-append, many_full, many_none, many_opened, many_shut, mapped_opens, opened_opens, opens, received_opens, reset_opens, sent_opens, view_opens, won_opens}
 use Rattle.controller_model.proofs.Phases.{EachOutcome, heard_is, unheard_is}
 use Rattle.controller_model.proofs.Room.{initiates_after, limit_after, may_connect}
@@ -250,7 +250,7 @@ module _ (setup : Setup) (few : setup.links ≤ 6) (Room : Bool → ℕ → View
   asked_known facts command asks known =
       seen_known (facts_accepted setup facts command) (view_commanded_on facts.view command facts.links).links _
       (known_opens (view_after facts.view command) command facts.links)
-      (asked_opens command facts.turn.begun facts.links ∙ sym (ap opens (asking_leaves facts command asks))) known
+      (asked_opens command (moment_of setup facts) facts.links ∙ sym (ap opens (asking_leaves facts command asks))) known
 
   pub octet_known : (facts : Facts) (octet : ℕ) → HaveOwnHandles setup facts → IsKnown Room setup facts
       → IsKnown Room setup (facts_after setup facts (HostOctet octet))
@@ -366,6 +366,8 @@ module _ (setup : Setup) (few : setup.links ≤ 6) (Room : Bool → ℕ → View
   turn_known facts (TurnBegins slot on) turn own both = begins_known slot on facts both.0
   turn_known facts (PacketHeard octets) turn own both =
       heard_is setup facts (λ outcome. InTurn (facts_passed outcome)) (passes_known facts own both) facts.turn.doing octets refl
+      (λ handle. (passes_known (facts_with_words setup handle facts) (words_own setup handle facts own.0, own.1)
+      (still_known facts _ (changed_opens (link_after (WordsGiven _ _)) handle facts.links) both.0, both.1)).received handle octets)
   turn_known facts NothingHeard turn own both =
       unheard_is setup facts (λ outcome. InTurn (facts_passed outcome)) (passes_known facts own both) facts.turn.doing refl
   turn_known facts TurnEnds turn own both =

@@ -1,11 +1,11 @@
 -- What an accepted command changes of advertising, scanning, initiating, links and random words (Core 5.2, volume 4
 -- part E, sections 7.3.2 and 7.8).
-use Rattle.std.specs.Prelude.{ℕ, ◌+◌, ◌==◌, ◌&&◌, Bool, true, false, List, [], ◌∷◌, ◌++◌, take, Option, Some, None, if◌then◌else◌}
+use Rattle.std.specs.Prelude.{ℕ, ◌+◌, ◌%◌, ◌^◌, ◌==◌, ◌&&◌, Bool, true, false, List, [], ◌∷◌, ◌++◌, take, Option, Some, None, if◌then◌else◌}
 use Rattle.ble_base.specs.declared.addresses.Address.{Address}
 use Rattle.ble_base.specs.declared.notes.Note.{Note}
 use Rattle.acl_banks.specs.declared.pieces.Piece.{Piece}
 use Rattle.hci_cmd.specs.declared.command.Command.{Command}
-use Rattle.hci_cmd.specs.declared.command.Command.TheVariants.{Reset, LeSetAdvParams, LeSetAdvData, LeSetScanResponse, LeSetAdvEnable, LeSetScanParams, LeSetScanEnable, LeCreateConnection, LeCreateCancel, LeRand}
+use Rattle.hci_cmd.specs.declared.command.Command.TheVariants.{Reset, LeSetAdvParams, LeSetAdvData, LeSetScanResponse, LeSetAdvEnable, LeSetScanParams, LeSetScanEnable, LeCreateConnection, LeCreateCancel, LeRand, LeEnableEncryption}
 use Rattle.hci_cmd.specs.declared.command.CmdRead.{CmdRead}
 use Rattle.hci_cmd.specs.declared.command.CmdRead.TheVariants.{Known}
 use Rattle.hci_evt.specs.declared.event.Event.{Event}
@@ -23,8 +23,9 @@ use Rattle.host_view.specs.scan_init.Reports.{ScannerFacts}
 use Rattle.slot_plan.specs.declared.Activity.{Activity}
 use Rattle.slot_plan.specs.declared.Activity.TheVariants.{Link, Advertise, Scan, Initiate}
 use Rattle.link_commands.specs.open_links.OpenLinks.{Links, without_links}
+use Rattle.link_commands.specs.declared.moments.Moment.{Moment}
 use Rattle.link_commands.specs.LinksCommanded.{events_commanded_on, links_commanded, view_commanded_on}
-use Rattle.controller_model.specs.Answers.{answer_to}
+use Rattle.controller_model.specs.Answers.{answer_to, next_word}
 use Rattle.controller_model.specs.Events.{notes_of_events}
 use Rattle.controller_model.specs.Facts.{Setup, Facts, Radio, Advertising, Scanning, free_radio, first_advertising, first_scanning}
 use Rattle.controller_model.specs.Links.{connection_failed, notes_reset, wants_enhanced}
@@ -170,8 +171,10 @@ abbrev pub received_after : Command → List (ℕ × Piece) → List (ℕ × Pie
 received_after Reset received = []
 received_after other received = received
 
+-- LE Enable Encryption draws two random words (volume 6 part B, section 5.1.3.1; when it draws them is our choice)
 abbrev pub drawn_after : Command → ℕ → ℕ
 drawn_after LeRand drawn = drawn + 1
+drawn_after (LeEnableEncryption handle rand ediv key) drawn = drawn + 2
 drawn_after other drawn = drawn
 
 abbrev pub facts_accepted : Setup → Facts → Command → Facts
@@ -197,18 +200,30 @@ facts_known true setup facts command = facts_accepted setup facts command
 abbrev pub is_asking : View → Command → Bool
 is_asking view command = (status_of view command == 0) && asks_links view command
 
--- with the steps that it makes on the links, and what is answered at once; `before` is what was held before it. A
--- Disconnect is accepted in the next slot (our choice)
-abbrev pub facts_asking : Bool → Facts → Command → Facts → Facts
-facts_asking false before command facts = facts
-facts_asking true before command facts = record facts {
+-- a command is accepted in the next slot. The first of two random words is the half of the session key diversifier, and
+-- the low half of the second that of the initialization vector (our choice)
+abbrev pub moment_by : Setup → (begun drawn : ℕ) → Moment
+moment_by setup begun drawn =
+    record {
+      slot = begun;
+      skd_m = next_word setup drawn % 2 ^ 64;
+      iv_m = next_word setup (drawn + 1) % 2 ^ 32;
+    }
+
+abbrev pub moment_of : Setup → Facts → Moment
+moment_of setup facts = moment_by setup facts.turn.begun facts.drawn
+
+-- with the steps that it makes on the links, and what is answered at once; `before` is what was held before it
+abbrev pub facts_asking : Bool → Setup → Facts → Command → Facts → Facts
+facts_asking false setup before command facts = facts
+facts_asking true setup before command facts = record facts {
   view = view_commanded_on before.view command before.links;
-  links = links_commanded command before.turn.begun before.links;
+  links = links_commanded command (moment_of setup before) before.links;
 }
 
 abbrev pub facts_commanded : Setup → Facts → CmdRead → Facts
 facts_commanded setup facts (Known command) =
-    facts_asking (is_asking facts.view command) facts command
+    facts_asking (is_asking facts.view command) setup facts command
     (facts_known (status_of facts.view command == 0) setup facts command)
 facts_commanded setup facts other = facts
 

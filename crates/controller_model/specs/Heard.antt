@@ -1,6 +1,6 @@
 -- What a controller makes of a phase: of a packet that it heard, or of none (Core 5.2, volume 6 part B, sections 4.4.2
 -- to 4.4.4 and 4.5, and volume 4 part E, section 7.7.65.2).
-use Rattle.std.specs.Prelude.{ℕ, ◌+◌, ◌&&◌, nat_lt, not, Bool, true, false, List, [], ◌∷◌, ◌++◌, fold, length, Option, Some, None, is_some, Err, if◌then◌else◌}
+use Rattle.std.specs.Prelude.{ℕ, ◌+◌, ◌%◌, ◌^◌, ◌&&◌, nat_lt, not, Bool, true, false, List, [], ◌∷◌, ◌++◌, fold, length, Option, Some, None, is_some, Err, if◌then◌else◌}
 use Rattle.ble_base.specs.declared.addresses.Address.{Address}
 use Rattle.ble_base.specs.declared.notes.Note.{Note}
 use Rattle.ble_base.specs.declared.roles.Role.TheVariants.{Central, Peripheral}
@@ -15,16 +15,20 @@ use Rattle.advertise.specs.declared.answers.AdvAnswer.{AdvAnswer}
 use Rattle.advertise.specs.declared.answers.AdvAnswer.TheVariants.{Ignore, Respond, Connect as Takes}
 use Rattle.advertise.specs.Advertising.{AdvertiserFacts}
 use Rattle.advertise.specs.Answers.{advertiser_answer}
+use Rattle.data_pdu.specs.declared.ctrl.Ctrl.{Ctrl}
+use Rattle.data_pdu.specs.declared.ctrl.Ctrl.TheVariants.{EncReq}
 use Rattle.hci_evt.specs.declared.event.Event.{Event}
-use Rattle.hci_evt.specs.declared.event.Event.TheVariants.{AdvertisingReport, ParamRequest}
+use Rattle.hci_evt.specs.declared.event.Event.TheVariants.{AdvertisingReport, KeyRequest, ParamRequest}
 use Rattle.hci_evt.specs.Event.{mask_bit_of}
 use Rattle.host_view.specs.View.{View}
+use Rattle.host_view.specs.Links.{was_encrypted}
 use Rattle.host_view.specs.Noted.{view_noted}
 use Rattle.link_commands.specs.open_links.link_model.declared.setup.LinkSetup.{LinkSetup}
-use Rattle.link_commands.specs.open_links.link_model.Step.{PacketReceived}
+use Rattle.link_commands.specs.open_links.link_model.Step.{Step as EndStep, KeyAnswered, PacketReceived, RequestAnswered}
 use Rattle.link_commands.specs.open_links.link_model.End.{notes_after as end_notes}
 use Rattle.link_commands.specs.open_links.link_model.Facts.{params_of}
-use Rattle.link_commands.specs.open_links.link_model.Receiving.{effect_of, replies_of}
+use Rattle.link_commands.specs.open_links.link_model.Receiving.{effect_of, kept_effect_of, replies_of}
+use Rattle.link_commands.specs.open_links.link_model.Drawing.{draws_of}
 use Rattle.link_commands.specs.open_links.link_model.Kept.{kept_of}
 use Rattle.host_view.specs.scan_init.declared.reports.ReportKind.{ReportKind}
 use Rattle.host_view.specs.scan_init.declared.scanner.ScanAnswer.{ScanAnswer}
@@ -33,11 +37,11 @@ use Rattle.host_view.specs.scan_init.Access.{nth_access}
 use Rattle.host_view.specs.scan_init.Initiating.{InitiatorFacts, connect_fields, is_accepted}
 use Rattle.host_view.specs.scan_init.Reports.{ScannerFacts, does_ask, event_type, kind_of, last_16, reports_after, scan_answer}
 use Rattle.link_commands.specs.open_links.OpenLinks.{Links, OpenLink, facts_in, free_from, has_link_between, link_after, link_at, with_change}
-use Rattle.link_commands.specs.open_links.link_end.Answers.{acked_of, given_of}
-use Rattle.link_commands.specs.open_links.Hosts.{links_answered}
+use Rattle.link_commands.specs.open_links.link_end.Answers.{acked_of, given_of, kept_given_of}
 use Rattle.link_commands.specs.open_links.link_model.procedure_stages.declared.steps.Effect.{Effect}
-use Rattle.link_commands.specs.open_links.link_model.procedure_stages.declared.steps.Effect.TheVariants.{AskHost, Nothing}
-use Rattle.link_commands.specs.procedure_events.Calls.{events_of_reception}
+use Rattle.link_commands.specs.open_links.link_model.procedure_stages.declared.steps.Effect.TheVariants.{AskHost, Cipher, Nothing}
+use Rattle.link_commands.specs.open_links.Keys.{links_with_words}
+use Rattle.link_commands.specs.procedure_events.Calls.{events_of_kept, events_of_reception}
 use Rattle.controller_model.specs.declared.doing.Doing.{Doing}
 use Rattle.controller_model.specs.declared.doing.Doing.TheVariants.{Advertises, AwaitsRequest, Responds, Scans, Requests, AwaitsResponse, Initiates, Connects, CentralSends, CentralListens, PeripheralListens, PeripheralSends, Rests}
 use Rattle.controller_model.specs.Answers.{next_word}
@@ -245,30 +249,82 @@ effect_in slot room None octets = Nothing
 effect_in slot room (Some link) octets = effect_of link.setup (facts_in link) slot octets room
 
 -- and the events for its host, after that
-abbrev pub events_received : ℕ → ℕ → Bool → Option OpenLink → List ℕ → List Event
-events_received handle slot room None octets = []
-events_received handle slot room (Some link) octets =
-    events_of_reception handle (params_of (facts_in link))
-    (facts_in (link_after (PacketReceived slot octets room) link)).peer (acked_of link.setup (facts_in link) octets)
-    (effect_of link.setup (facts_in link) slot octets room)
+-- for what the packet did, and then for what a PDU did that was kept until then, on a link that was encrypted before, or
+-- was not
+abbrev pub events_received : Bool → ℕ → ℕ → Bool → Option OpenLink → List ℕ → List Event
+events_received was_encrypted handle slot room None octets = []
+events_received was_encrypted handle slot room (Some link) octets =
+    let peer = (facts_in (link_after (PacketReceived slot octets room) link)).peer in
+    events_of_reception handle was_encrypted (params_of (facts_in link)) peer
+    (acked_of link.setup (facts_in link) octets) (effect_of link.setup (facts_in link) slot octets room)
     (given_of link.setup (facts_in link) slot octets room).refused
     (given_of link.setup (facts_in link) slot octets room).done
+    ++ events_of_kept handle was_encrypted peer (kept_effect_of link.setup (facts_in link) slot octets room)
+    (kept_given_of link.setup (facts_in link) slot octets room).done
 
--- a request of the peer that the mask withholds from the host is refused at once (section 5.1.7)
-abbrev pub is_refused : View → ℕ → Effect → Bool
-is_refused view handle (AskHost min max latency timeout) =
-    not (passes view (mask_bit_of (ParamRequest handle min max latency timeout)))
-is_refused view handle other = false
+-- and with a PDU that was kept until then
+abbrev pub kept_effect_in : ℕ → Bool → Option OpenLink → List ℕ → Effect
+kept_effect_in slot room None octets = Nothing
+kept_effect_in slot room (Some link) octets = kept_effect_of link.setup (facts_in link) slot octets room
 
-abbrev pub links_refusing : Bool → ℕ → Links → Links
-links_refusing refuses handle links =
-    if refuses then links_answered handle (Err (record { 0 = unsupported_remote_feature })) links else links
+-- ---- what a peripheral draws (volume 6 part B, section 5.1.3.1)
+
+-- before it hears a packet it is given the next two random words, the second of them by its low half: with them it would
+-- answer LL_ENC_REQ (our choice)
+abbrev pub facts_with_words : Setup → ℕ → Facts → Facts
+facts_with_words setup handle facts = record facts {
+  links =
+      links_with_words handle (next_word setup facts.drawn % 2 ^ 64) (next_word setup (facts.drawn + 1) % 2 ^ 32)
+      facts.links;
+}
+
+-- it answers one with them, and they are drawn
+abbrev pub draws_in : ℕ → Bool → Option OpenLink → List ℕ → Bool
+draws_in slot room None octets = false
+draws_in slot room (Some link) octets = draws_of link.setup (facts_in link) slot octets room
+
+abbrev pub drawn_if : Bool → ℕ → ℕ
+drawn_if draws drawn = if draws then drawn + 2 else drawn
+
+-- ---- what comes of a packet
+
+-- a request of the peer that the mask withholds from the host is answered at once: one for parameters is refused, and one
+-- for a key is answered as by a host that has none (sections 5.1.3.1 and 5.1.7)
+abbrev pub answer_unless : Bool → EndStep → Option EndStep
+answer_unless passes step = if passes then None else Some step
+
+abbrev pub key_refusal : View → ℕ → ℕ → Ctrl → Option EndStep
+key_refusal view handle slot (EncReq rand ediv skd_m iv_m) =
+    answer_unless (passes view (mask_bit_of (KeyRequest handle rand ediv))) (KeyAnswered None slot)
+key_refusal view handle slot other = None
+
+abbrev pub refusal_of : View → ℕ → ℕ → Effect → Option EndStep
+refusal_of view handle slot (AskHost min max latency timeout) =
+    answer_unless (passes view (mask_bit_of (ParamRequest handle min max latency timeout)))
+    (RequestAnswered (Err (record { 0 = unsupported_remote_feature })))
+refusal_of view handle slot (Cipher ctrl) = key_refusal view handle slot ctrl
+refusal_of view handle slot other = None
+
+-- that of the packet, or else that of the PDU that was kept
+abbrev pub or_refusal : Option EndStep → Option EndStep → Option EndStep
+or_refusal None other = other
+or_refusal (Some step) other = Some step
+
+abbrev pub refusal_in : View → ℕ → ℕ → Bool → Option OpenLink → List ℕ → Option EndStep
+refusal_in view handle slot room place octets =
+    or_refusal (refusal_of view handle slot (effect_in slot room place octets))
+    (refusal_of view handle slot (kept_effect_in slot room place octets))
+
+abbrev pub links_refusing : Option EndStep → ℕ → Links → Links
+links_refusing None handle links = links
+links_refusing (Some step) handle links = with_change handle (link_after step) links
 
 -- all that is noted of a packet on the link under a handle
 abbrev pub notes_received : ℕ → Bool → List ℕ → Facts → List Note
 notes_received handle room octets facts =
     notes_taken facts.turn.slot room (link_at handle facts.links) octets
-    ++ notes_of_events facts.view (events_received handle facts.turn.slot room (link_at handle facts.links) octets)
+    ++ notes_of_events facts.view
+    (events_received (was_encrypted handle facts.view.links) handle facts.turn.slot room (link_at handle facts.links) octets)
 
 -- the view follows what is noted
 abbrev pub link_received : ℕ → Bool → List ℕ → Facts → Facts
@@ -276,9 +332,10 @@ link_received handle room octets facts = record facts {
   view = fold view_noted facts.view (notes_received handle room octets facts);
   links =
       links_refusing
-      (is_refused facts.view handle (effect_in facts.turn.slot room (link_at handle facts.links) octets)) handle
+      (refusal_in facts.view handle facts.turn.slot room (link_at handle facts.links) octets) handle
       (with_change handle (link_after (PacketReceived facts.turn.slot octets room)) facts.links);
   received = facts.received ++ piece_taken facts.turn.slot room (link_at handle facts.links) octets;
+  drawn = drawn_if (draws_in facts.turn.slot room (link_at handle facts.links) octets) facts.drawn;
 }
 
 abbrev pub link_hearing : ℕ → Bool → List ℕ → Facts → Outcome
@@ -308,6 +365,7 @@ heard setup (AwaitsResponse channel) octets facts =
 heard setup (Initiates channel) octets facts =
     if_pdu (pdu_heard channel octets) facts (λ pdu. initiator_heard facts.initiator setup channel pdu facts)
 heard setup (CentralListens handle) octets facts = link_heard setup handle octets facts
-heard setup (PeripheralListens handle) octets facts = link_heard setup handle octets facts
+heard setup (PeripheralListens handle) octets facts =
+    link_heard setup handle octets (facts_with_words setup handle facts)
 -- where it does not listen nothing is heard
 heard setup doing octets facts = unheard doing facts

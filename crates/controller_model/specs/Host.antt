@@ -1,15 +1,19 @@
 -- What a host sends: its octets, its commands, and which of them are accepted and answered (Core 5.2, volume 4 part E,
 -- sections 7.7.14 and 7.7.15).
-use Rattle.std.specs.Prelude.{ℕ, ◌==◌, ◌&&◌, not, Bool, true, false, List, [], ◌∷◌, ◌++◌, count_by, map, filter, flat_map, ⊤, if◌then◌else◌}
+use Rattle.std.specs.Prelude.{ℕ, ◌+◌, ◌==◌, ◌&&◌, not, Bool, true, List, [], ◌∷◌, ◌++◌, sum_by, map, filter, flat_map, ⊤, if◌then◌else◌}
 use Rattle.h4_frames.specs.declared.packet.HostPacket.TheVariants.{Command as HostCommand}
 use Rattle.h4_frames.specs.declared.packet.Fed.{Fed}
 use Rattle.h4_frames.specs.declared.packet.Fed.TheVariants.{Packet}
 use Rattle.hci_cmd.specs.declared.command.Command.{Command}
-use Rattle.hci_cmd.specs.declared.command.Command.TheVariants.{LeRand}
+use Rattle.hci_cmd.specs.declared.command.Command.TheVariants.{LeEnableEncryption, LeRand}
 use Rattle.hci_cmd.specs.declared.command.CmdRead.{CmdRead}
 use Rattle.hci_cmd.specs.declared.command.CmdRead.TheVariants.{Known}
 use Rattle.hci_cmd.specs.Command.{command_of}
 use Rattle.host_view.specs.Unbuilt.{status_of}
+use Rattle.link_commands.specs.open_links.OpenLinks.{link_at}
+use Rattle.controller_model.specs.declared.doing.Doing.{Doing}
+use Rattle.controller_model.specs.declared.doing.Doing.TheVariants.{CentralListens, PeripheralListens}
+use Rattle.controller_model.specs.Heard.{draws_in, facts_with_words, has_room}
 use Rattle.controller_model.specs.Step.{Step, HostOctet, TurnBegins, PacketHeard, NothingHeard, TurnEnds}
 use Rattle.controller_model.specs.Facts.{Setup, Facts, first_facts}
 use Rattle.controller_model.specs.Answers.{is_host_completed}
@@ -100,10 +104,38 @@ commands_accepted_from setup facts (step ∷ steps) =
 unfoldable pub commands_accepted : Setup → List Step → List Command
 commands_accepted setup past = commands_accepted_from setup (first_facts setup) past
 
-abbrev pub is_le_rand : Command → Bool
-is_le_rand LeRand = true
-is_le_rand other = false
+-- how many random words a command draws as it is accepted
+abbrev pub words_of : Command → ℕ
+words_of LeRand = 1
+words_of (LeEnableEncryption handle rand ediv key) = 2
+words_of other = 0
 
--- how many of them are LE Rand
-abbrev pub le_rand_count : Setup → List Step → ℕ
-le_rand_count setup past = count_by is_le_rand (commands_accepted setup past)
+-- how many all of them drew
+abbrev pub words_drawn : Setup → List Step → ℕ
+words_drawn setup past = sum_by words_of (commands_accepted setup past)
+
+-- and how many the ends of links draw as they hear: two where a peripheral answers LL_ENC_REQ
+abbrev pub words_if : Bool → ℕ
+words_if draws = if draws then 2 else 0
+
+abbrev pub words_received : Setup → ℕ → List ℕ → Facts → ℕ
+words_received setup handle octets facts =
+    words_if (draws_in facts.turn.slot (has_room setup facts) (link_at handle facts.links) octets)
+
+abbrev pub words_hearing : Setup → Doing → List ℕ → Facts → ℕ
+words_hearing setup (CentralListens handle) octets facts = words_received setup handle octets facts
+words_hearing setup (PeripheralListens handle) octets facts =
+    words_received setup handle octets (facts_with_words setup handle facts)
+words_hearing setup doing octets facts = 0
+
+abbrev pub words_heard : Setup → Facts → Step → ℕ
+words_heard setup facts (PacketHeard octets) = words_hearing setup facts.turn.doing octets facts
+words_heard setup facts other = 0
+
+abbrev pub words_heard_from : Setup → Facts → List Step → ℕ
+words_heard_from setup facts [] = 0
+words_heard_from setup facts (step ∷ steps) =
+    words_heard setup facts step + words_heard_from setup (facts_after setup facts step) steps
+
+unfoldable pub words_answered : Setup → List Step → ℕ
+words_answered setup past = words_heard_from setup (first_facts setup) past

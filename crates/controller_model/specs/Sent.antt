@@ -4,7 +4,7 @@ use Rattle.std.specs.List.{AllByRecursion}
 use Rattle.adv_pdu.specs.declared.pdu.AdvPdu.{AdvPdu}
 use Rattle.adv_pdu.specs.Pdu.{IsPdu}
 use Rattle.link_commands.specs.open_links.link_model.Packets.{packet_sent}
-use Rattle.link_commands.specs.open_links.link_model.Step.{Step, DataGiven, Disconnected, PacketSent, ProcedureAsked, RequestAnswered}
+use Rattle.link_commands.specs.open_links.link_model.Step.{Step, DataGiven, Disconnected, KeyAnswered, PacketSent, ProcedureAsked, RequestAnswered}
 use Rattle.link_commands.specs.open_links.OpenLinks.{OpenLink, facts_in, link_after, link_at}
 use Rattle.controller_model.specs.declared.doing.Doing.{Doing}
 use Rattle.controller_model.specs.declared.doing.Doing.TheVariants.{CentralSends, PeripheralSends}
@@ -30,6 +30,7 @@ abbrev pub IsHostStep : Step → Type 0
 IsHostStep (DataGiven start body) = ⊤
 IsHostStep (ProcedureAsked ask) = ⊤
 IsHostStep (RequestAnswered answer) = ⊤
+IsHostStep (KeyAnswered key slot) = ⊤
 IsHostStep (Disconnected reason slot) = ⊤
 IsHostStep step = ⊥
 

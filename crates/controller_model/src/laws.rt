@@ -51,7 +51,7 @@ ghost use Rattle.controller_model.specs.Intervals.{IsLeftOn, doing_at, doing_bet
 ghost use Rattle.controller_model.specs.Intervals.{place_within, turns_from};
 ghost use Rattle.controller_model.specs.Host.{HeardNothing, commands_accepted, commands_accepted_after};
 ghost use Rattle.controller_model.specs.Host.{commands_of, host_octets};
-ghost use Rattle.controller_model.specs.Host.{is_answered, le_rand_count, opcodes_in, opcodes_of};
+ghost use Rattle.controller_model.specs.Host.{is_answered, opcodes_in, opcodes_of, words_answered, words_drawn};
 ghost use Rattle.controller_model.specs.Host.{with_answer};
 ghost use Rattle.controller_model.specs.Notes.{HadNoLink, HasHandleBelow};
 ghost use Rattle.controller_model.specs.Notes.{answers_among, answers_of};
@@ -137,13 +137,14 @@ pub fn notes_name_links_of_the_controller()
 {}
 
 /// Random words are drawn in order, and then again from the first, whatever comes between, a Reset
-/// too: one for each accepted LE Rand, 2018, which returns it, and one for each CONNECT_IND that
-/// the controller sets out to send. After n words the next one is at the place n, modulo the
-/// number of words.
+/// too: one for each accepted LE Rand, 2018, which returns it, two for each accepted LE Enable
+/// Encryption, 2019, two for each LL_ENC_REQ that an end answers, and one for each CONNECT_IND that
+/// the controller sets out to send. After n words the next one is at the place n, modulo the number
+/// of words.
 pub fn random_words_go_round()
     ensures drawn { (setup : Setup) (past : List Step)
         → (facts_of setup past).drawn
-        ≡ le_rand_count setup past + (facts_of setup past).connections }
+        ≡ words_drawn setup past + words_answered setup past + (facts_of setup past).connections }
     ensures counted { (setup : Setup) (past : List Step) (octet : ℕ)
         → result_of (facts_of setup past).octets octet
         ≡ Packet (HostCommand 0x2018 (record { items = [] }))

@@ -25,3 +25,4 @@ pub use crate::laws::{
 pub use crate::rows::{
     worked_advertisement, worked_answers, worked_connection, worked_data, worked_link, worked_rows,
 };
+pub use link_commands::Moment;

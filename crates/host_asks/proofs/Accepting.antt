@@ -1,5 +1,5 @@
 -- An accepted command may come on its link, and the view knows the end after it.
-use Rattle.std.proofs.Common.{◌≡◌, ℕ, ◌<◌, ◌^◌, ◌+◌, ◌%◌, ◌==◌, Bool, true, false, ◌&&◌, ◌||◌, not, if◌then◌else◌, List, [], ◌∷◌, length, nat_le, nat_lt, Option, Some, None, Result, Ok, Err, is_some, refl, ap, sym, ◌∙◌, subst, arith, eqb-true}
+use Rattle.std.proofs.Common.{◌≡◌, ℕ, ◌<◌, ◌^◌, ◌+◌, ◌%◌, ◌==◌, Bool, true, false, ◌&&◌, ◌||◌, not, if◌then◌else◌, List, [], ◌∷◌, length, reverse, nat_le, nat_lt, Option, Some, None, Result, Ok, Err, is_some, refl, ap, sym, ◌∙◌, subst, arith, eqb-true}
 use Rattle.std.proofs.lemmas.Bool.Decides.{nat_tests}
 use Rattle.ble_base.specs.Bits.{has_bit}
 use Rattle.ble_base.specs.ChannelMap.{IsMap, used_channels}
@@ -9,7 +9,7 @@ use Rattle.ble_base.specs.declared.procedure_kinds.Kind.TheVariants.{Features as
 use Rattle.ble_base.specs.declared.roles.Role.{Role}
 use Rattle.ble_base.specs.declared.roles.Role.TheVariants.{Central, Peripheral}
 use Rattle.hci_cmd.specs.declared.command.Command.{Command}
-use Rattle.hci_cmd.specs.declared.command.Command.TheVariants.{Disconnect, LeConnectionUpdate, LeParamNegative, LeParamReply, LeReadRemoteFeatures, LeSetChannels, LeSetDataLength, LeSetPhy, ReadRemoteVersion}
+use Rattle.hci_cmd.specs.declared.command.Command.TheVariants.{Disconnect, LeConnectionUpdate, LeEnableEncryption, LeKeyNegative, LeKeyReply, LeParamNegative, LeParamReply, LeReadRemoteFeatures, LeSetChannels, LeSetDataLength, LeSetPhy, ReadRemoteVersion}
 use Rattle.exclusive_stages.specs.declared.stages.PeerAtCentral.{PeerAtCentral}
 use Rattle.exclusive_stages.specs.declared.stages.PeerAtCentral.TheVariants.{Absent, GrantUnsent}
 use Rattle.open_links.specs.procedure_values.declared.asks.Ask.{Ask}
@@ -31,7 +31,6 @@ use Rattle.procedure_events.specs.procedures.Table.{TableFacts}
 use Rattle.open_links.specs.control_model.Control.{Answers, Asks, Control, Disconnects, table_if}
 use Rattle.open_links.proofs.control_model.Calls.{open_step}
 use Rattle.link_pairs.specs.control_octets.Fitting.{AskFits, RequestFits}
-use Rattle.link_pairs.specs.unencrypted_ends.Unencrypted.{asks_no_encryption}
 use Rattle.link_pairs.specs.joint_controls.Joint.{is_map}
 use Rattle.open_links.specs.link_model.Facts.{Facts}
 use Rattle.open_links.specs.link_model.Hosts.{asked_unless, facts_answered, facts_asked, facts_disconnected, is_to_come}
@@ -47,14 +46,18 @@ use Rattle.host_view.specs.Changes.{answered, asking, with_asked}
 use Rattle.host_view.specs.Links.{is_asked, link_in, update_kind}
 use Rattle.host_view.specs.Refusals.{are_parameters, asked_row, both_phys_rows, count_if, first_refusal, link_rows, parameters_row}
 use Rattle.host_view.specs.Status.{connection_update_rows, data_length_rows, disconnect_rows, is_data_length, is_reason, parameter_request_row, rows_of}
+use Rattle.host_view.specs.Unbuilt.{status_of, unbuilt_status_of}
 use Rattle.link_commands.proofs.Ranges.{length_fits, map_fits, not_not, params_fit, passes}
+use Rattle.link_commands.specs.declared.moments.Moment.{Moment}
 use Rattle.link_commands.specs.Commands.{answered_if, ask_unless, facts_commanded, host_step_of, is_about, link_commanded, map_by, transmit_maximum, update_by}
 use Rattle.host_asks.specs.Commands.{MayComeIf}
 use Rattle.host_asks.specs.Knowing.{KnowsAsks, KnowsTable}
 use Rattle.host_asks.specs.Noting.{effect_after, is_of_host, link_after_step, link_after_notes, link_with_request}
+use Rattle.host_asks.proofs.Accepted.{accepted}
 use Rattle.host_asks.proofs.Controls.{ends_before}
+use Rattle.host_asks.proofs.Ends.{key_knows, step_knows}
 use Rattle.host_asks.proofs.Keeping.{asked_with, same_kinds}
-use Rattle.host_asks.proofs.Reported.{reported_knows}
+use Rattle.host_asks.proofs.NotBuilt.{encryption_refused}
 use Rattle.host_asks.proofs.Tables.{may_ask_new, table_asks}
 
 -- ---- the steps of the host, one end
@@ -81,7 +84,7 @@ disconnect_knows link facts reason slot knows lasts =
           (subst (λ (f : TableFacts). KnowsTable (record link { disconnecting = true }) f)
           (sym (table_is (is_open facts.control.table.closing) (terminate_step facts.control.table reason) facts.control))
           (disconnect_table link facts.control.table reason facts.control.table.closing refl knows.table));
-      disconnecting = refl;
+      disconnecting = λ ends. refl;
       version = knows.version;
     }
 
@@ -173,6 +176,23 @@ answer_knows link facts answer waits answers knows lasts =
       version = knows.version;
     }
 
+-- ---- whether a request for a key waits
+
+pub key_known : (link : Link) (facts : Facts) (waits : Bool) → KnowsAsks link facts → KnowsAsks (record link { waits_for_key = waits }) facts
+key_known link facts waits knows =
+    record {
+      table =
+          record {
+            role = knows.table.role;
+            asked = knows.table.asked;
+            closes = knows.table.closes;
+            disconnects = knows.table.disconnects;
+            parameters = knows.table.parameters;
+          };
+      disconnecting = knows.disconnecting;
+      version = knows.version;
+    }
+
 -- ---- values
 
 reason_fits : (reason : ℕ) → is_reason reason ≡ true → reason < 256
@@ -196,25 +216,29 @@ pub record IsCarriedOut (setup : Setup) (step : Option Step) (after : Link) (fac
   pub may : MayComeIf step facts
   pub keeps : (facts_commanded setup step facts).control.ends ≡ None → KnowsAsks after (facts_commanded setup step facts)
 
+unknown_by : (same knows kept told : Bool) → ((knows || kept) ≡ true → told ≡ true) → (same && told) ≡ false → (same && knows) ≡ false
+unknown_by false knows kept told is none = refl
+unknown_by true true kept told is none = absurd (let h : false ≡ true = sym none ∙ is refl in cc)
+unknown_by true false kept told is none = refl
+
 may_by : (x same known : Bool) → x ≡ true → (same && known) ≡ false → (false || (x && not (same && known))) ≡ true
 may_by x same known is none = rw (is, none) refl
 
 -- it asks for a procedure
 asks_out : (setup : Setup) (link : Link) (facts : Facts) (ask : Ask) → KnowsAsks link facts → is_asked (kind_of_ask ask) link.asked ≡ false
-    → AskFits ask → asks_no_encryption ask ≡ true → is_same_kind (kind_of_ask ask) map_kind ≡ false → is_map ask ≡ false
+    → AskFits ask → is_same_kind (kind_of_ask ask) map_kind ≡ false → is_map ask ≡ false
     → (is_same_kind (kind_of_ask ask) version_kind && is_some facts.peer.version) ≡ false → is_to_come ask facts ≡ false
     → IsCarriedOut setup (Some (ProcedureAsked ask)) (asking (kind_of_ask ask) link) facts
-asks_out setup link facts ask knows new fits plain other no_map unknown comes =
+asks_out setup link facts ask knows new fits other no_map unknown comes =
     record {
       may =
           record {
             in_range = fits;
-            plain = plain;
             may =
                 ap (λ (b : Bool). b || (may_ask_of facts.control.table (kind_of_ask ask) && not (is_same_kind (kind_of_ask ask) version_kind && facts.encryption.knows_version))) no_map
                 ∙ may_by (may_ask_of facts.control.table (kind_of_ask ask)) (is_same_kind (kind_of_ask ask) version_kind) facts.encryption.knows_version
                 (may_ask_new facts.control.table (kind_of_ask ask) link.asked other knows.table.asked new)
-                (ap (λ (known : Bool). is_same_kind (kind_of_ask ask) version_kind && known) knows.version ∙ unknown);
+                (unknown_by (is_same_kind (kind_of_ask ask) version_kind) facts.encryption.knows_version _ (is_some facts.peer.version) knows.version unknown);
           };
       keeps = λ lasts. asked_knows link facts ask new knows lasts comes;
     }
@@ -253,25 +277,25 @@ version_out : (setup : Setup) (link : Link) (facts : Facts) (known : Bool) → i
     → is_asked version_kind link.asked ≡ false
     → IsCarriedOut setup (ask_unless known Version) (answered_if known version_kind (asking version_kind link)) facts
 version_out setup link facts true is knows new = known_out setup link facts version_kind knows new
-version_out setup link facts false is knows new = asks_out setup link facts Version knows new tt refl refl refl is refl
+version_out setup link facts false is knows new = asks_out setup link facts Version knows new tt refl refl is refl
 
 features_out : (setup : Setup) (link : Link) (facts : Facts) (known : Bool) → KnowsAsks link facts → is_asked features_kind link.asked ≡ false
     → IsCarriedOut setup (ask_unless known Features) (answered_if known features_kind (asking features_kind link)) facts
 features_out setup link facts true knows new = known_out setup link facts features_kind knows new
-features_out setup link facts false knows new = asks_out setup link facts Features knows new tt refl refl refl refl refl
+features_out setup link facts false knows new = asks_out setup link facts Features knows new tt refl refl refl refl
 
 update_out : (setup : Setup) (link : Link) (facts : Facts) (role : Role) (min max latency timeout : ℕ) → KnowsAsks link facts
     → are_parameters min max latency timeout ≡ true → is_asked (update_kind role) link.asked ≡ false
     → IsCarriedOut setup (Some (ProcedureAsked (update_by role min max latency timeout))) (asking (update_kind role) link) facts
 update_out setup link facts Central min max latency timeout knows are new =
-    asks_out setup link facts (Update max latency timeout) knows new (params_fit min max latency timeout are) refl refl refl refl refl
+    asks_out setup link facts (Update max latency timeout) knows new (params_fit min max latency timeout are) refl refl refl refl
 update_out setup link facts Peripheral min max latency timeout knows are new =
-    asks_out setup link facts (Request min max latency timeout) knows new (request_fits min max latency timeout are) refl refl refl refl refl
+    asks_out setup link facts (Request min max latency timeout) knows new (request_fits min max latency timeout are) refl refl refl refl
 
 map_out : (setup : Setup) (link : Link) (facts : Facts) (role : Role) (map : ℕ) → KnowsAsks link facts → IsMap map
     → IsCarriedOut setup (map_by role map) link facts
 map_out setup link facts Central map knows is =
-    record { may = record { in_range = is; plain = refl; may = refl }; keeps = λ lasts. map_knows link facts map knows lasts }
+    record { may = record { in_range = is; may = refl }; keeps = λ lasts. map_knows link facts map knows lasts }
 map_out setup link facts Peripheral map knows is = record { may = tt; keeps = λ lasts. knows }
 
 -- the rows of a choice of PHYs do not hold
@@ -286,40 +310,40 @@ given_link : (view : View) (given handle : ℕ) (link : Link) → (given == hand
     → link_in view.links given ≡ Some link
 given_link view given handle link same is = subst (λ (h : ℕ). link_in view.links h ≡ Some link) (sym (eqb-true given handle same)) is
 
-pub carried_out : (setup : Setup) (view : View) (command : Command) (handle slot : ℕ) (link : Link) (facts : Facts)
-    → first_refusal (rows_of view command) ≡ 0 → is_about handle command ≡ true → link_in view.links handle ≡ Some link
-    → KnowsAsks link facts
-    → IsCarriedOut setup (host_step_of command slot link.role facts.peer) (link_commanded command facts.peer link) facts
-carried_out setup view (Disconnect given reason) handle slot link facts ok about is knows =
+pub carried_out : (setup : Setup) (view : View) (command : Command) (handle : ℕ) (moment : Moment) (link : Link) (facts : Facts)
+    → first_refusal (rows_of view command) ≡ 0 → unbuilt_status_of command ≡ 0 → is_about handle command ≡ true
+    → link_in view.links handle ≡ Some link → KnowsAsks link facts
+    → IsCarriedOut setup (host_step_of command moment link.role facts.peer) (link_commanded command facts.peer link) facts
+carried_out setup view (Disconnect given reason) handle moment link facts ok built about is knows =
     let rows =
     passes link.disconnecting _ _
     (subst (λ (l : Option Link). first_refusal (disconnect_rows l reason) ≡ 0) (given_link view given handle link about is) ok)
     in
     record {
       may = reason_fits reason (not_not (is_reason reason) (passes (not (is_reason reason)) _ _ rows.1).0);
-      keeps = λ lasts. disconnect_knows link facts (record { 0 = reason }) slot knows lasts;
+      keeps = λ lasts. disconnect_knows link facts (record { 0 = reason }) moment.slot knows lasts;
     }
-carried_out setup view (ReadRemoteVersion given) handle slot link facts ok about is knows =
+carried_out setup view (ReadRemoteVersion given) handle moment link facts ok built about is knows =
     let rows =
     passes link.disconnecting _ _
     (subst (λ (l : Option Link). first_refusal (link_rows l (asked_row version_kind l ∷ [])) ≡ 0) (given_link view given handle link about is) ok)
     in
     version_out setup link facts (is_some facts.peer.version) refl knows (passes (is_asked version_kind link.asked) _ _ rows.1).0
-carried_out setup view (LeReadRemoteFeatures given) handle slot link facts ok about is knows =
+carried_out setup view (LeReadRemoteFeatures given) handle moment link facts ok built about is knows =
     let rows =
     passes link.disconnecting _ _
     (subst (λ (l : Option Link). first_refusal (link_rows l (asked_row features_kind l ∷ [])) ≡ 0) (given_link view given handle link about is) ok)
     in
     features_out setup link facts (is_some facts.peer.features) knows (passes (is_asked features_kind link.asked) _ _ rows.1).0
-carried_out setup view (LeSetDataLength given most time) handle slot link facts ok about is knows =
+carried_out setup view (LeSetDataLength given most time) handle moment link facts ok built about is knows =
     let rows =
     passes link.disconnecting _ _
     (subst (λ (l : Option Link). first_refusal (data_length_rows l most time) ≡ 0) (given_link view given handle link about is) ok)
     in
     let long = passes (not (is_data_length most time)) _ _ rows.1 in
     asks_out setup link facts (Length (transmit_maximum most time)) knows (passes (is_asked length_kind link.asked) _ _ long.1).0
-    (length_fits most time (not_not (is_data_length most time) long.0)) refl refl refl refl refl
-carried_out setup view (LeConnectionUpdate given min max latency timeout lengths) handle slot link facts ok about is knows =
+    (length_fits most time (not_not (is_data_length most time) long.0)) refl refl refl refl
+carried_out setup view (LeConnectionUpdate given min max latency timeout lengths) handle moment link facts ok built about is knows =
     let rows =
     passes link.disconnecting _ _
     (subst (λ (l : Option Link). first_refusal (connection_update_rows l min max latency timeout) ≡ 0) (given_link view given handle link about is) ok)
@@ -327,15 +351,15 @@ carried_out setup view (LeConnectionUpdate given min max latency timeout lengths
     let valid = passes (not (are_parameters min max latency timeout)) _ _ rows.1 in
     update_out setup link facts link.role min max latency timeout knows (not_not (are_parameters min max latency timeout) valid.0)
     (passes (is_asked (update_kind link.role) link.asked) _ _ valid.1).0
-carried_out setup view (LeSetChannels map) handle slot link facts ok about is knows =
+carried_out setup view (LeSetChannels map) handle moment link facts ok built about is knows =
     map_out setup link facts link.role map knows (map_fits map (passes (nat_lt (length (used_channels map)) 2 || nat_le (2 ^ 37) map) _ _ ok).0)
-carried_out setup view (LeSetPhy given all tx rx options) handle slot link facts ok about is knows =
+carried_out setup view (LeSetPhy given all tx rx options) handle moment link facts ok built about is knows =
     let rows =
     passes link.disconnecting _ _
     (subst (λ (l : Option Link). first_refusal (link_rows l (both_phys_rows all tx rx (asked_row phy_kind l ∷ []))) ≡ 0) (given_link view given handle link about is) ok)
     in
-    asks_out setup link facts Phy knows (passes (is_asked phy_kind link.asked) _ _ (phys_pass all tx rx (asked_row phy_kind (Some link) ∷ []) rows.1)).0 tt refl refl refl refl refl
-carried_out setup view (LeParamReply given min max latency timeout lengths) handle slot link facts ok about is knows =
+    asks_out setup link facts Phy knows (passes (is_asked phy_kind link.asked) _ _ (phys_pass all tx rx (asked_row phy_kind (Some link) ∷ []) rows.1)).0 tt refl refl refl refl
+carried_out setup view (LeParamReply given min max latency timeout lengths) handle moment link facts ok built about is knows =
     let rows =
     passes link.disconnecting _ _
     (subst (λ (l : Option Link). first_refusal (link_rows l (parameter_request_row l ∷ parameters_row min max latency timeout ∷ [])) ≡ 0) (given_link view given handle link about is) ok)
@@ -345,22 +369,30 @@ carried_out setup view (LeParamReply given min max latency timeout lengths) hand
       may = params_fit min max latency timeout (not_not (are_parameters min max latency timeout) (passes (not (are_parameters min max latency timeout)) _ _ waits.1).0);
       keeps = λ lasts. answer_knows link facts (Ok (Update max latency timeout)) false refl knows lasts;
     }
-carried_out setup view (LeParamNegative given reason) handle slot link facts ok about is knows =
+carried_out setup view (LeParamNegative given reason) handle moment link facts ok built about is knows =
     record { may = octet_fits reason; keeps = λ lasts. answer_knows link facts (Err (record { 0 = reason % 256 })) false refl knows lasts }
-carried_out setup view other handle slot link facts ok about is knows = absurd (cc)
+carried_out setup view (LeEnableEncryption given rand ediv key) handle moment link facts ok built about is knows =
+    absurd (encryption_refused given rand ediv key built)
+carried_out setup view (LeKeyReply given key) handle moment link facts ok built about is knows =
+    record { may = tt; keeps = λ lasts. key_known link _ false (key_knows (Some (reverse key)) moment.slot link facts knows) }
+carried_out setup view (LeKeyNegative given) handle moment link facts ok built about is knows =
+    record { may = tt; keeps = λ lasts. key_known link _ false (key_knows None moment.slot link facts knows) }
+carried_out setup view other handle moment link facts ok built about is knows = absurd (cc)
 
-pub command_may_come : (view : View) (command : Command) (handle slot : ℕ) (link : Link) (facts : Facts)
-    → first_refusal (rows_of view command) ≡ 0 → is_about handle command ≡ true → link_in view.links handle ≡ Some link
-    → KnowsAsks link facts → MayComeIf (host_step_of command slot link.role facts.peer) facts
-command_may_come view command handle slot link facts ok about is knows =
-    (carried_out (central_with 0) view command handle slot link facts ok about is knows).may
+pub command_may_come : (view : View) (command : Command) (handle : ℕ) (moment : Moment) (link : Link) (facts : Facts)
+    → status_of view command ≡ 0 → is_about handle command ≡ true → link_in view.links handle ≡ Some link
+    → KnowsAsks link facts → MayComeIf (host_step_of command moment link.role facts.peer) facts
+command_may_come view command handle moment link facts ok about is knows =
+    let both = accepted view command ok in
+    (carried_out (central_with 0) view command handle moment link facts both.0 both.1 about is knows).may
 
-pub command_keeps : (setup : Setup) (view : View) (command : Command) (handle slot : ℕ) (link : Link) (facts : Facts)
-    → first_refusal (rows_of view command) ≡ 0 → is_about handle command ≡ true → link_in view.links handle ≡ Some link
-    → KnowsAsks link facts → (facts_commanded setup (host_step_of command slot link.role facts.peer) facts).control.ends ≡ None
-    → KnowsAsks (link_commanded command facts.peer link) (facts_commanded setup (host_step_of command slot link.role facts.peer) facts)
-command_keeps setup view command handle slot link facts ok about is knows lasts =
-    (carried_out setup view command handle slot link facts ok about is knows).keeps lasts
+pub command_keeps : (setup : Setup) (view : View) (command : Command) (handle : ℕ) (moment : Moment) (link : Link) (facts : Facts)
+    → status_of view command ≡ 0 → is_about handle command ≡ true → link_in view.links handle ≡ Some link
+    → KnowsAsks link facts → (facts_commanded setup (host_step_of command moment link.role facts.peer) facts).control.ends ≡ None
+    → KnowsAsks (link_commanded command facts.peer link) (facts_commanded setup (host_step_of command moment link.role facts.peer) facts)
+command_keeps setup view command handle moment link facts ok about is knows lasts =
+    let both = accepted view command ok in
+    (carried_out setup view command handle moment link facts both.0 both.1 about is knows).keeps lasts
 
 -- ---- a request is refused, also one whose event is withheld
 
@@ -382,4 +414,4 @@ withheld_knows setup step link facts code p other knows lasts =
     let noted = link_after_notes setup facts step link in
     subst (λ (l : Link). KnowsAsks l (facts_answered (Err code) next)) (request_withdrawn (effect_after setup facts step) noted)
     (refused_knows (link_after_step setup facts step link) next code noted.waits_for_parameters
-    (reported_knows setup step link facts p other knows (ends_before (Answers (Err code)) next.control lasts)) lasts)
+    (step_knows setup step link facts p other knows (ends_before (Answers (Err code)) next.control lasts)) lasts)

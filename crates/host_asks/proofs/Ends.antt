@@ -17,6 +17,7 @@ use Rattle.procedure_events.specs.procedure_stages.declared.steps.Effect.TheVari
 use Rattle.procedure_events.specs.procedures.Beginning.{begin_step}
 use Rattle.procedure_events.specs.procedures.Going.{entered_step}
 use Rattle.procedure_events.specs.procedures.Table
+use Rattle.procedure_events.specs.procedures.Table.{TableFacts}
 use Rattle.open_links.specs.control_end.declared.answers.Entry.{Entry}
 use Rattle.open_links.specs.control_end.declared.answers.Taken.{Taken}
 use Rattle.open_links.specs.control_end.Answers.{entry_of, entry_step, is_update_waiting, no_entry}
@@ -40,14 +41,14 @@ use Rattle.open_links.specs.link_model.Sending.{control_gone_if, sent_notes, sen
 use Rattle.open_links.specs.link_model.Setup.{Setup}
 use Rattle.open_links.specs.link_model.Step.{Step, DataGiven, DataReported, Disconnected, EventEntered, KeyAnswered, PacketReceived, PacketSent, PduFixed, ProcedureAsked, RequestAnswered, WordsGiven}
 use Rattle.open_links.specs.link_model.Verdicts.{pdu_of}
-use Rattle.open_links.proofs.link_model.KnownEnds.{IsPast, knows_accepted, knows_before_taking, past_knows}
+use Rattle.open_links.proofs.link_model.KnownEnds.{IsPast, knows_before_taking, past_knows}
 use Rattle.open_links.proofs.link_model.Views.{DataTaking, Ended, Knows, Same, acked_control, acked_view, data_view, entered_view, key_view, taken_accepted, taken_view}
 use Rattle.host_view.specs.declared.links.Link.{Link}
 use Rattle.host_view.specs.Links.{is_asked}
-use Rattle.host_view.specs.Noted.{nothing_asked, opened_link}
+use Rattle.host_view.specs.Noted.{is_start_rsp, nothing_asked, opened_link}
 use Rattle.host_view.specs.Refusals.{count_if}
 use Rattle.host_asks.specs.Knowing.{KnowsAsks, KnowsTable}
-use Rattle.host_asks.specs.Noting.{is_of_host, link_after_step, link_after_note, link_with_request}
+use Rattle.host_asks.specs.Noting.{is_of_host, link_after_step, link_after_note, link_encrypted_if, link_with_request, or_request}
 use Rattle.host_asks.proofs.Tables.{link_done, link_refused}
 use Rattle.host_asks.proofs.Versions.{acked_version, data_version, entered_version, gone_version, key_version, taken_version}
 use Rattle.host_asks.proofs.Controls.{control_acked_knows, control_entered_knows, control_sent_knows, link_given, owing_knows, taking_knows}
@@ -78,7 +79,8 @@ noted_sent : (noted : Bool) (handle number : ℕ) (pdu : Pdu) (link : Link) → 
 noted_sent true handle number pdu link = refl
 noted_sent false handle number pdu link = refl
 
-noted_took : (noted : Bool) (handle : ℕ) (pdu : Pdu) (facts : Facts) (link : Link) → fold link_after_note link (took_notes_if noted handle pdu facts) ≡ link
+noted_took : (noted : Bool) (handle : ℕ) (pdu : Pdu) (facts : Facts) (link : Link)
+    → fold link_after_note link (took_notes_if noted handle pdu facts) ≡ link_encrypted_if (noted && is_start_rsp pdu.llid pdu.body) link
 noted_took true handle pdu facts link = refl
 noted_took false handle pdu facts link = refl
 
@@ -100,19 +102,20 @@ noted_given handle given link =
     ∙ ap (λ (l : Link). fold link_after_note l (done_notes handle given.done)) (noted_refused handle given.refused link)
     ∙ noted_done handle given.done (link_refused given.refused link)
 
-noted_hearing : (handle : ℕ) (acked : Option Kind) (took : List Note) (given kept : Taken) (link : Link)
-    → ((l : Link) → fold link_after_note l took ≡ l)
+noted_hearing : (handle : ℕ) (acked : Option Kind) (took : List Note) (starts : Bool) (given kept : Taken) (link : Link)
+    → ((l : Link) → fold link_after_note l took ≡ link_encrypted_if starts l)
     → fold link_after_note link (done_notes handle acked ++ (took ++ (given_notes handle given ++ given_notes handle kept)))
-    ≡ link_done kept.done (link_refused kept.refused (link_done given.done (link_refused given.refused (link_done acked link))))
-noted_hearing handle acked took given kept link none =
+    ≡ link_done kept.done (link_refused kept.refused (link_done given.done (link_refused given.refused (link_encrypted_if starts (link_done acked link)))))
+noted_hearing handle acked took starts given kept link is =
+    let now = link_encrypted_if starts (link_done acked link) in
     let both = given_notes handle given ++ given_notes handle kept in
     noted_more link (done_notes handle acked) (took ++ both)
     ∙ ap (λ (l : Link). fold link_after_note l (took ++ both)) (noted_done handle acked link)
     ∙ noted_more (link_done acked link) took both
-    ∙ ap (λ (l : Link). fold link_after_note l both) (none (link_done acked link))
-    ∙ noted_more (link_done acked link) (given_notes handle given) (given_notes handle kept)
-    ∙ ap (λ (l : Link). fold link_after_note l (given_notes handle kept)) (noted_given handle given (link_done acked link))
-    ∙ noted_given handle kept (link_done given.done (link_refused given.refused (link_done acked link)))
+    ∙ ap (λ (l : Link). fold link_after_note l both) (is (link_done acked link))
+    ∙ noted_more now (given_notes handle given) (given_notes handle kept)
+    ∙ ap (λ (l : Link). fold link_after_note l (given_notes handle kept)) (noted_given handle given now)
+    ∙ noted_given handle kept (link_done given.done (link_refused given.refused now))
 
 -- ---- what the view keeps of a Disconnect
 
@@ -122,6 +125,22 @@ done_stays over link = refl
 request_disconnecting : (effect : Effect) (link : Link) → (link_with_request effect link).disconnecting ≡ link.disconnecting
 request_disconnecting (AskHost min max latency timeout) link = refl
 request_disconnecting effect link = refl
+
+encrypted_disconnecting : (starts : Bool) (link : Link) → (link_encrypted_if starts link).disconnecting ≡ link.disconnecting
+encrypted_disconnecting true link = refl
+encrypted_disconnecting false link = refl
+
+-- what a host asked for does not depend on whether the link encrypts
+encrypted_table : (starts : Bool) (link : Link) (f : TableFacts) → KnowsTable link f → KnowsTable (link_encrypted_if starts link) f
+encrypted_table true link f knows =
+    record { role = knows.role; asked = knows.asked; closes = knows.closes; disconnects = knows.disconnects; parameters = knows.parameters }
+encrypted_table false link f knows = knows
+
+-- one request or two
+one_request : (effect kept : Effect) (link : Link) → link_with_request (or_request effect kept) link ≡ link_with_request kept (link_with_request effect link)
+one_request (AskHost min max latency timeout) (AskHost kept_min kept_max kept_latency kept_timeout) link = refl
+one_request (AskHost min max latency timeout) kept link = refl
+one_request effect kept link = refl
 
 -- a request is kept apart from what is done and refused
 request_apart : (effect : Effect) (given : Taken) (link : Link)
@@ -175,7 +194,7 @@ enter_knows setup slot link facts true entry goes is knows =
           owing_knows (link_done over link) (after (Enters slot quiet) facts.control) (control_entered slot facts) (entered_view slot facts)
           (control_entered_knows link facts.control slot quiet (none_by facts.control.ends goes) knows.table);
       disconnecting = knows.disconnecting;
-      version = entered_version slot facts ∙ knows.version;
+      version = λ some. knows.version (sym (entered_version slot facts) ∙ some);
     })
   where
     none_by : (ends : Option ErrCode) → is_none ends ≡ true → ends ≡ None
@@ -255,29 +274,38 @@ module _ (setup : Setup) (slot : ℕ) (room : Bool) (header : DataHeader) (pdu :
   abbrev over : Option Kind
   over = acked_kind acks facts
 
+  abbrev starts : Bool
+  starts = (accepted && not (is_empty pdu)) && is_start_rsp pdu.llid pdu.body
+
+  -- the link as the new PDU is noted
+  abbrev seen : Link
+  seen = link_encrypted_if starts (link_done over link)
+
   -- what the notes of it and both its effects make of the view
   changed : link_with_request (kept_effect_hearing setup.link.role slot room header pdu facts)
       (link_with_request (effect_hearing setup.link.role slot room header pdu facts) (fold link_after_note link (notes_hearing setup slot room header pdu facts)))
-      ≡ link_given kept (link_given given (link_done over link))
+      ≡ link_given kept (link_given given seen)
   changed =
       known_same facts.lengths kept.effect _
       ∙ ap (link_with_request kept.effect)
       (known_same facts.lengths given.effect _
       ∙ ap (link_with_request given.effect)
-      (noted_hearing setup.link.handle over (took_notes_if (accepted && not (is_empty pdu)) setup.link.handle pdu now) given kept link
+      (noted_hearing setup.link.handle over (took_notes_if (accepted && not (is_empty pdu)) setup.link.handle pdu now) starts given kept link
       (noted_took (accepted && not (is_empty pdu)) setup.link.handle pdu now))
-      ∙ request_apart given.effect kept (link_done given.done (link_refused given.refused (link_done over link))))
+      ∙ request_apart given.effect kept (link_done given.done (link_refused given.refused seen)))
 
-  given_disconnecting : (link_given kept (link_given given (link_done over link))).disconnecting ≡ link.disconnecting
+  given_disconnecting : (link_given kept (link_given given seen)).disconnecting ≡ link.disconnecting
   given_disconnecting =
-      request_disconnecting kept.effect (link_done kept.done (link_refused kept.refused (link_given given (link_done over link))))
-      ∙ request_disconnecting given.effect (link_done given.done (link_refused given.refused (link_done over link)))
+      request_disconnecting kept.effect (link_done kept.done (link_refused kept.refused (link_given given seen)))
+      ∙ request_disconnecting given.effect (link_done given.done (link_refused given.refused seen))
+      ∙ encrypted_disconnecting starts (link_done over link)
 
-  gone : KnowsTable (link_done over link) now.control.table
+  gone : KnowsTable seen now.control.table
   gone =
+      encrypted_table starts (link_done over link) now.control.table (
       gone_stage (link_done over link) answers slot own
       (owing_knows (link_done over link) (acked_control acks facts.control) own.control (acked_view acks facts (past_knows setup facts p))
-      (acked_stage link acks facts knows.table))
+      (acked_stage link acks facts knows.table)))
 
   hears : next.control.ends ≡ None
       → KnowsAsks
@@ -289,18 +317,16 @@ module _ (setup : Setup) (slot : ℕ) (room : Bool) (header : DataHeader) (pdu :
       subst (λ (l : Link). KnowsAsks l next) (sym changed)
       (record {
         table =
-            subst (λ (c : Control). KnowsTable (link_given kept (link_given given (link_done over link))) c.table) (sym same)
-            (taken_stage (link_done over link) takes accepted pdu slot now (knows_before_taking setup facts p setup.link.role slot header) gone
+            subst (λ (c : Control). KnowsTable (link_given kept (link_given given seen)) c.table) (sym same)
+            (taken_stage seen takes accepted pdu slot now (knows_before_taking setup facts p setup.link.role slot header) gone
             (ap (λ (c : Control). c.ends) (sym same) ∙ lasts));
-        disconnecting =
-            given_disconnecting
-            ∙ knows.disconnecting
-            ∙ ap is_some (sym (ap (λ (l : Leaving). l.disconnected) (data_leaving (accepted && is_data pdu) taken)
-            ∙ take_leaving takes pdu slot (accepted_if accepted pdu now) ∙ ap (λ (l : Leaving). l.disconnected) (gone_leaving answers slot own)));
+        disconnecting = λ ends.
+            ap is_some (ap (λ (l : Leaving). l.disconnected) (data_leaving (accepted && is_data pdu) taken)
+            ∙ take_leaving takes pdu slot (accepted_if accepted pdu now) ∙ ap (λ (l : Leaving). l.disconnected) (gone_leaving answers slot own))
+            ∙ knows.disconnecting (sym given_disconnecting ∙ ends);
         version =
             data_version (accepted && is_data pdu) taken
             (taken_version pdu slot (accepted_if accepted pdu now)
-            (knows_accepted accepted pdu now (knows_before_taking setup facts p setup.link.role slot header))
             (gone_version answers slot own (acked_version (has_acknowledged facts header) (heard_in_slot slot header.md facts) knows.version))
             takes (ap (λ (c : Control). c.ends) (sym same) ∙ lasts));
       })
@@ -329,33 +355,31 @@ unless_forged false link facts knows lasts = knows lasts
 
 -- ---- the host of a peripheral has a key or none
 
--- it has none, and that ends the link, which the view does not learn
-abbrev pub ends_by_key : Step → Facts → Bool
-ends_by_key (KeyAnswered key slot) facts = ends_without_key key facts
-ends_by_key other facts = false
+-- without one it may be to end the link, which the view does not learn
+key_leaving : (leaves : Bool) (slot : ℕ) (leaving : Leaving) → is_some leaving.disconnected ≡ true
+    → is_some (leaving_from_if leaves slot leaving).disconnected ≡ true
+key_leaving true slot leaving ends = refl
+key_leaving false slot leaving ends = ends
 
-key_leaving : (key : Option (List ℕ)) (slot : ℕ) (facts : Facts) → ends_without_key key facts ≡ false → (facts_key_answered key slot facts).leaving ≡ facts.leaving
-key_leaving key slot facts stays = ap (λ (leaves : Bool). leaving_from_if leaves slot facts.leaving) stays
-
-key_knows : (key : Option (List ℕ)) (slot : ℕ) (link : Link) (facts : Facts) → ends_without_key key facts ≡ false → KnowsAsks link facts
+pub key_knows : (key : Option (List ℕ)) (slot : ℕ) (link : Link) (facts : Facts) → KnowsAsks link facts
     → KnowsAsks link (facts_key_answered key slot facts)
-key_knows key slot link facts stays knows =
+key_knows key slot link facts knows =
     record {
       table = owing_knows link facts.control (facts_key_answered key slot facts).control (key_view key facts) knows.table;
-      disconnecting = knows.disconnecting ∙ ap (λ (l : Leaving). is_some l.disconnected) (sym (key_leaving key slot facts stays));
-      version = key_version key facts ∙ knows.version;
+      disconnecting = λ ends. key_leaving (ends_without_key key facts) slot facts.leaving (knows.disconnecting ends);
+      version = λ some. knows.version (sym (key_version key facts) ∙ some);
     }
 
 -- ---- every step that the host does not make
 
--- the host asks for a procedure, answers a request or ends the link
 sent_knows : (setup : Setup) (slot : ℕ) (link : Link) (facts : Facts) → KnowsAsks link facts
     → KnowsAsks (fold link_after_note link (sent_notes setup facts)) (facts_after setup facts (PacketSent slot))
 sent_knows setup slot link facts knows =
     subst (λ (l : Link). KnowsAsks l (facts_after setup facts (PacketSent slot))) (sym (noted_sent _ setup.link.handle _ (pdu_fixed facts) link))
     (record {
       table = gone_stage link (takes_leave facts) slot facts knows.table;
-      disconnecting = knows.disconnecting ∙ ap (λ (l : Leaving). is_some l.disconnected) (sym (gone_leaving (takes_leave facts) slot facts));
+      disconnecting = λ ends.
+          ap (λ (l : Leaving). is_some l.disconnected) (gone_leaving (takes_leave facts) slot facts) ∙ knows.disconnecting ends;
       version = gone_version (takes_leave facts) slot facts knows.version;
     })
 
@@ -363,34 +387,29 @@ fixed_knows : (stays : Bool) (link : Link) (facts : Facts) → KnowsAsks link fa
 fixed_knows true link facts knows = knows
 fixed_knows false link facts knows = record { table = knows.table; disconnecting = knows.disconnecting; version = knows.version }
 
--- what a step brings for the layer above of a PDU that was kept
-abbrev pub kept_effect_after : Setup → Facts → Step → Effect
-kept_effect_after setup facts (PacketReceived slot octets room) = kept_effect_of setup facts slot octets room
-kept_effect_after setup facts other = Nothing
-
--- with the request of the PDU that was taken and of the one that was kept
-pub step_knows : (setup : Setup) (step : Step) (link : Link) (facts : Facts) → IsPast setup facts → ends_by_key step facts ≡ false
-    → is_of_host step ≡ false → KnowsAsks link facts → (facts_after setup facts step).control.ends ≡ None
-    → KnowsAsks (link_with_request (kept_effect_after setup facts step) (link_after_step setup facts step link)) (facts_after setup facts step)
+pub step_knows : (setup : Setup) (step : Step) (link : Link) (facts : Facts) → IsPast setup facts → is_of_host step ≡ false → KnowsAsks link facts
+    → (facts_after setup facts step).control.ends ≡ None → KnowsAsks (link_after_step setup facts step link) (facts_after setup facts step)
 unfolding effect_of kept_effect_of
-step_knows setup (DataGiven start body) link facts p stays other knows lasts = record { table = knows.table; disconnecting = knows.disconnecting; version = knows.version }
-step_knows setup (ProcedureAsked ask) link facts p stays other knows lasts = absurd (cc)
-step_knows setup (RequestAnswered answer) link facts p stays other knows lasts = absurd (cc)
-step_knows setup (KeyAnswered key slot) link facts p stays other knows lasts = key_knows key slot link facts stays knows
-step_knows setup (Disconnected reason slot) link facts p stays other knows lasts = absurd (cc)
-step_knows setup (EventEntered slot) link facts p stays other knows lasts =
+step_knows setup (DataGiven start body) link facts p other knows lasts = record { table = knows.table; disconnecting = knows.disconnecting; version = knows.version }
+step_knows setup (ProcedureAsked ask) link facts p other knows lasts = absurd (cc)
+step_knows setup (RequestAnswered answer) link facts p other knows lasts = absurd (cc)
+step_knows setup (KeyAnswered key slot) link facts p other knows lasts = absurd (cc)
+step_knows setup (Disconnected reason slot) link facts p other knows lasts = absurd (cc)
+step_knows setup (EventEntered slot) link facts p other knows lasts =
     enter_knows setup slot link facts (goes_on facts) (entry_of slot (is_quiet_now facts) (held_of facts.control)) refl
     (entry_done (held_of facts.control) slot (is_quiet_now facts)) knows
-step_knows setup PduFixed link facts p stays other knows lasts = fixed_knows (is_control facts.outgoing.fixed) link facts knows
-step_knows setup (PacketSent slot) link facts p stays other knows lasts = sent_knows setup slot link facts knows
-step_knows setup (WordsGiven skd_s iv_s) link facts p stays other knows lasts = record { table = knows.table; disconnecting = knows.disconnecting; version = knows.version }
-step_knows setup (PacketReceived slot octets room) link facts p stays other knows lasts =
+step_knows setup PduFixed link facts p other knows lasts = fixed_knows (is_control facts.outgoing.fixed) link facts knows
+step_knows setup (PacketSent slot) link facts p other knows lasts = sent_knows setup slot link facts knows
+step_knows setup (WordsGiven skd_s iv_s) link facts p other knows lasts = record { table = knows.table; disconnecting = knows.disconnecting; version = knows.version }
+step_knows setup (PacketReceived slot octets room) link facts p other knows lasts =
     let octets_read = good_pdu setup facts octets in
-    unless_forged (is_forged setup facts octets)
-    (link_with_request (kept_effect_received setup.link.role slot room octets_read facts)
-    (link_with_request (effect_received setup.link.role slot room octets_read facts) (fold link_after_note link (received_notes setup slot room octets_read facts))))
-    (facts_received setup.link.role slot room octets_read facts) (receives setup slot room octets_read link facts p knows) lasts
-step_knows setup DataReported link facts p stays other knows lasts = record { table = knows.table; disconnecting = knows.disconnecting; version = knows.version }
+    let effect = effect_received setup.link.role slot room octets_read facts in
+    let kept = kept_effect_received setup.link.role slot room octets_read facts in
+    let noted = fold link_after_note link (received_notes setup slot room octets_read facts) in
+    subst (λ (l : Link). KnowsAsks l (facts_after setup facts (PacketReceived slot octets room))) (sym (one_request effect kept noted))
+    (unless_forged (is_forged setup facts octets) (link_with_request kept (link_with_request effect noted))
+    (facts_received setup.link.role slot room octets_read facts) (receives setup slot room octets_read link facts p knows) lasts)
+step_knows setup DataReported link facts p other knows lasts = record { table = knows.table; disconnecting = knows.disconnecting; version = knows.version }
 
 -- ---- a new link
 
@@ -411,4 +430,5 @@ first_by Peripheral setup own peer is =
     none kind = ap count_if (sym (not_asked kind))
 
 pub first_knows : (setup : Setup) (own peer : Address) → KnowsAsks (opened_link setup.link.role own peer) (first_facts setup)
-first_knows setup own peer = record { table = first_by setup.link.role setup own peer refl; disconnecting = refl; version = refl }
+first_knows setup own peer =
+    record { table = first_by setup.link.role setup own peer refl; disconnecting = λ ends. absurd (cc); version = λ some. absurd (cc) }

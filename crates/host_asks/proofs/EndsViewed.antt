@@ -19,28 +19,29 @@ use Rattle.procedure_events.specs.procedure_stages.declared.steps.Effect.TheVari
 use Rattle.open_links.specs.link_model.declared.state.PeerFacts.{PeerFacts}
 use Rattle.open_links.specs.link_model.declared.state.PeerVersion.{PeerVersion}
 use Rattle.open_links.specs.link_model.End.{facts_after, notes_after}
-use Rattle.open_links.specs.link_model.Hosts.{facts_answered}
+use Rattle.open_links.specs.link_model.Hosts.{facts_answered, facts_key_answered}
 use Rattle.open_links.specs.link_model.Setup.{Setup}
 use Rattle.open_links.specs.link_model.Step.{Step}
 use Rattle.open_links.specs.link_model.Facts.{Facts}
 use Rattle.open_links.proofs.link_model.KnownEnds.{IsPast}
 use Rattle.host_view.specs.Changes.{answered, view_after}
-use Rattle.host_view.specs.Refusals.{count_if, first_refusal}
-use Rattle.host_view.specs.Status.{rows_of}
+use Rattle.host_view.specs.Refusals.{count_if}
+use Rattle.host_view.specs.Unbuilt.{status_of}
 use Rattle.host_view.specs.declared.links.Link.{Link}
 use Rattle.host_view.specs.View.{View}
 use Rattle.host_view.specs.Changes.{on_link}
 use Rattle.host_view.specs.Links.{link_in}
 use Rattle.host_view.specs.Noted.{after_packet, event_handle, acl_handle, is_acl_data, is_le_event, view_noted}
+use Rattle.link_commands.specs.declared.moments.Moment.{Moment}
 use Rattle.link_commands.specs.Commands.{answered_if, ask_unless, facts_commanded, host_step_of, is_about, is_read_of_peer, link_accepted, link_answered, link_commanded}
 use Rattle.host_asks.specs.Commands.{MayComeIf}
 use Rattle.host_asks.specs.Knowing.{KnowsAsks}
 use Rattle.host_asks.specs.Noting.{effect_after, is_of_host, link_after_notes, link_after_note, link_with_request}
 use Rattle.link_commands.specs.Views.{events_at_once, events_if, kind_if, kind_known, view_answered, view_commanded}
 use Rattle.host_asks.specs.Views.{KnowsAt, KnowsOnceReported, leaves_other_links}
-use Rattle.host_asks.proofs.Accepting.{command_keeps, command_may_come, refused_knows, request_withdrawn}
+use Rattle.host_asks.proofs.Accepting.{command_keeps, command_may_come, key_known, refused_knows, request_withdrawn}
+use Rattle.host_asks.proofs.Ends.{key_knows, step_knows}
 use Rattle.host_asks.proofs.LinksViewed.{about_other, about_own, command_other, command_own, notes_of_step, notes_own}
-use Rattle.host_asks.proofs.Reported.{reported_knows}
 
 -- ---- a change that keeps what is known
 
@@ -60,21 +61,6 @@ changed_known effect view given handle facts change keeps known = by (given == h
 
 pub handed_known : (link : Link) (facts : Facts) (outstanding : ℕ) → KnowsAsks link facts → KnowsAsks (record link { outstanding = outstanding }) facts
 handed_known link facts outstanding knows =
-    record {
-      table =
-          record {
-            role = knows.table.role;
-            asked = knows.table.asked;
-            closes = knows.table.closes;
-            disconnects = knows.table.disconnects;
-            parameters = knows.table.parameters;
-          };
-      disconnecting = knows.disconnecting;
-      version = knows.version;
-    }
-
-pub key_known : (link : Link) (facts : Facts) (waits : Bool) → KnowsAsks link facts → KnowsAsks (record link { waits_for_key = waits }) facts
-key_known link facts waits knows =
     record {
       table =
           record {
@@ -190,6 +176,12 @@ request_refused_at_once effect view handle facts code known lasts =
           (refused_knows (link_with_request effect known.link) facts code known.link.waits_for_parameters known.knows lasts);
     }
 
+-- one for a key is answered as by a host that has none
+pub key_lacked_at_once : (effect : Effect) (view : View) (handle slot : ℕ) (facts : Facts) → KnowsOnceReported effect view handle facts
+    → KnowsOnceReported effect view handle (facts_key_answered None slot facts)
+key_lacked_at_once effect view handle slot facts known =
+    record { link = known.link; is_open = known.is_open; knows = key_knows None slot (link_with_request effect known.link) facts known.knows }
+
 -- ---- a step of an end, and a command
 
 option_some : (f : Link → Link) (found : Option Link) (link : Link) → found ≡ Some link → option_map f found ≡ Some (f link)
@@ -204,7 +196,7 @@ step_known view setup facts step p other known lasts =
       is_open =
           notes_own setup.link.handle view (notes_after setup facts step) (notes_of_step setup facts step)
           ∙ option_some (link_after_notes setup facts step) (link_in view.links setup.link.handle) known.link known.is_open;
-      knows = reported_knows setup step known.link facts p other known.knows lasts;
+      knows = step_knows setup step known.link facts p other known.knows lasts;
     }
 
 answered_view : (view : View) (handle : ℕ) (kind : Kind) (link : Link) → link_in view.links handle ≡ Some link
@@ -223,19 +215,19 @@ answered_by view (ReadRemoteVersion given) handle peer link is = known_if view h
 answered_by view (LeReadRemoteFeatures given) handle peer link is = known_if view handle (is_some peer.features) Features link is
 answered_by view other handle peer link is = is
 
-pub command_may : (view : View) (command : Command) (handle slot : ℕ) (facts : Facts) → first_refusal (rows_of view command) ≡ 0
+pub command_may : (view : View) (command : Command) (handle : ℕ) (moment : Moment) (facts : Facts) → status_of view command ≡ 0
     → is_about handle command ≡ true → KnowsAt view handle facts
-    → MayComeIf (host_step_of command slot (role_of facts.control.table.progress) facts.peer) facts
-command_may view command handle slot facts ok about known =
-    subst (λ (role : Role). MayComeIf (host_step_of command slot role facts.peer) facts) (sym known.knows.table.role)
-    (command_may_come view command handle slot known.link facts ok about known.is_open known.knows)
+    → MayComeIf (host_step_of command moment (role_of facts.control.table.progress) facts.peer) facts
+command_may view command handle moment facts ok about known =
+    subst (λ (role : Role). MayComeIf (host_step_of command moment role facts.peer) facts) (sym known.knows.table.role)
+    (command_may_come view command handle moment known.link facts ok about known.is_open known.knows)
 
-pub command_known : (view : View) (setup : Setup) (command : Command) (slot : ℕ) (facts : Facts) → first_refusal (rows_of view command) ≡ 0
+pub command_known : (view : View) (setup : Setup) (command : Command) (moment : Moment) (facts : Facts) → status_of view command ≡ 0
     → is_about setup.link.handle command ≡ true → KnowsAt view setup.link.handle facts
-    → (facts_commanded setup (host_step_of command slot (role_of facts.control.table.progress) facts.peer) facts).control.ends ≡ None
+    → (facts_commanded setup (host_step_of command moment (role_of facts.control.table.progress) facts.peer) facts).control.ends ≡ None
     → KnowsAt (view_commanded view command setup.link.handle facts.peer) setup.link.handle
-    (facts_commanded setup (host_step_of command slot (role_of facts.control.table.progress) facts.peer) facts)
-command_known view setup command slot facts ok about known lasts =
+    (facts_commanded setup (host_step_of command moment (role_of facts.control.table.progress) facts.peer) facts)
+command_known view setup command moment facts ok about known lasts =
     record {
       link = link_commanded command facts.peer known.link;
       is_open =
@@ -244,12 +236,12 @@ command_known view setup command slot facts ok about known lasts =
       knows = by (role_of facts.control.table.progress) known.knows.table.role lasts;
     }
   where
-    by : (role : Role) → role ≡ known.link.role → (facts_commanded setup (host_step_of command slot role facts.peer) facts).control.ends ≡ None
-        → KnowsAsks (link_commanded command facts.peer known.link) (facts_commanded setup (host_step_of command slot role facts.peer) facts)
+    by : (role : Role) → role ≡ known.link.role → (facts_commanded setup (host_step_of command moment role facts.peer) facts).control.ends ≡ None
+        → KnowsAsks (link_commanded command facts.peer known.link) (facts_commanded setup (host_step_of command moment role facts.peer) facts)
     by role is lasts =
-        subst (λ (r : Role). KnowsAsks (link_commanded command facts.peer known.link) (facts_commanded setup (host_step_of command slot r facts.peer) facts)) (sym is)
-        (command_keeps setup view command setup.link.handle slot known.link facts ok about known.is_open known.knows
-        (subst (λ (r : Role). (facts_commanded setup (host_step_of command slot r facts.peer) facts).control.ends ≡ None) is lasts))
+        subst (λ (r : Role). KnowsAsks (link_commanded command facts.peer known.link) (facts_commanded setup (host_step_of command moment r facts.peer) facts)) (sym is)
+        (command_keeps setup view command setup.link.handle moment known.link facts ok about known.is_open known.knows
+        (subst (λ (r : Role). (facts_commanded setup (host_step_of command moment r facts.peer) facts).control.ends ≡ None) is lasts))
 
 -- a command on other links, or on none
 pub other_known : (view : View) (command : Command) (handle : ℕ) (facts : Facts) → is_about handle command ≡ false → leaves_other_links command ≡ true
@@ -258,18 +250,18 @@ other_known view command handle facts about leaves known =
     record { link = known.link; is_open = command_other view command handle about leaves ∙ known.is_open; knows = known.knows }
 
 -- an event answers it, or it makes a step
-pub answered_or_asked : (command : Command) (handle slot : ℕ) (role : Role) (peer : PeerFacts) → is_read_of_peer command ≡ true
-    → length (events_at_once command handle peer) ≡ count_if (is_none (host_step_of command slot role peer))
-answered_or_asked (ReadRemoteVersion given) handle slot role peer is = by peer.version refl
+pub answered_or_asked : (command : Command) (handle : ℕ) (moment : Moment) (role : Role) (peer : PeerFacts) → is_read_of_peer command ≡ true
+    → length (events_at_once command handle peer) ≡ count_if (is_none (host_step_of command moment role peer))
+answered_or_asked (ReadRemoteVersion given) handle moment role peer is = by peer.version refl
   where
     by : (version : Option PeerVersion) → peer.version ≡ version
         → length (events_if handle peer (kind_if (is_some peer.version) Version)) ≡ count_if (is_none (ask_unless (is_some peer.version) ask_version))
     by None is = rw is refl
     by (Some version) is = rw is refl
-answered_or_asked (LeReadRemoteFeatures given) handle slot role peer is = by peer.features refl
+answered_or_asked (LeReadRemoteFeatures given) handle moment role peer is = by peer.features refl
   where
     by : (features : Option ℕ) → peer.features ≡ features
         → length (events_if handle peer (kind_if (is_some peer.features) Features)) ≡ count_if (is_none (ask_unless (is_some peer.features) ask_features))
     by None is = rw is refl
     by (Some features) is = rw is refl
-answered_or_asked other handle slot role peer is = absurd (cc)
+answered_or_asked other handle moment role peer is = absurd (cc)

@@ -5,16 +5,15 @@ use Rattle.ble_base.specs.declared.error_codes.ErrCode.{ErrCode}
 use Rattle.open_links.specs.control_model.Control.{Answers}
 use Rattle.open_links.specs.link_model.Setup.{Setup}
 use Rattle.open_links.specs.link_model.Facts.{Facts}
-use Rattle.open_links.specs.link_model.Step.{Step, RequestAnswered}
+use Rattle.open_links.specs.link_model.Step.{Step, KeyAnswered, RequestAnswered}
 use Rattle.open_links.specs.link_model.End.{facts_after}
 use Rattle.open_links.proofs.link_model.KnownEnds.{IsPast, first_past, stays_over, step_past}
 use Rattle.link_commands.specs.Commands.{facts_commanded, host_step_of}
 use Rattle.host_asks.specs.Knowing.{KnowsAsks}
-use Rattle.host_asks.specs.Lasting.{AllMayHappen, IsCommanded, LinkEvent, Makes, MakesUnreported, MayHappen, ViewedEnd, first_viewed, viewed_after, viewed_after_all}
+use Rattle.host_asks.specs.Lasting.{AllMayHappen, IsCommanded, LacksKey, LinkEvent, Makes, MakesUnreported, MayHappen, ViewedEnd, first_viewed, viewed_after, viewed_after_all}
 use Rattle.host_asks.proofs.Accepting.{command_keeps, withheld_knows}
 use Rattle.host_asks.proofs.Controls.{ends_before}
-use Rattle.host_asks.proofs.Ends.{first_knows}
-use Rattle.host_asks.proofs.Reported.{reported_knows}
+use Rattle.host_asks.proofs.Ends.{first_knows, key_knows, step_knows}
 
 -- ---- an end that did not end the link did not before
 
@@ -41,22 +40,25 @@ commanded_past setup facts None p = p
 commanded_past setup facts (Some step) p = step_past setup facts step p
 
 event_past : (setup : Setup) (end : ViewedEnd) (event : LinkEvent) → IsPast setup end.facts → IsPast setup (viewed_after setup end event).facts
-event_past setup end (IsCommanded view command slot) p =
-    commanded_past setup end.facts (host_step_of command slot end.link.role end.facts.peer) p
+event_past setup end (IsCommanded view command moment) p =
+    commanded_past setup end.facts (host_step_of command moment end.link.role end.facts.peer) p
 event_past setup end (Makes step) p = step_past setup end.facts step p
 event_past setup end (MakesUnreported step code) p =
     step_past setup (facts_after setup end.facts step) (RequestAnswered (Err code)) (step_past setup end.facts step p)
+event_past setup end (LacksKey slot) p = step_past setup end.facts (KeyAnswered None slot) p
 
 one_event : (setup : Setup) (end : ViewedEnd) (event : LinkEvent) → IsPast setup end.facts → MayHappen setup end event → Knows end
     → Knows (viewed_after setup end event)
-one_event setup end (IsCommanded view command slot) p may knows lasts =
-    command_keeps setup view command setup.link.handle slot end.link end.facts may.accepted may.about may.is_open
-    (knows (lasted_if setup end.facts (host_step_of command slot end.link.role end.facts.peer) p lasts)) lasts
+one_event setup end (IsCommanded view command moment) p may knows lasts =
+    command_keeps setup view command setup.link.handle moment end.link end.facts may.accepted may.about may.is_open
+    (knows (lasted_if setup end.facts (host_step_of command moment end.link.role end.facts.peer) p lasts)) lasts
 one_event setup end (Makes step) p may knows lasts =
-    reported_knows setup step end.link end.facts p may (knows (lasted setup end.facts step p lasts)) lasts
+    step_knows setup step end.link end.facts p may (knows (lasted setup end.facts step p lasts)) lasts
 one_event setup end (MakesUnreported step code) p may knows lasts =
     withheld_knows setup step end.link end.facts code p may
     (knows (lasted setup end.facts step p (ends_before (Answers (Err code)) (facts_after setup end.facts step).control lasts))) lasts
+one_event setup end (LacksKey slot) p may knows lasts =
+    key_knows None slot end.link end.facts (knows (lasted setup end.facts (KeyAnswered None slot) p lasts))
 
 each_event : (setup : Setup) (end : ViewedEnd) (events : List LinkEvent) → IsPast setup end.facts → AllMayHappen setup end events → Knows end
     → Knows (viewed_after_all setup end events)

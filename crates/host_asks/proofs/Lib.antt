@@ -5,7 +5,8 @@ pub mod Tables
 pub mod Controls
 pub mod Versions
 pub mod Ends
-pub mod Reported
+pub mod Accepted
+pub mod NotBuilt
 pub mod Accepting
 pub mod Lasting
 pub mod LinksViewed

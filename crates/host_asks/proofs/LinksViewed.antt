@@ -7,7 +7,7 @@ use Rattle.ble_base.specs.declared.addresses.Address.{Address}
 use Rattle.ble_base.specs.declared.error_codes.ErrCode.{ErrCode}
 use Rattle.ble_base.specs.declared.procedure_kinds.Kind.{Kind}
 use Rattle.ble_base.specs.declared.notes.Note.{Note}
-use Rattle.ble_base.specs.declared.notes.Note.TheVariants.{Done, Opened, Refused, Shut, Up}
+use Rattle.ble_base.specs.declared.notes.Note.TheVariants.{Done, Opened, Refused, Shut, Took, Up}
 use Rattle.hci_cmd.specs.declared.command.Command.{Command}
 use Rattle.hci_cmd.specs.declared.command.Command.TheVariants.{Disconnect, HostCompleted, LeConnectionUpdate, LeEnableEncryption, LeKeyNegative, LeKeyReply, LeParamNegative, LeParamReply, LeReadRemoteFeatures, LeSetChannels, LeSetDataLength, LeSetPhy, ReadRemoteVersion, Reset}
 use Rattle.data_pdu.specs.Header.{header_in}
@@ -34,9 +34,9 @@ use Rattle.host_view.specs.declared.links.Link.{Link}
 use Rattle.host_view.specs.View.{View}
 use Rattle.host_view.specs.Changes.{changed_at, on_link, view_after}
 use Rattle.host_view.specs.Links.{link_in}
-use Rattle.host_view.specs.Noted.{opened_link, view_noted}
+use Rattle.host_view.specs.Noted.{encrypted_if, is_start_rsp, opened_link, view_noted}
 use Rattle.link_commands.specs.Commands.{is_about, link_accepted}
-use Rattle.host_asks.specs.Noting.{link_after_note}
+use Rattle.host_asks.specs.Noting.{link_after_note, link_encrypted_if}
 use Rattle.host_asks.specs.Views.{IsNoteOf, KnowsAt, leaves_other_links}
 use Rattle.host_asks.proofs.Ends.{first_knows}
 
@@ -71,6 +71,13 @@ note_own handle view (Refused given kind code) is =
 note_own handle view (Done given kind) is =
     subst (λ (h : ℕ). link_in (view_noted view (Done given kind)).links h ≡ option_map (λ link. link_after_note link (Done given kind)) (link_in view.links h)) is
     (changed_own view.links given _)
+note_own handle view (Took given number llid body) is = by (is_start_rsp llid body.items)
+  where
+    by : (starts : Bool) → link_in (encrypted_if starts given view).links handle ≡ option_map (link_encrypted_if starts) (link_in view.links handle)
+    by true =
+        subst (λ (h : ℕ). link_in (encrypted_if true given view).links h ≡ option_map (link_encrypted_if true) (link_in view.links h)) is
+        (changed_own view.links given _)
+    by false = same_link (link_in view.links handle)
 note_own handle view (Up packet) is = absurd is
 note_own handle view (Opened given role own peer) is = absurd is
 note_own handle view (Shut given reason) is = absurd is
@@ -81,6 +88,11 @@ note_other : (handle other : ℕ) (view : View) (note : Note) → IsNoteOf handl
 unfolding view_noted
 note_other handle other view (Refused given kind code) is differs = changed_other view.links given other _ (λ same. differs (same ∙ is))
 note_other handle other view (Done given kind) is differs = changed_other view.links given other _ (λ same. differs (same ∙ is))
+note_other handle other view (Took given number llid body) is differs = by (is_start_rsp llid body.items)
+  where
+    by : (starts : Bool) → link_in (encrypted_if starts given view).links other ≡ link_in view.links other
+    by true = changed_other view.links given other _ (λ same. differs (same ∙ is))
+    by false = refl
 note_other handle other view (Up packet) is differs = absurd is
 note_other handle other view (Opened given role own peer) is differs = absurd is
 note_other handle other view (Shut given reason) is differs = absurd is
@@ -139,7 +151,7 @@ module _ (handle : ℕ) where
   of_sent false number pdu = tt
 
   of_took : (noted : Bool) (pdu : Pdu) (facts : Facts) → All (took_notes_if noted handle pdu facts)
-  of_took true pdu facts = (tt, tt)
+  of_took true pdu facts = (refl, tt)
   of_took false pdu facts = tt
 
   of_given : (given : Taken) → All (given_notes handle given)
@@ -187,6 +199,9 @@ command_own view (LeSetChannels map) handle about = same_link (link_in view.link
 command_own view (LeSetPhy given all tx rx options) handle about = about_own view given handle _ about
 command_own view (LeParamReply given min max latency timeout lengths) handle about = about_own view given handle _ about
 command_own view (LeParamNegative given reason) handle about = about_own view given handle _ about
+command_own view (LeEnableEncryption given rand ediv key) handle about = about_own view given handle _ about
+command_own view (LeKeyReply given key) handle about = about_own view given handle _ about
+command_own view (LeKeyNegative given) handle about = about_own view given handle _ about
 command_own view other handle about = absurd (cc)
 
 pub differs : (given handle : ℕ) → (given == handle) ≡ false → handle ≡ given → ⊥
@@ -209,9 +224,9 @@ command_other view (LeParamNegative given reason) handle about leaves = about_ot
 command_other view (LeSetPhy given all tx rx options) handle about leaves = about_other view given handle _ about
 command_other view Reset handle about leaves = absurd (cc)
 command_other view (HostCompleted counts) handle about leaves = absurd (cc)
-command_other view (LeEnableEncryption given rand ediv key) handle about leaves = absurd (cc)
-command_other view (LeKeyReply given key) handle about leaves = absurd (cc)
-command_other view (LeKeyNegative given) handle about leaves = absurd (cc)
+command_other view (LeEnableEncryption given rand ediv key) handle about leaves = about_other view given handle _ about
+command_other view (LeKeyReply given key) handle about leaves = about_other view given handle _ about
+command_other view (LeKeyNegative given) handle about leaves = about_other view given handle _ about
 command_other view other handle about leaves = refl
 
 -- ---- a link is opened

@@ -15,8 +15,8 @@ use Rattle.open_links.specs.OpenLinks.{HasHandle, HaveHandles, Links, OpenLink, 
 use Rattle.open_links.proofs.Handles.{has_its_handle}
 use Rattle.host_view.specs.View.{View}
 use Rattle.host_view.specs.Changes.{view_after}
-use Rattle.host_view.specs.Refusals.{first_refusal}
-use Rattle.host_view.specs.Status.{rows_of}
+use Rattle.host_view.specs.Unbuilt.{status_of}
+use Rattle.link_commands.specs.declared.moments.Moment.{Moment}
 use Rattle.link_commands.specs.Commands.{facts_commanded, host_step_of, is_about}
 use Rattle.host_asks.specs.Commands.{MayComeIf}
 use Rattle.link_commands.specs.LinksCommanded.{known_in, link_after_if, links_commanded, links_commanded_from, open_link_commanded, place_commanded, view_commanded_on}
@@ -39,34 +39,34 @@ commanded_setup (Some step) link = refl
 
 -- ---- what is under a handle
 
-commanded_from : (command : Command) (slot first handle : ℕ) (links : Links)
-    → link_from first handle (links_commanded_from first command slot links) ≡ place_commanded (is_about handle command) command slot (link_from first handle links)
-commanded_from command slot first handle [] = none (is_about handle command)
+commanded_from : (command : Command) (moment : Moment) (first handle : ℕ) (links : Links)
+    → link_from first handle (links_commanded_from first command moment links) ≡ place_commanded (is_about handle command) command moment (link_from first handle links)
+commanded_from command moment first handle [] = none (is_about handle command)
   where
-    none : (about : Bool) → None ≡ place_commanded about command slot None
+    none : (about : Bool) → None ≡ place_commanded about command moment None
     none true = refl
     none false = refl
-commanded_from command slot first handle (place ∷ links) = by (first == handle) refl (commanded_from command slot (first + 1) handle links)
+commanded_from command moment first handle (place ∷ links) = by (first == handle) refl (commanded_from command moment (first + 1) handle links)
   where
     by : (same : Bool) → (first == handle) ≡ same
-        → link_from (first + 1) handle (links_commanded_from (first + 1) command slot links)
-        ≡ place_commanded (is_about handle command) command slot (link_from (first + 1) handle links)
-        → (if same then place_commanded (is_about first command) command slot place else link_from (first + 1) handle (links_commanded_from (first + 1) command slot links))
-        ≡ place_commanded (is_about handle command) command slot (if same then place else link_from (first + 1) handle links)
-    by true is rest = ap (λ (h : ℕ). place_commanded (is_about h command) command slot place) (eqb-true first handle is)
+        → link_from (first + 1) handle (links_commanded_from (first + 1) command moment links)
+        ≡ place_commanded (is_about handle command) command moment (link_from (first + 1) handle links)
+        → (if same then place_commanded (is_about first command) command moment place else link_from (first + 1) handle (links_commanded_from (first + 1) command moment links))
+        ≡ place_commanded (is_about handle command) command moment (if same then place else link_from (first + 1) handle links)
+    by true is rest = ap (λ (h : ℕ). place_commanded (is_about h command) command moment place) (eqb-true first handle is)
     by false is rest = rest
 
-commanded_handle : (command : Command) (slot handle : ℕ) (about : Bool) (place : Option OpenLink) → HasHandle handle place
-    → HasHandle handle (place_commanded about command slot place)
-commanded_handle command slot handle true None has = tt
-commanded_handle command slot handle true (Some link) has =
-    ap (λ (s : Setup). s.link.handle) (commanded_setup (host_step_of command slot link.setup.link.role (facts_in link).peer) link) ∙ has
-commanded_handle command slot handle false place has = has
+commanded_handle : (command : Command) (moment : Moment) (handle : ℕ) (about : Bool) (place : Option OpenLink) → HasHandle handle place
+    → HasHandle handle (place_commanded about command moment place)
+commanded_handle command moment handle true None has = tt
+commanded_handle command moment handle true (Some link) has =
+    ap (λ (s : Setup). s.link.handle) (commanded_setup (host_step_of command moment link.setup.link.role (facts_in link).peer) link) ∙ has
+commanded_handle command moment handle false place has = has
 
-commanded_handles : (command : Command) (slot first : ℕ) (links : Links) → HaveHandles first links → HaveHandles first (links_commanded_from first command slot links)
-commanded_handles command slot first [] have = tt
-commanded_handles command slot first (place ∷ links) have =
-    (commanded_handle command slot first (is_about first command) place have.0, commanded_handles command slot (first + 1) links have.1)
+commanded_handles : (command : Command) (moment : Moment) (first : ℕ) (links : Links) → HaveHandles first links → HaveHandles first (links_commanded_from first command moment links)
+commanded_handles command moment first [] have = tt
+commanded_handles command moment first (place ∷ links) have =
+    (commanded_handle command moment first (is_about first command) place have.0, commanded_handles command moment (first + 1) links have.1)
 
 -- ---- the view
 
@@ -113,22 +113,22 @@ view_other view command handle links facts about known = known
 abbrev pub IsKnownAt : View → Links → ℕ → Type 0
 IsKnownAt view links handle = (link : OpenLink) → link_at handle links ≡ Some link → (facts_in link).control.ends ≡ None → KnowsAt view handle (facts_in link)
 
-module _ (view : View) (command : Command) (slot : ℕ) (links : Links) (ok : first_refusal (rows_of view command) ≡ 0)
+module _ (view : View) (command : Command) (moment : Moment) (links : Links) (ok : status_of view command ≡ 0)
     (leaves : leaves_other_links command ≡ true) (have : HaveHandles 0 links) (handle : ℕ) (known : IsKnownAt view links handle) where
   own_link : (link : OpenLink) → is_about handle command ≡ true → link_at handle links ≡ Some link
-      → (facts_in (open_link_commanded command slot link)).control.ends ≡ None
-      → KnowsAt (view_commanded_on view command links) handle (facts_in (open_link_commanded command slot link))
+      → (facts_in (open_link_commanded command moment link)).control.ends ≡ None
+      → KnowsAt (view_commanded_on view command links) handle (facts_in (open_link_commanded command moment link))
   own_link link about is lasts =
       subst (λ (f : Facts). KnowsAt (view_commanded_on view command links) handle f) (sym facts_are)
       (subst (λ (v : View). KnowsAt v handle (facts_commanded link.setup step (facts_in link))) (sym (view_about view command handle links link about is)) own)
     where
       step_by : Role → Option Step
-      step_by role = host_step_of command slot role (facts_in link).peer
+      step_by role = host_step_of command moment role (facts_in link).peer
 
       step : Option Step
-      step = host_step_of command slot link.setup.link.role (facts_in link).peer
+      step = host_step_of command moment link.setup.link.role (facts_in link).peer
 
-      facts_are : facts_in (open_link_commanded command slot link) ≡ facts_commanded link.setup step (facts_in link)
+      facts_are : facts_in (open_link_commanded command moment link) ≡ facts_commanded link.setup step (facts_in link)
       facts_are = commanded_facts step link
 
       goes : (facts_commanded link.setup step (facts_in link)).control.ends ≡ None
@@ -151,7 +151,7 @@ module _ (view : View) (command : Command) (slot : ℕ) (links : Links) (ok : fi
       by_end h is_handle about_h known_h lasts_h =
           subst (λ (n : ℕ). KnowsAt (view_commanded view command n (facts_in link).peer) n
           (facts_commanded link.setup (step_by (role_of (facts_in link).control.table.progress)) (facts_in link))) is_handle
-          (command_known view link.setup command slot (facts_in link) ok (subst (λ (n : ℕ). is_about n command ≡ true) (sym is_handle) about_h)
+          (command_known view link.setup command moment (facts_in link) ok (subst (λ (n : ℕ). is_about n command ≡ true) (sym is_handle) about_h)
           (subst (λ (n : ℕ). KnowsAt view n (facts_in link)) (sym is_handle) known_h) lasts_h)
 
       own : KnowsAt (view_commanded view command handle (facts_in link).peer) handle (facts_commanded link.setup step (facts_in link))
@@ -161,39 +161,39 @@ module _ (view : View) (command : Command) (slot : ℕ) (links : Links) (ok : fi
           (subst (λ (r : Role). (facts_commanded link.setup (step_by r) (facts_in link)).control.ends ≡ None) (sym role) goes))
 
   one_link : (about : Bool) (place : Option OpenLink) (link : OpenLink) → is_about handle command ≡ about → link_at handle links ≡ place
-      → place_commanded about command slot place ≡ Some link → (facts_in link).control.ends ≡ None
+      → place_commanded about command moment place ≡ Some link → (facts_in link).control.ends ≡ None
       → KnowsAt (view_commanded_on view command links) handle (facts_in link)
   one_link true None link about found is lasts = absurd (cc)
   one_link true (Some before) link about found is lasts =
-      subst (λ (l : OpenLink). KnowsAt (view_commanded_on view command links) handle (facts_in l)) (some_is (open_link_commanded command slot before) link is)
-      (own_link before about found (subst (λ (l : OpenLink). (facts_in l).control.ends ≡ None) (sym (some_is (open_link_commanded command slot before) link is)) lasts))
+      subst (λ (l : OpenLink). KnowsAt (view_commanded_on view command links) handle (facts_in l)) (some_is (open_link_commanded command moment before) link is)
+      (own_link before about found (subst (λ (l : OpenLink). (facts_in l).control.ends ≡ None) (sym (some_is (open_link_commanded command moment before) link is)) lasts))
   one_link false place link about found is lasts =
       view_other view command handle links (facts_in link) about (other_known view command handle (facts_in link) about leaves (known link (found ∙ is) lasts))
 
-  pub link_known : IsKnownAt (view_commanded_on view command links) (links_commanded command slot links) handle
+  pub link_known : IsKnownAt (view_commanded_on view command links) (links_commanded command moment links) handle
   link_known link is lasts =
-      one_link (is_about handle command) (link_at handle links) link refl refl (sym (commanded_from command slot 0 handle links) ∙ is) lasts
+      one_link (is_about handle command) (link_at handle links) link refl refl (sym (commanded_from command moment 0 handle links) ∙ is) lasts
 
 -- ---- all links
 
-pub links_known : (view : View) (command : Command) (slot : ℕ) (links : Links) → first_refusal (rows_of view command) ≡ 0 → leaves_other_links command ≡ true
-    → KnowsOpenEnds view links → KnowsOpenEnds (view_commanded_on view command links) (links_commanded command slot links)
-links_known view command slot links ok leaves known =
+pub links_known : (view : View) (command : Command) (moment : Moment) (links : Links) → status_of view command ≡ 0 → leaves_other_links command ≡ true
+    → KnowsOpenEnds view links → KnowsOpenEnds (view_commanded_on view command links) (links_commanded command moment links)
+links_known view command moment links ok leaves known =
     record {
-      handles = commanded_handles command slot 0 links known.handles;
-      each = λ handle. link_known view command slot links ok leaves known.handles handle (known.each handle);
+      handles = commanded_handles command moment 0 links known.handles;
+      each = λ handle. link_known view command moment links ok leaves known.handles handle (known.each handle);
     }
 
 -- ---- the step on each link may come
 
-pub end_may : (view : View) (command : Command) (handle slot : ℕ) (link : OpenLink) → first_refusal (rows_of view command) ≡ 0
+pub end_may : (view : View) (command : Command) (handle : ℕ) (moment : Moment) (link : OpenLink) → status_of view command ≡ 0
     → is_about handle command ≡ true → KnowsAt view handle (facts_in link)
-    → MayComeIf (host_step_of command slot link.setup.link.role (facts_in link).peer) (facts_in link)
-end_may view command handle slot link ok about known =
-    subst (λ (r : Role). MayComeIf (host_step_of command slot r (facts_in link).peer) (facts_in link)) (keeps_role link.setup link.past)
-    (command_may view command handle slot (facts_in link) ok about known)
+    → MayComeIf (host_step_of command moment link.setup.link.role (facts_in link).peer) (facts_in link)
+end_may view command handle moment link ok about known =
+    subst (λ (r : Role). MayComeIf (host_step_of command moment r (facts_in link).peer) (facts_in link)) (keeps_role link.setup link.past)
+    (command_may view command handle moment (facts_in link) ok about known)
 
-pub step_may : (view : View) (command : Command) (handle slot : ℕ) (links : Links) (link : OpenLink) → first_refusal (rows_of view command) ≡ 0
+pub step_may : (view : View) (command : Command) (handle : ℕ) (moment : Moment) (links : Links) (link : OpenLink) → status_of view command ≡ 0
     → is_about handle command ≡ true → KnowsOpenEnds view links → link_at handle links ≡ Some link → (facts_in link).control.ends ≡ None
-    → MayComeIf (host_step_of command slot link.setup.link.role (facts_in link).peer) (facts_in link)
-step_may view command handle slot links link ok about known is lasts = end_may view command handle slot link ok about (known.each handle link is lasts)
+    → MayComeIf (host_step_of command moment link.setup.link.role (facts_in link).peer) (facts_in link)
+step_may view command handle moment links link ok about known is lasts = end_may view command handle moment link ok about (known.each handle link is lasts)

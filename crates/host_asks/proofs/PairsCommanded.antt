@@ -8,8 +8,8 @@ use Rattle.open_links.specs.link_model.Step.{Step}
 use Rattle.open_links.specs.link_model.End.{facts_after}
 use Rattle.link_pairs.specs.Hosts.{MayHost}
 use Rattle.host_view.specs.View.{View}
-use Rattle.host_view.specs.Refusals.{first_refusal}
-use Rattle.host_view.specs.Status.{rows_of}
+use Rattle.host_view.specs.Unbuilt.{status_of}
+use Rattle.link_commands.specs.declared.moments.Moment.{Moment}
 use Rattle.link_commands.specs.Commands.{facts_commanded, host_step_of, is_about}
 use Rattle.host_asks.specs.Commands.{MayComeIf}
 use Rattle.host_asks.specs.Views.{KnowsAt}
@@ -20,8 +20,8 @@ module _ (P : Facts → Type 0) (setup : Setup) (facts : Facts) (now : P facts) 
   left_by None may = now
   left_by (Some step) may = next step may
 
-  pub command_leaves : (view : View) (command : Command) (handle slot : ℕ) → first_refusal (rows_of view command) ≡ 0
+  pub command_leaves : (view : View) (command : Command) (handle : ℕ) (moment : Moment) → status_of view command ≡ 0
       → is_about handle command ≡ true → KnowsAt view handle facts
-      → P (facts_commanded setup (host_step_of command slot (role_of facts.control.table.progress) facts.peer) facts)
-  command_leaves view command handle slot ok about known =
-      left_by (host_step_of command slot (role_of facts.control.table.progress) facts.peer) (command_may view command handle slot facts ok about known)
+      → P (facts_commanded setup (host_step_of command moment (role_of facts.control.table.progress) facts.peer) facts)
+  command_leaves view command handle moment ok about known =
+      left_by (host_step_of command moment (role_of facts.control.table.progress) facts.peer) (command_may view command handle moment facts ok about known)

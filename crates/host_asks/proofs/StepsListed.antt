@@ -10,14 +10,15 @@ use Rattle.host_view.specs.declared.links.Link.{Link}
 use Rattle.host_view.specs.View.{View}
 use Rattle.host_view.specs.Changes.{asking}
 use Rattle.host_view.specs.Links.{is_asked, link_in}
-use Rattle.host_view.specs.Refusals.{count_if, first_refusal}
-use Rattle.host_view.specs.Status.{rows_of}
+use Rattle.host_view.specs.Refusals.{count_if}
+use Rattle.host_view.specs.Unbuilt.{status_of}
+use Rattle.link_commands.specs.declared.moments.Moment.{Moment}
 use Rattle.link_commands.specs.Commands.{host_step_of, host_steps, host_steps_from, is_about, step_if_about, with_host_step}
 use Rattle.host_asks.specs.Commands.{MayComeIf}
 use Rattle.host_asks.specs.Knowing.{KnowsAsks}
 use Rattle.host_asks.proofs.Accepting.{command_may_come}
 
-module _ (view : View) (command : Command) (slot : ℕ) (facts_at : ℕ → Facts) (ok : first_refusal (rows_of view command) ≡ 0) where
+module _ (view : View) (command : Command) (moment : Moment) (facts_at : ℕ → Facts) (ok : status_of view command ≡ 0) where
   abbrev All : List (ℕ × Step) → Type 0
   All steps = AllByRecursion (λ (step : ℕ × Step). MayHost step.1 (facts_at step.0)) steps
 
@@ -32,11 +33,11 @@ module _ (view : View) (command : Command) (slot : ℕ) (facts_at : ℕ → Fact
   one_more handle (Some step) steps may are = (may, are)
 
   if_about : (handle : ℕ) (about : Bool) (link : Link) → is_about handle command ≡ about → KnowsAsks link (facts_at handle) → link_in view.links handle ≡ Some link
-      → MayComeIf (step_if_about about (host_step_of command slot link.role (facts_at handle).peer)) (facts_at handle)
-  if_about handle true link about knows is = command_may_come view command handle slot link (facts_at handle) ok about is knows
+      → MayComeIf (step_if_about about (host_step_of command moment link.role (facts_at handle).peer)) (facts_at handle)
+  if_about handle true link about knows is = command_may_come view command handle moment link (facts_at handle) ok about is knows
   if_about handle false link about knows is = tt
 
-  each : (first : ℕ) (links : List (Option Link)) → AreKnown first links → All (host_steps_from first command slot links (λ handle. (facts_at handle).peer))
+  each : (first : ℕ) (links : List (Option Link)) → AreKnown first links → All (host_steps_from first command moment links (λ handle. (facts_at handle).peer))
   each first [] known = tt
   each first (None ∷ links) known = each (first + 1) links (later first None links known)
     where
@@ -44,7 +45,7 @@ module _ (view : View) (command : Command) (slot : ℕ) (facts_at : ℕ → Fact
       later first link links known place found is =
           subst (λ (handle : ℕ). KnowsAsks found (facts_at handle) × (link_in view.links handle ≡ Some found)) (omega arith) (known (suc place) found is)
   each first (Some link ∷ links) known =
-      one_more first (step_if_about (is_about first command) (host_step_of command slot link.role (facts_at first).peer)) _
+      one_more first (step_if_about (is_about first command) (host_step_of command moment link.role (facts_at first).peer)) _
       (if_about first (is_about first command) link refl here.0 here.1) (each (first + 1) links later)
     where
       here : KnowsAsks link (facts_at first) × (link_in view.links first ≡ Some link)
@@ -55,7 +56,7 @@ module _ (view : View) (command : Command) (slot : ℕ) (facts_at : ℕ → Fact
           subst (λ (handle : ℕ). KnowsAsks found (facts_at handle) × (link_in view.links handle ≡ Some found)) (omega arith) (known (suc place) found is)
 
   pub all_may_come : ((handle : ℕ) (link : Link) → link_in view.links handle ≡ Some link → KnowsAsks link (facts_at handle))
-      → All (host_steps command slot view.links (λ handle. (facts_at handle).peer))
+      → All (host_steps command moment view.links (λ handle. (facts_at handle).peer))
   all_may_come known =
       each 0 view.links
       (λ place link is. (

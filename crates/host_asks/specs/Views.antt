@@ -1,9 +1,9 @@
 -- The view of all links, and the ends that it knows (our choice).
 use Rattle.std.specs.Prelude.{◌≡◌, ℕ, Bool, true, false, Some, ⊤}
 use Rattle.ble_base.specs.declared.notes.Note.{Note}
-use Rattle.ble_base.specs.declared.notes.Note.TheVariants.{Done, Opened, Refused, Shut, Up}
+use Rattle.ble_base.specs.declared.notes.Note.TheVariants.{Done, Opened, Refused, Shut, Took, Up}
 use Rattle.hci_cmd.specs.declared.command.Command.{Command}
-use Rattle.hci_cmd.specs.declared.command.Command.TheVariants.{HostCompleted, LeEnableEncryption, LeKeyNegative, LeKeyReply, Reset}
+use Rattle.hci_cmd.specs.declared.command.Command.TheVariants.{HostCompleted, Reset}
 use Rattle.procedure_events.specs.procedure_stages.declared.steps.Effect.{Effect}
 use Rattle.procedure_events.specs.procedure_stages.declared.steps.Effect.TheVariants.{Nothing}
 use Rattle.open_links.specs.link_model.Facts.{Facts}
@@ -27,17 +27,15 @@ KnowsAt view handle facts = KnowsOnceReported Nothing view handle facts
 abbrev pub IsNoteOf : ℕ → Note → Type 0
 IsNoteOf handle (Refused given kind code) = given ≡ handle
 IsNoteOf handle (Done given kind) = given ≡ handle
+IsNoteOf handle (Took given number llid body) = given ≡ handle
 IsNoteOf handle (Up packet) = ⊥
 IsNoteOf handle (Opened given role own peer) = ⊥
 IsNoteOf handle (Shut given reason) = ⊥
 IsNoteOf handle other = ⊤
 
--- a command that changes no link but those that it is about. Reset shuts all; what commands on encryption and complete
--- packets ask of a link is not defined here
+-- a command that changes no link but those that it is about. Reset shuts all, and what complete packets ask of a link is
+-- not defined here
 abbrev pub leaves_other_links : Command → Bool
 leaves_other_links Reset = false
 leaves_other_links (HostCompleted counts) = false
-leaves_other_links (LeEnableEncryption handle rand ediv key) = false
-leaves_other_links (LeKeyReply handle key) = false
-leaves_other_links (LeKeyNegative handle) = false
 leaves_other_links other = true

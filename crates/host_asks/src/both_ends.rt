@@ -9,8 +9,8 @@ ghost use Rattle.link_pairs.specs.Ends.{AreEnds};
 ghost use Rattle.link_pairs.specs.Parting.{ArePartingFrom};
 ghost use Rattle.link_pairs.specs.Shown.{AreLinked};
 ghost use Rattle.host_view.specs.View.{View};
-ghost use Rattle.host_view.specs.Refusals.{first_refusal};
-ghost use Rattle.host_view.specs.Status.{rows_of};
+ghost use Rattle.host_view.specs.Unbuilt.{status_of};
+ghost use Rattle.link_commands.specs.declared.moments.Moment.{Moment};
 ghost use Rattle.link_commands.specs.Commands.{facts_commanded, host_step_of, is_about};
 ghost use Rattle.host_asks.specs.Views.{KnowsAt};
 
@@ -18,29 +18,29 @@ ghost use Rattle.host_asks.specs.Views.{KnowsAt};
 /// two ends stay linked, or parting (Core 5.2, volume 6 part B, sections 5.1 and 5.1.6).
 pub fn commands_leave_ends_linked()
     ensures central { (central peripheral : Setup) (turns : ℕ) (answers : Bool) (c p : Facts)
-        (view : View) (command : Command) (handle slot : ℕ) → AreEnds central peripheral
-        → AreLinked central peripheral turns answers c p → first_refusal (rows_of view command) ≡ 0
+        (view : View) (command : Command) (handle : ℕ) (moment : Moment) → AreEnds central peripheral
+        → AreLinked central peripheral turns answers c p → status_of view command ≡ 0
         → is_about handle command ≡ true → KnowsAt view handle c
         → AreLinked central peripheral turns answers (facts_commanded central
-        (host_step_of command slot (role_of c.control.table.progress) c.peer) c) p }
+        (host_step_of command moment (role_of c.control.table.progress) c.peer) c) p }
     ensures peripheral { (central peripheral : Setup) (turns : ℕ) (answers : Bool) (c p : Facts)
-        (view : View) (command : Command) (handle slot : ℕ) → AreEnds central peripheral
-        → AreLinked central peripheral turns answers c p → first_refusal (rows_of view command) ≡ 0
+        (view : View) (command : Command) (handle : ℕ) (moment : Moment) → AreEnds central peripheral
+        → AreLinked central peripheral turns answers c p → status_of view command ≡ 0
         → is_about handle command ≡ true → KnowsAt view handle p
         → AreLinked central peripheral turns answers c (facts_commanded peripheral
-        (host_step_of command slot (role_of p.control.table.progress) p.peer) p) }
+        (host_step_of command moment (role_of p.control.table.progress) p.peer) p) }
     ensures taker { (taker sender : Setup) (t s : Facts) (view : View) (command : Command)
-        (handle slot : ℕ) → ArePartingFrom taker sender t s
-        → first_refusal (rows_of view command) ≡ 0
+        (handle : ℕ) (moment : Moment) → ArePartingFrom taker sender t s
+        → status_of view command ≡ 0
         → is_about handle command ≡ true → KnowsAt view handle t
         → ArePartingFrom taker sender (facts_commanded taker
-        (host_step_of command slot (role_of t.control.table.progress) t.peer) t) s }
+        (host_step_of command moment (role_of t.control.table.progress) t.peer) t) s }
     ensures sender { (taker sender : Setup) (t s : Facts) (view : View) (command : Command)
-        (handle slot : ℕ) → ArePartingFrom taker sender t s
-        → first_refusal (rows_of view command) ≡ 0
+        (handle : ℕ) (moment : Moment) → ArePartingFrom taker sender t s
+        → status_of view command ≡ 0
         → is_about handle command ≡ true → KnowsAt view handle s
         → ArePartingFrom taker sender t (facts_commanded sender
-        (host_step_of command slot (role_of s.control.table.progress) s.peer) s) }
+        (host_step_of command moment (role_of s.control.table.progress) s.peer) s) }
 {
     link_pairs::hosts_leave_ends_linked();
     link_pairs::hosts_leave_ends_parting();

@@ -4,8 +4,8 @@ ghost use Rattle.std.specs.Prelude.{◌≡◌, ℕ, true, Some, None};
 ghost use Rattle.hci_cmd.specs.declared.command.Command.{Command};
 ghost use Rattle.open_links.specs.OpenLinks.{Links, OpenLink, facts_in, link_at};
 ghost use Rattle.host_view.specs.View.{View};
-ghost use Rattle.host_view.specs.Refusals.{first_refusal};
-ghost use Rattle.host_view.specs.Status.{rows_of};
+ghost use Rattle.host_view.specs.Unbuilt.{status_of};
+ghost use Rattle.link_commands.specs.declared.moments.Moment.{Moment};
 ghost use Rattle.link_commands.specs.Commands.{host_step_of, is_about};
 ghost use Rattle.host_asks.specs.Commands.{MayComeIf};
 ghost use Rattle.link_commands.specs.LinksCommanded.{links_commanded, view_commanded_on};
@@ -14,17 +14,17 @@ ghost use Rattle.host_asks.specs.Views.{leaves_other_links};
 
 /// Where the view knows the ends of all open links, each step that an accepted command makes on
 /// them may come, until a procedure ends the link; and the view knows the ends after it, where the
-/// command is not Reset, Host Number Of Completed Packets, or one on encryption.
+/// command is not Reset or Host Number Of Completed Packets.
 pub fn all_links_stay_known()
-    ensures may { (view : View) (command : Command) (handle slot : ℕ) (links : Links)
-        (link : OpenLink) → first_refusal (rows_of view command) ≡ 0
+    ensures may { (view : View) (command : Command) (handle : ℕ) (moment : Moment) (links : Links)
+        (link : OpenLink) → status_of view command ≡ 0
         → is_about handle command ≡ true → KnowsOpenEnds view links
         → link_at handle links ≡ Some link → (facts_in link).control.ends ≡ None
-        → MayComeIf (host_step_of command slot link.setup.link.role (facts_in link).peer)
+        → MayComeIf (host_step_of command moment link.setup.link.role (facts_in link).peer)
         (facts_in link) }
-    ensures keeps { (view : View) (command : Command) (slot : ℕ) (links : Links)
-        → first_refusal (rows_of view command) ≡ 0 → leaves_other_links command ≡ true
+    ensures keeps { (view : View) (command : Command) (moment : Moment) (links : Links)
+        → status_of view command ≡ 0 → leaves_other_links command ≡ true
         → KnowsOpenEnds view links
         → KnowsOpenEnds (view_commanded_on view command links)
-        (links_commanded command slot links) }
+        (links_commanded command moment links) }
 {}

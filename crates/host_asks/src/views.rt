@@ -19,16 +19,17 @@ ghost use Rattle.open_links.specs.link_model.Setup.{Setup};
 ghost use Rattle.open_links.specs.link_model.Facts.{Facts, first_facts};
 ghost use Rattle.open_links.specs.link_model.Step.{Step};
 ghost use Rattle.open_links.specs.link_model.End.{facts_after, facts_of, notes_after};
-ghost use Rattle.open_links.specs.link_model.Hosts.{facts_answered};
+ghost use Rattle.open_links.specs.link_model.Hosts.{facts_answered, facts_key_answered};
 ghost use Rattle.open_links.specs.link_model.declared.state.PeerFacts.{PeerFacts};
 ghost use Rattle.link_pairs.specs.Hosts.{MayHost};
-ghost use Rattle.host_view.specs.Refusals.{count_if, first_refusal};
-ghost use Rattle.host_view.specs.Status.{rows_of};
+ghost use Rattle.host_view.specs.Refusals.{count_if};
+ghost use Rattle.host_view.specs.Unbuilt.{status_of};
 ghost use Rattle.host_view.specs.View.{View};
 ghost use Rattle.host_view.specs.Changes.{view_after};
 ghost use Rattle.host_view.specs.Links.{link_in};
 ghost use Rattle.host_view.specs.Noted.{view_noted};
 ghost use Rattle.host_view.specs.declared.links.Link.{Link};
+ghost use Rattle.link_commands.specs.declared.moments.Moment.{Moment};
 ghost use Rattle.link_commands.specs.Commands.{facts_commanded};
 ghost use Rattle.host_asks.specs.Commands.{MayComeIf};
 ghost use Rattle.link_commands.specs.Commands.{host_step_of, host_steps, is_about};
@@ -62,8 +63,8 @@ pub fn notes_change_their_link()
 {}
 
 /// An accepted command changes the links that it is about. It changes no other link, but for the
-/// commands that are left out here: Reset, which shuts all links, Host Number Of Completed Packets,
-/// and those on encryption.
+/// commands that are left out here: Reset, which shuts all links, and Host Number Of Completed
+/// Packets.
 pub fn commands_change_their_link()
     ensures own { (view : View) (command : Command) (handle : ℕ)
         → is_about handle command ≡ true
@@ -77,7 +78,8 @@ pub fn commands_change_their_link()
 /// Where the view knows an end, it knows it after each step that its host does not make, once the
 /// host has received a request of the peer that the step brought; and whatever packets the host
 /// receives before that, since data and requests for keys change nothing that it asked for. Where a
-/// mask withholds the request, it is refused at once.
+/// mask withholds the request, it is refused at once; and one for a key is answered at once as by a
+/// host that has none, which changes nothing of what is known.
 pub fn steps_keep_what_is_known()
     ensures step { (view : View) (setup : Setup) (past : List Step) (step : Step)
         → let facts = facts_of setup past in is_of_host step ≡ false
@@ -102,43 +104,46 @@ pub fn steps_keep_what_is_known()
         (code : ErrCode) → KnowsOnceReported effect view handle facts
         → (facts_answered (Err code) facts).control.ends ≡ None
         → KnowsAt view handle (facts_answered (Err code) facts) }
+    ensures keyless { (effect : Effect) (view : View) (handle slot : ℕ) (facts : Facts)
+        → KnowsOnceReported effect view handle facts
+        → KnowsOnceReported effect view handle (facts_key_answered None slot facts) }
 {}
 
-/// Where the view knows an end, and the table of conditions accepts a command on its link, the step
-/// that the command makes there may come, and the view knows the end after it. What the end knows
+/// Where the view knows an end, and a command on its link is accepted, the step that the command
+/// makes there may come, and the view knows the end after it. What the end knows
 /// of its peer already is answered by one event at once, and the view takes it as done. Otherwise
 /// the command makes a step. What is known of the ends of other links stays known, but for the
 /// commands that are left out above.
 pub fn commands_keep_what_is_known()
-    ensures may { (view : View) (command : Command) (handle slot : ℕ) (facts : Facts)
-        → first_refusal (rows_of view command) ≡ 0
+    ensures may { (view : View) (command : Command) (handle : ℕ) (moment : Moment) (facts : Facts)
+        → status_of view command ≡ 0
         → is_about handle command ≡ true → KnowsAt view handle facts
-        → MayComeIf (host_step_of command slot (role_of facts.control.table.progress)
+        → MayComeIf (host_step_of command moment (role_of facts.control.table.progress)
         facts.peer) facts }
-    ensures keeps { (view : View) (setup : Setup) (command : Command) (slot : ℕ) (facts : Facts)
-        → first_refusal (rows_of view command) ≡ 0
+    ensures keeps { (view : View) (setup : Setup) (command : Command) (moment : Moment) (facts : Facts)
+        → status_of view command ≡ 0
         → is_about setup.link.handle command ≡ true → KnowsAt view setup.link.handle facts
-        → (facts_commanded setup (host_step_of command slot
+        → (facts_commanded setup (host_step_of command moment
         (role_of facts.control.table.progress) facts.peer) facts).control.ends ≡ None
         → KnowsAt (view_commanded view command setup.link.handle facts.peer) setup.link.handle
-        (facts_commanded setup (host_step_of command slot
+        (facts_commanded setup (host_step_of command moment
         (role_of facts.control.table.progress) facts.peer) facts) }
     ensures other { (view : View) (command : Command) (handle : ℕ) (facts : Facts)
         → is_about handle command ≡ false → leaves_other_links command ≡ true
         → KnowsAt view handle facts → KnowsAt (view_after view command) handle facts }
-    ensures answered { (command : Command) (handle slot : ℕ) (role : Role) (peer : PeerFacts)
+    ensures answered { (command : Command) (handle : ℕ) (moment : Moment) (role : Role) (peer : PeerFacts)
         → is_read_of_peer command ≡ true
         → length (events_at_once command handle peer)
-        ≡ count_if (is_none (host_step_of command slot role peer)) }
+        ≡ count_if (is_none (host_step_of command moment role peer)) }
 {}
 
 /// Where the view knows the ends of all open links, and a command is accepted, each of the steps
 /// that it makes on them may come.
 pub fn all_steps_of_a_command_may_come()
-    ensures { (view : View) (command : Command) (slot : ℕ) (facts_at : ℕ → Facts)
-        → first_refusal (rows_of view command) ≡ 0
+    ensures { (view : View) (command : Command) (moment : Moment) (facts_at : ℕ → Facts)
+        → status_of view command ≡ 0
         → ((handle : ℕ) (link : Link) → link_in view.links handle ≡ Some link
         → KnowsAsks link (facts_at handle))
         → AllByRecursion (λ step. MayHost step.1 (facts_at step.0))
-        (host_steps command slot view.links (λ handle. (facts_at handle).peer)) }
+        (host_steps command moment view.links (λ handle. (facts_at handle).peer)) }
 {}

@@ -78,17 +78,17 @@ known_set setup facts (LeSetEventMask mask) =
 known_set setup facts Reset = set_by (status_of facts.view Reset) setup facts Reset (reset_accepted facts.view)
 known_set setup facts other = left_by (status_of facts.view other == 0) setup facts other refl
 
-asking_set : (asks : Bool) (facts : Facts) (command : Command) (known : Facts) → Sets facts known (command ∷ [])
-    → Sets facts (facts_asking asks facts command known) (command ∷ [])
-asking_set true facts command known sets =
+asking_set : (asks : Bool) (setup : Setup) (facts : Facts) (command : Command) (known : Facts) → Sets facts known (command ∷ [])
+    → Sets facts (facts_asking asks setup facts command known) (command ∷ [])
+asking_set true setup facts command known sets =
     ap view_masks (asked_view_is facts.view command facts.links) ∙ view_set facts.view command
-asking_set false facts command known sets = sets
+asking_set false setup facts command known sets = sets
 
 -- ---- what an octet of the host completes
 
 read_set : (setup : Setup) (facts : Facts) (read : CmdRead) → Sets facts (facts_commanded setup facts read) (known_command read)
 read_set setup facts (Known command) =
-    asking_set (is_asking facts.view command) facts command (facts_known (status_of facts.view command == 0) setup facts command)
+    asking_set (is_asking facts.view command) setup facts command (facts_known (status_of facts.view command == 0) setup facts command)
     (known_set setup facts command)
 read_set setup facts UnknownOpcode = refl
 read_set setup facts BadLength = refl
@@ -157,6 +157,7 @@ masks_kept setup masks = record {
     connects = λ channel heard pdu on access handle doing is_on hears answers next free in_range. is;
     received = λ handle heard. receiving_passes (Has masks) setup handle heard facts is;
   };
+  words = λ handle facts listens is. is;
 }
 
 -- ---- all steps

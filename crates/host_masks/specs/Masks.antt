@@ -70,3 +70,7 @@ lets_through masks (Meta bit) = has_bit masks.mask 61 && has_bit masks.le_mask b
 -- 7.8.1)
 abbrev pub withholds_requests : Masks → Bool
 withholds_requests masks = not (lets_through masks (Meta 5))
+
+-- LE Long Term Key Request, which has bit 4, does not pass (sections 7.7.65.5 and 7.8.1)
+abbrev pub withholds_keys : Masks → Bool
+withholds_keys masks = not (lets_through masks (Meta 4))

@@ -1,16 +1,21 @@
 //! The event masks of a host. The bodies are empty: the contracts are the laws.
-ghost use Rattle.std.specs.Prelude.{◌≡◌, ◌++◌, ◌∷◌, [], ℕ, false, List, map};
+ghost use Rattle.std.specs.Prelude.{◌≡◌, ◌++◌, ◌∷◌, [], ℕ, false, List, map, Some, None, Err};
+ghost use Rattle.std.specs.Prelude.{if◌then◌else◌};
 ghost use Rattle.ble_base.specs.declared.notes.Note.{Note};
 ghost use Rattle.ble_base.specs.declared.roles.Side.{Side};
 ghost use Rattle.hci_cmd.specs.declared.command.Command.TheVariants.{LeSetEventMask, Reset};
 ghost use Rattle.hci_cmd.specs.declared.command.Command.TheVariants.{SetEventMask};
 ghost use Rattle.hci_evt.specs.declared.event.MaskBit.{MaskBit};
+ghost use Rattle.ble_base.specs.ErrorCodes.{unsupported_remote_feature};
+ghost use Rattle.ble_base.specs.declared.error_codes.ErrCode.{ErrCode};
+ghost use Rattle.data_pdu.specs.declared.ctrl.Ctrl.TheVariants.{EncReq};
+ghost use Rattle.run_model.specs.link_model.Step.{KeyAnswered, RequestAnswered};
 ghost use Rattle.run_model.specs.controller_model.host_view.Unbuilt.{status_of};
 ghost use Rattle.run_model.specs.controller_model.host_view.View.{View};
-ghost use Rattle.run_model.specs.controller_model.procedure_stages.declared.steps.Effect.TheVariants.{AskHost};
+ghost use Rattle.run_model.specs.controller_model.procedure_stages.declared.steps.Effect.TheVariants.{AskHost, Cipher};
 ghost use Rattle.run_model.specs.controller_model.Events.{passes};
 ghost use Rattle.run_model.specs.controller_model.Facts.{Setup};
-ghost use Rattle.run_model.specs.controller_model.Heard.{is_refused};
+ghost use Rattle.run_model.specs.controller_model.Heard.{refusal_of};
 ghost use Rattle.run_model.specs.controller_model.Side.{facts_of};
 ghost use Rattle.run_model.specs.controller_model.Step.{Step};
 ghost use Rattle.run_model.specs.Due.{octets_called};
@@ -19,7 +24,8 @@ ghost use Rattle.run_model.specs.History.{Called, Event, Noted, fed_to};
 ghost use Rattle.run_model.specs.Journal.{journal_of};
 ghost use Rattle.run_model.specs.Readers.{fed_to_side, station_of};
 ghost use Rattle.run_model.specs.Run.{Given, facts_at, history_of, run_of};
-ghost use Rattle.host_masks.specs.Masks.{lets_through, masks_of, view_masks, withholds_requests};
+ghost use Rattle.host_masks.specs.Masks.{lets_through, masks_of, view_masks, withholds_keys};
+ghost use Rattle.host_masks.specs.Masks.{withholds_requests};
 
 /// The commands that set the masks, and a Reset, are accepted whatever the host has set and whatever
 /// links are open (Core 5.2, volume 4 part E, sections 7.3.1, 7.3.2 and 7.8.1).
@@ -30,14 +36,19 @@ pub fn masks_are_set_at_any_time()
 {}
 
 /// A controller sends an event where the masks that it holds let it through. It refuses a request of
-/// the peer for connection parameters at once where they withhold the event of it (Core 5.2, volume 4
-/// part E, sections 7.3.1 and 7.8.1, and volume 6 part B, section 5.1.7).
+/// the peer for connection parameters at once where they withhold the event of it, and answers one
+/// for a key as a host does that has none (Core 5.2, volume 4 part E, sections 7.3.1 and 7.8.1, and
+/// volume 6 part B, sections 5.1.3.1 and 5.1.7).
 pub fn masks_decide_what_passes()
     ensures events { (view : View) (bit : MaskBit)
         → passes view bit ≡ lets_through (view_masks view) bit }
-    ensures requests { (view : View) (handle min max latency timeout : ℕ)
-        → is_refused view handle (AskHost min max latency timeout)
-        ≡ withholds_requests (view_masks view) }
+    ensures requests { (view : View) (handle slot min max latency timeout : ℕ)
+        → refusal_of view handle slot (AskHost min max latency timeout)
+        ≡ (if withholds_requests (view_masks view)
+        then Some (RequestAnswered (Err (record { 0 = unsupported_remote_feature }))) else None) }
+    ensures keys { (view : View) (handle slot rand ediv skd_m iv_m : ℕ)
+        → refusal_of view handle slot (Cipher (EncReq rand ediv skd_m iv_m))
+        ≡ (if withholds_keys (view_masks view) then Some (KeyAnswered None slot) else None) }
 {}
 
 /// At any time, a controller holds the masks of the octets that it was fed, whatever else happened

@@ -8,6 +8,7 @@ use Rattle.ble_base.specs.declared.notes.Note.{Note}
 use Rattle.ble_base.specs.declared.notes.Note.TheVariants.{Up}
 use Rattle.hci_evt.specs.declared.event.Event.{Event}
 use Rattle.hci_evt.specs.Event.{mask_bit_of, written}
+use Rattle.host_view.specs.Links.{was_encrypted}
 use Rattle.host_view.specs.View.{View}
 use Rattle.instants.specs.declared.indications.Params.{Params}
 use Rattle.link_model.specs.declared.state.PeerFacts.{PeerFacts}
@@ -21,9 +22,9 @@ use Rattle.open_links.specs.OpenLinks.{Links, OpenLink, facts_in, in_event, link
 use Rattle.open_links.proofs.Handles.{changed_is}
 use Rattle.controller_model.specs.Entering.{HasEntered}
 use Rattle.controller_model.specs.Events.{notes_of_events, passes}
-use Rattle.controller_model.specs.Heard.{effect_in, events_received, is_refused, links_refusing, notes_taken, piece_taken}
+use Rattle.controller_model.specs.Heard.{draws_in, effect_in, events_received, kept_effect_in, links_refusing, notes_taken, piece_taken, or_refusal, refusal_in, refusal_of}
 use Rattle.host_notes.proofs.InEvent.{after_is, change_in_event, in_event_is}
-use Rattle.host_notes.specs.Hearing.{effect_of, events_told}
+use Rattle.host_notes.specs.Hearing.{draws_of_step, effect_of, events_told, kept_effect_of, refusal_told}
 
 -- ---- events one after another
 
@@ -39,12 +40,13 @@ told_then view before noted one other is =
     ∙ append_assoc before (notes_of_events view one) (notes_of_events view other)
     ∙ ap (λ (notes : List Note). before ++ notes) (sym (told_more view one other))
 
-pub four_told : (view : View) (before : List Note) (one two three four : List Event)
-    → before ++ notes_of_events view one ++ notes_of_events view two ++ notes_of_events view three ++ notes_of_events view four
-    ≡ before ++ notes_of_events view (one ++ two ++ three ++ four)
-four_told view before one two three four =
-    told_then view before _ (one ++ two ++ three) four
-    (told_then view before _ (one ++ two) three (told_then view before _ one two refl))
+-- those of a packet, and then those of a PDU that was kept
+pub both_told : (view : View) (before mid after : List Note) (one two heard kept : List Event) → heard ≡ one → kept ≡ two
+    → mid ≡ before ++ notes_of_events view heard → after ≡ mid ++ notes_of_events view kept
+    → after ≡ before ++ notes_of_events view (one ++ two)
+both_told view before mid after one two heard kept heard_is kept_is first then_is =
+    then_is ∙ (λ i. mid ++ notes_of_events view (kept_is i))
+    ∙ told_then view before mid one two (first ∙ (λ i. before ++ notes_of_events view (heard_is i)))
 
 -- ---- a reception
 
@@ -70,12 +72,12 @@ module _ (slot handle : ℕ) (room : Bool) (octets : List ℕ) (place : Option O
   step_in_event = ap (option_map (step_hearing slot octets room)) (in_event_is place has)
 
   -- what the host receives
-  told_in_event : (params : Option Params) (peer : Option PeerFacts) (step : Option LinkStep)
+  told_in_event : (before : Bool) (params : Option Params) (peer : Option PeerFacts) (step : Option LinkStep)
       → params ≡ option_map (λ link. params_of (facts_in link)) place
       → peer ≡ option_map (λ link. (facts_in link).peer) (option_map (link_after_in_event taken) place) → step ≡ step_at slot octets room place
-      → events_told handle params peer step ≡ events_received handle slot room place octets
-  told_in_event params peer step params_is peer_is step_is =
-      (λ i. events_told handle (params_is i) (peers i) (steps i)) ∙ same place
+      → events_told before handle params peer step ≡ events_received before handle slot room place octets
+  told_in_event before params peer step params_is peer_is step_is =
+      (λ i. events_told before handle (params_is i) (peers i) (steps i)) ∙ same place
     where
       peers : peer ≡ option_map (λ link. (facts_in link).peer) (option_map (link_after taken) place)
       peers = peer_is ∙ ap (option_map (λ link. (facts_in link).peer)) (after_is taken place has)
@@ -83,9 +85,9 @@ module _ (slot handle : ℕ) (room : Bool) (octets : List ℕ) (place : Option O
       steps : step ≡ option_map (step_hearing slot octets room) place
       steps = step_is ∙ step_in_event
 
-      same : (place : Option OpenLink) → events_told handle (option_map (λ link. params_of (facts_in link)) place)
+      same : (place : Option OpenLink) → events_told before handle (option_map (λ link. params_of (facts_in link)) place)
           (option_map (λ link. (facts_in link).peer) (option_map (link_after taken) place)) (option_map (step_hearing slot octets room) place)
-          ≡ events_received handle slot room place octets
+          ≡ events_received before handle slot room place octets
       same None = refl
       same (Some link) = refl
 
@@ -96,28 +98,55 @@ module _ (slot handle : ℕ) (room : Bool) (octets : List ℕ) (place : Option O
       same None = refl
       same (Some link) = refl
 
--- the links then, of which one may refuse a request at once
+  kept_in_event_too : (step : Option LinkStep) → step ≡ step_at slot octets room place
+      → kept_effect_of step ≡ kept_effect_in slot room place octets
+  kept_in_event_too step is = ap kept_effect_of (is ∙ step_in_event) ∙ same place
+    where
+      same : (place : Option OpenLink) → kept_effect_of (option_map (step_hearing slot octets room) place) ≡ kept_effect_in slot room place octets
+      same None = refl
+      same (Some link) = refl
+
+  -- how a request is answered that the mask withholds
+  refusal_in_event : (view : View) (step : Option LinkStep) → step ≡ step_at slot octets room place
+      → refusal_told view handle slot step ≡ refusal_in view handle slot room place octets
+  refusal_in_event view step is =
+      λ i. or_refusal (refusal_of view handle slot (effect_in_event step is i)) (refusal_of view handle slot (kept_in_event_too step is i))
+
+  -- whether it draws words
+  draws_in_event : (step : Option LinkStep) → step ≡ step_at slot octets room place → draws_of_step step ≡ draws_in slot room place octets
+  draws_in_event step is = ap draws_of_step (is ∙ step_in_event) ∙ same place
+    where
+      same : (place : Option OpenLink) → draws_of_step (option_map (step_hearing slot octets room) place) ≡ draws_in slot room place octets
+      same None = refl
+      same (Some link) = refl
+
+-- the links then, of which one may answer a request at once
 pub heard_in_event : (slot handle : ℕ) (room : Bool) (octets : List ℕ) (view : View) (mid new : HeldLinks) (known : Links)
-    (received : List (ℕ × Piece)) (step : Option LinkStep) (refuses : Bool) → HasEntered (link_at handle known)
+    (received : List (ℕ × Piece)) (step : Option LinkStep) (refusal : Option Step) → HasEntered (link_at handle known)
     → step ≡ step_at slot octets room (link_at handle known)
     → KnowsLinks mid (with_change handle (link_after_in_event (PacketReceived slot octets room)) known)
     (received ++ kept_at slot octets room (in_event (link_at handle known)))
-    → refuses ≡ is_refused view handle (effect_of step)
-    → ((links : Links) (pieces : List (ℕ × Piece)) → KnowsLinks mid links pieces → KnowsLinks new (links_refusing refuses handle links) pieces)
+    → refusal ≡ refusal_told view handle slot step
+    → ((links : Links) (pieces : List (ℕ × Piece)) → KnowsLinks mid links pieces → KnowsLinks new (links_refusing refusal handle links) pieces)
     → KnowsLinks new
-    (links_refusing (is_refused view handle (effect_in slot room (link_at handle known) octets)) handle
+    (links_refusing (refusal_in view handle slot room (link_at handle known) octets) handle
     (with_change handle (link_after (PacketReceived slot octets room)) known))
     (received ++ piece_taken slot room (link_at handle known) octets)
-heard_in_event slot handle room octets view mid new known received step refuses has step_is knows refuses_is goes =
+heard_in_event slot handle room octets view mid new known received step refusal has step_is knows refusal_is goes =
     let changed = change_in_event (PacketReceived slot octets room) handle known has in
     let kept = kept_in_event slot handle room octets (link_at handle known) has in
-    let refused = refuses_is ∙ ap (is_refused view handle) (effect_in_event slot handle room octets (link_at handle known) has step step_is) in
+    let refused = refusal_is ∙ refusal_in_event slot handle room octets (link_at handle known) has view step step_is in
     subst (λ test. KnowsLinks new (links_refusing test handle (with_change handle (link_after (PacketReceived slot octets room)) known))
     (received ++ piece_taken slot room (link_at handle known) octets)) refused
     (goes _ _
     (subst (λ (links : Links). KnowsLinks mid links (received ++ piece_taken slot room (link_at handle known) octets)) changed
     (subst (λ (pieces : List (ℕ × Piece)). KnowsLinks mid (with_change handle (link_after_in_event (PacketReceived slot octets room)) known)
     (received ++ pieces)) kept knows)))
+
+-- whether words are drawn
+pub heard_draws : (slot handle : ℕ) (room : Bool) (octets : List ℕ) (known : Links) → HasEntered (link_at handle known) → (step : Option LinkStep)
+    → step ≡ step_at slot octets room (link_at handle known) → draws_of_step step ≡ draws_in slot room (link_at handle known) octets
+heard_draws slot handle room octets known has step is = draws_in_event slot handle room octets (link_at handle known) has step is
 
 -- what is noted
 pub heard_notes : (slot handle : ℕ) (room : Bool) (octets : List ℕ) (view : View) (known : Links) → HasEntered (link_at handle known)
@@ -126,13 +155,13 @@ pub heard_notes : (slot handle : ℕ) (room : Bool) (octets : List ℕ) (view : 
     → peer ≡ option_map (λ link. (facts_in link).peer) (link_at handle (with_change handle (link_after_in_event (PacketReceived slot octets room)) known))
     → step ≡ step_at slot octets room (link_at handle known)
     → heard ≡ before ++ notes_at (PacketReceived slot octets room) (in_event (link_at handle known))
-    → noted ≡ heard ++ notes_of_events view (events_told handle params peer step)
+    → noted ≡ heard ++ notes_of_events view (events_told (was_encrypted handle view.links) handle params peer step)
     → noted ≡ before ++ notes_taken slot room (link_at handle known) octets
-    ++ notes_of_events view (events_received handle slot room (link_at handle known) octets)
+    ++ notes_of_events view (events_received (was_encrypted handle view.links) handle slot room (link_at handle known) octets)
 heard_notes slot handle room octets view known has params peer step before heard noted params_is peer_is step_is heard_is told =
     let place = link_at handle known in
     let peer_is = peer_is
     ∙ ap (option_map (λ link. (facts_in link).peer)) (changed_is (option_map (link_after_in_event (PacketReceived slot octets room))) 0 handle known refl) in
-    let events = told_in_event slot handle room octets place has params peer step params_is peer_is step_is in
+    let events = told_in_event slot handle room octets place has (was_encrypted handle view.links) params peer step params_is peer_is step_is in
     let notes = heard_is ∙ ap (λ (notes : List Note). before ++ notes) (notes_in_event slot handle room octets place has) in
     told ∙ (λ i. notes i ++ notes_of_events view (events i))

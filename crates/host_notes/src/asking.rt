@@ -1,6 +1,6 @@
 //! What an accepted command asks of the links, and what is answered at once (Core 5.2, volume 4
 //! part E, sections 7.1 and 7.8).
-ghost use Rattle.std.specs.Prelude.{◌≡◌, ◌<◌, ◌≤◌, ◌^◌, ◌++◌, ◌%◌, ℕ, List, Ok, Err};
+ghost use Rattle.std.specs.Prelude.{◌≡◌, ◌<◌, ◌≤◌, ◌^◌, ◌++◌, ◌%◌, ℕ, List, false, Ok, Err};
 ghost use Rattle.std.specs.Prelude.{if◌then◌else◌};
 ghost use Rattle.arrayvec.specs.ArrayVec.{array_vec_len};
 ghost use Rattle.acl_banks.specs.declared.pieces.Piece.{Piece};
@@ -9,6 +9,7 @@ ghost use Rattle.ble_base.specs.declared.roles.Role.{Role};
 ghost use Rattle.hci_cmd.specs.declared.command.Command.TheVariants.{LeConnectionUpdate};
 ghost use Rattle.controller_model.specs.link_commands.Commands.{AsksInRange, transmit_maximum};
 ghost use Rattle.controller_model.specs.link_commands.Commands.{update_by};
+ghost use Rattle.controller_model.specs.link_commands.declared.moments.Moment.{Moment};
 ghost use Rattle.controller_model.specs.link_commands.LinksCommanded.{events_commanded_on, links_commanded};
 ghost use Rattle.controller_model.specs.link_commands.LinksCommanded.{view_known_on};
 ghost use Rattle.controller_model.specs.link_commands.Views.{kind_if, view_answered};
@@ -18,10 +19,12 @@ ghost use Rattle.open_links.specs.OpenLinks.{Links};
 ghost use Rattle.procedures.specs.procedure_values.Wants.{IsAsk};
 ghost use Rattle.procedures.specs.procedure_values.declared.asks.Ask.TheVariants.{Update};
 ghost use Rattle.controller_model.specs.Events.{notes_of_events};
-ghost use Rattle.host_notes.specs.Asking.{events_known_if, is_known, is_known_if, peer_at};
+ghost use Rattle.host_notes.specs.Asking.{events_known_if, is_known, is_known_if, is_of_keys, peer_at};
 
+use crate::keys::{ask_encryption, give_key};
 use crate::masks::tell_if;
 use ble_base::{ChannelMap, ErrCode, Kind, Note, Outbox, Role, SlotNo};
+use controller_model::Moment;
 use hci_cmd::Command;
 use host_view::HostView;
 use open_links::{OpenLinks, PeerFacts};
@@ -191,9 +194,9 @@ fn ask_update<const L: usize, const T: usize, const R: usize>(
     timeout: u16,
 )
     requires { (role : Role) → IsAsk (update_by role min max latency timeout) }
-    ensures knows { (known : Links) (received : List (ℕ × Piece)) (lengths : List ℕ) (slot : ℕ)
-        → KnowsLinks links.old known received → KnowsLinks links.new
-        (links_commanded (LeConnectionUpdate handle min max latency timeout lengths) slot known)
+    ensures knows { (known : Links) (received : List (ℕ × Piece)) (lengths : List ℕ)
+        (moment : Moment) → KnowsLinks links.old known received → KnowsLinks links.new
+        (links_commanded (LeConnectionUpdate handle min max latency timeout lengths) moment known)
         received }
     ensures counts { (links.new.heard_to ≡ links.old.heard_to)
         × (links.new.unreported ≡ links.old.unreported) }
@@ -256,21 +259,22 @@ fn refuse<const L: usize, const T: usize, const R: usize>(
     links.answer(handle, Err(ErrCode(reason)));
 }
 
-/// Asks of the links what an accepted command asks; a Disconnect is accepted in this slot (sections
-/// 7.1 and 7.8).
-pub fn ask_links<const L: usize, const T: usize, const R: usize>(
+/// Asks of the links what an accepted command asks that is about no key.
+fn ask_procedures<const L: usize, const T: usize, const R: usize>(
     links: &mut OpenLinks<L, T, R>,
     command: &Command,
-    slot: SlotNo,
+    moment: Moment,
 )
-    requires slot { slot.0 ≤ 2 ^ 32 }
+    requires slot { moment.slot ≤ 2 ^ 32 }
     requires in_range { AsksInRange command.now }
+    requires of_none { is_of_keys command.now ≡ false }
     ensures knows { (known : Links) (received : List (ℕ × Piece))
         → KnowsLinks links.old known received
-        → KnowsLinks links.new (links_commanded command.now slot.0 known) received }
+        → KnowsLinks links.new (links_commanded command.now moment known) received }
     ensures counts { (links.new.heard_to ≡ links.old.heard_to)
         × (links.new.unreported ≡ links.old.unreported) }
 {
+    let slot = SlotNo(moment.slot);
     match command {
         Command::Disconnect { handle, reason } => links.end(*handle, ErrCode(*reason), slot),
         Command::ReadRemoteVersion { handle } => {
@@ -306,5 +310,34 @@ pub fn ask_links<const L: usize, const T: usize, const R: usize>(
         } => grant(links, *handle, *max, *latency, *timeout),
         Command::LeParamNegative { handle, reason } => refuse(links, *handle, *reason),
         _ => {}
+    }
+}
+
+/// Asks of the links what a command asks that is accepted at this moment (sections 7.1 and 7.8).
+pub fn ask_links<const L: usize, const T: usize, const R: usize>(
+    links: &mut OpenLinks<L, T, R>,
+    command: &Command,
+    moment: Moment,
+)
+    requires slot { moment.slot ≤ 2 ^ 32 }
+    requires in_range { AsksInRange command.now }
+    ensures knows { (known : Links) (received : List (ℕ × Piece))
+        → KnowsLinks links.old known received
+        → KnowsLinks links.new (links_commanded command.now moment known) received }
+    ensures counts { (links.new.heard_to ≡ links.old.heard_to)
+        × (links.new.unreported ≡ links.old.unreported) }
+{
+    match command {
+        Command::LeEnableEncryption {
+            handle,
+            rand,
+            ediv,
+            key,
+        } => ask_encryption(links, *handle, *rand, *ediv, key, moment),
+        Command::LeKeyReply { handle, key } => {
+            give_key(links, *handle, key, SlotNo(moment.slot));
+        }
+        Command::LeKeyNegative { handle } => links.key(*handle, None, SlotNo(moment.slot)),
+        _ => ask_procedures(links, command, moment),
     }
 }

@@ -10,7 +10,7 @@ use Rattle.scan_init.specs.Addresses.{with_address, without_address}
 use Rattle.host_view.specs.declared.links.Asked.{Asked}
 use Rattle.host_view.specs.declared.links.Link.{Link}
 use Rattle.host_view.specs.declared.changes.LinkChange.{LinkChange}
-use Rattle.host_view.specs.declared.changes.LinkChange.TheVariants.{Disconnecting, Asks, AsksUpdate, Answered, Key, Parameters, HandedUp, Taken}
+use Rattle.host_view.specs.declared.changes.LinkChange.TheVariants.{Disconnecting, Asks, AsksUpdate, Answered, Encrypted, Key, Parameters, HandedUp, Taken}
 use Rattle.host_view.specs.View.{View, first_view}
 use Rattle.host_view.specs.Links.{link_in, update_kind}
 use Rattle.host_view.specs.Status.{named_address}
@@ -48,6 +48,7 @@ changed_by AsksUpdate link = asking (update_kind link.role) link
 changed_by (Answered kind) link = answered kind link
 changed_by (Key waits) link = record link { waits_for_key = waits }
 changed_by (Parameters waits) link = record link { waits_for_parameters = waits }
+changed_by Encrypted link = record link { encrypted = true }
 changed_by HandedUp link = record link { outstanding = min (link.outstanding + 1) 65535 }
 changed_by (Taken count) link = record link { outstanding = link.outstanding - count }
 

@@ -36,3 +36,7 @@ update_kind Peripheral = Request
 -- the link is open and has this property
 abbrev pub link_has : Option Link → (Link → Bool) → Bool
 link_has link property = option_map_or property link false
+
+-- encryption started on the link under this handle before
+abbrev pub was_encrypted : ℕ → List (Option Link) → Bool
+was_encrypted handle links = link_has (link_in links handle) (λ link. link.encrypted)

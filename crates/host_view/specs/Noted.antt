@@ -1,13 +1,13 @@
 -- How what a controller notes of itself changes the view (our choice: the view follows the notes).
-use Rattle.std.specs.Prelude.{ℕ, ◌+◌, ◌*◌, ◌%◌, ◌==◌, ◌&&◌, Bool, true, false, List, slice_index, slice_set, Some, None, if◌then◌else◌}
+use Rattle.std.specs.Prelude.{ℕ, ◌+◌, ◌*◌, ◌%◌, ◌==◌, ◌&&◌, Bool, true, false, List, [], ◌∷◌, slice_index, slice_set, Some, None, if◌then◌else◌}
 use Rattle.ble_base.specs.declared.addresses.Address.{Address}
 use Rattle.ble_base.specs.declared.roles.Role.{Role}
 use Rattle.ble_base.specs.declared.roles.Role.TheVariants.{Central, Peripheral}
 use Rattle.ble_base.specs.declared.notes.Note.{Note}
-use Rattle.ble_base.specs.declared.notes.Note.TheVariants.{Up, Opened, Shut, Refused, Done}
+use Rattle.ble_base.specs.declared.notes.Note.TheVariants.{Up, Opened, Shut, Took, Refused, Done}
 use Rattle.host_view.specs.declared.links.Asked.{Asked}
 use Rattle.host_view.specs.declared.links.Link.{Link}
-use Rattle.host_view.specs.declared.changes.LinkChange.TheVariants.{Answered, Key, Parameters, HandedUp}
+use Rattle.host_view.specs.declared.changes.LinkChange.TheVariants.{Answered, Encrypted, Key, Parameters, HandedUp}
 use Rattle.host_view.specs.View.{View}
 use Rattle.host_view.specs.Changes.{on_link, changed_by}
 
@@ -32,6 +32,7 @@ opened_link role own peer = record {
   asked = nothing_asked;
   waits_for_key = false;
   waits_for_parameters = false;
+  encrypted = false;
   outstanding = 0;
 }
 
@@ -82,11 +83,24 @@ after_packet octets view =
     else if is_le_event 0x06 octets then on_link (event_handle octets) (changed_by (Parameters true)) view
     else view
 
+-- ---- control PDUs (volume 6 part B, section 2.4.2)
+
+-- LL_START_ENC_RSP: a control PDU, LLID 3, that has its opcode alone
+abbrev pub is_start_rsp : ℕ → List ℕ → Bool
+is_start_rsp llid [] = false
+is_start_rsp llid (opcode ∷ []) = (llid == 3) && (opcode == 0x06)
+is_start_rsp llid (opcode ∷ field ∷ fields) = false
+
+-- encryption starts on the link, or not
+abbrev pub encrypted_if : Bool → ℕ → View → View
+encrypted_if starts handle view = if starts then on_link handle (changed_by Encrypted) view else view
+
 -- the view after a note
 unfoldable pub view_noted : View → Note → View
 view_noted view (Up packet) = after_packet packet.items view
 view_noted view (Opened handle role own peer) = with_link handle (opened_link role own peer) view
 view_noted view (Shut handle reason) = without_link handle view
+view_noted view (Took handle number llid body) = encrypted_if (is_start_rsp llid body.items) handle view
 view_noted view (Refused handle kind code) = on_link handle (changed_by (Answered kind)) view
 view_noted view (Done handle kind) = on_link handle (changed_by (Answered kind)) view
 view_noted view other = view

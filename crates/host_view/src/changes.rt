@@ -41,6 +41,8 @@ pub(crate) enum LinkChange {
     Key { waits: bool },
     /// The host is asked for connection parameters, or answered.
     Parameters { waits: bool },
+    /// LL_START_ENC_RSP was taken.
+    Encrypted,
     /// The host was handed a packet.
     HandedUp,
     /// The host has taken this number of packets.
@@ -62,6 +64,7 @@ impl LinkChange {
             LinkChange::Answered(kind) => changed.asked = changed.asked.with(kind, false),
             LinkChange::Key { waits } => changed.waits_for_key = waits,
             LinkChange::Parameters { waits } => changed.waits_for_parameters = waits,
+            LinkChange::Encrypted => changed.encrypted = true,
             LinkChange::HandedUp => changed.outstanding = changed.outstanding.saturating_add(1),
             LinkChange::Taken(count) => {
                 changed.outstanding = changed.outstanding.saturating_sub(count);

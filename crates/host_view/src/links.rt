@@ -1,6 +1,7 @@
 //! The links that are open, as the host knows them.
 ghost use Rattle.std.specs.Prelude.{◌≡◌, not};
 ghost use Rattle.host_view.specs.Links.{link_in, is_asked, is_central_role, update_kind, link_has};
+ghost use Rattle.host_view.specs.Links.{was_encrypted};
 
 use ble_base::{Address, Kind, Role};
 
@@ -49,6 +50,8 @@ pub struct Link {
     pub waits_for_key: bool,
     /// The host was asked for connection parameters, and has not answered.
     pub waits_for_parameters: bool,
+    /// LL_START_ENC_RSP was taken on it: encryption starts again from here on (our choice).
+    pub encrypted: bool,
     /// How many ACL packets the host was handed and has not returned, while host flow control is
     /// on.
     pub outstanding: u16,
@@ -127,6 +130,16 @@ pub(crate) fn waits_for_no_parameters(link: Option<Link>) -> bool
 {
     match link {
         Some(link) => !link.waits_for_parameters,
+        None => false,
+    }
+}
+
+/// Whether encryption started on the link under this handle before.
+pub(crate) fn was_encrypted(links: &[Option<Link>; 6], handle: u16) -> bool
+    ensures { result ≡ was_encrypted handle links.now }
+{
+    match find_link(links, handle) {
+        Some(link) => link.encrypted,
         None => false,
     }
 }

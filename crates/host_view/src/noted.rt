@@ -1,6 +1,6 @@
 //! How what a controller notes of itself changes the view.
 ghost use Rattle.std.specs.Prelude.{◌≡◌, ◌<◌, slice_index, slice_set};
-ghost use Rattle.host_view.specs.Noted.{after_packet, is_le_event, opened_link, two_octets, view_noted, with_link, without_link};
+ghost use Rattle.host_view.specs.Noted.{after_packet, encrypted_if, is_le_event, is_start_rsp, opened_link, two_octets, view_noted, with_link, without_link};
 
 use crate::changes::LinkChange;
 use crate::links::{Asked, Link};
@@ -19,6 +19,12 @@ const LE_META: u8 = 0x3E;
 const KEY_REQUEST: u8 = 0x05;
 
 const PARAMETER_REQUEST: u8 = 0x06;
+
+/// The LLID of control PDUs, and the opcode of LL_START_ENC_RSP (Core 5.2, volume 6 part B, section
+/// 2.4.2).
+const CONTROL: u8 = 3;
+
+const START_ENC_RSP: u8 = 0x06;
 
 /// The octet at this place of a packet, 0 past its end.
 fn octet_at(octets: &[u8], place: usize) -> u8
@@ -42,6 +48,16 @@ fn is_le_event(octets: &[u8], code: u8) -> bool
     octet_at(octets, 0) == EVENT && octet_at(octets, 1) == LE_META && octet_at(octets, 3) == code
 }
 
+/// Whether a PDU is LL_START_ENC_RSP.
+fn is_start_rsp(llid: u8, octets: &[u8]) -> bool
+    ensures { result ≡ is_start_rsp llid octets.now }
+{
+    match octets {
+        [opcode] => llid == CONTROL && *opcode == START_ENC_RSP,
+        _ => false,
+    }
+}
+
 impl Link {
     /// A link as it is opened: nothing was asked for on it yet.
     fn new(role: Role, own: Address, peer: Address) -> Link
@@ -55,6 +71,7 @@ impl Link {
             asked: Asked::default(),
             waits_for_key: false,
             waits_for_parameters: false,
+            encrypted: false,
             outstanding: 0,
         }
     }
@@ -107,6 +124,15 @@ impl HostView {
         self.set_link(handle, None);
     }
 
+    /// Takes that encryption starts on the link with this handle, or not.
+    fn encrypt_if(&mut self, starts: bool, handle: u16)
+        ensures { self.new ≡ encrypted_if starts handle self.old }
+    {
+        if starts {
+            self.change_link(handle, LinkChange::Encrypted);
+        }
+    }
+
     /// Takes a note of the controller.
     #[tactic(auto, unfolding(crate::specs::Noted::view_noted))]
     pub fn note(&mut self, note: &Note)
@@ -124,11 +150,13 @@ impl HostView {
             Note::Refused { handle, kind, .. } | Note::Done { handle, kind } => {
                 self.change_link(*handle, LinkChange::Answered(*kind));
             }
-            Note::Sent { .. }
-            | Note::Took { .. }
-            | Note::Enter { .. }
-            | Note::Applied { .. }
-            | Note::Began { .. } => {}
+            Note::Took {
+                handle,
+                llid,
+                body,
+                ..
+            } => self.encrypt_if(is_start_rsp(*llid, body.as_slice()), *handle),
+            Note::Sent { .. } | Note::Enter { .. } | Note::Applied { .. } | Note::Began { .. } => {}
         }
     }
 }

@@ -20,7 +20,10 @@ impl HostView {
             | Command::LeSetChannels { .. }
             | Command::LeSetPhy { .. }
             | Command::LeParamReply { .. }
-            | Command::LeParamNegative { .. } => true,
+            | Command::LeParamNegative { .. }
+            | Command::LeEnableEncryption { .. }
+            | Command::LeKeyReply { .. }
+            | Command::LeKeyNegative { .. } => true,
             _ => false,
         }
     }

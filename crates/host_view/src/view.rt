@@ -1,8 +1,9 @@
 //! The view: the settings of the host, and the links that are open.
 ghost use Rattle.std.specs.Prelude.{◌≡◌, ◌≤◌, true};
+ghost use Rattle.host_view.specs.Links.{was_encrypted};
 ghost use Rattle.host_view.specs.View.{first_view};
 
-use crate::links::Link;
+use crate::links::{Link, was_encrypted};
 use ble_base::ChannelMap;
 use scan_init::AcceptList;
 use std::marker::Model;
@@ -184,5 +185,12 @@ impl HostView {
         ensures { self.new ≡ record self.old { has_address = left } }
     {
         self.has_address = left;
+    }
+
+    /// Whether encryption started on the link under this handle before.
+    pub fn was_encrypted(&self, handle: u16) -> bool
+        ensures { result ≡ was_encrypted handle self.now.links }
+    {
+        was_encrypted(&self.links, handle)
     }
 }

@@ -1,7 +1,6 @@
 -- The view of a controller knows the end of the link under a handle after an octet of the host.
-use Rattle.std.proofs.Common.{◌≡◌, ℕ, ◌-◌, ◌==◌, Bool, true, false, Option, Some, None, List, [], ◌∷◌, refl, ap, sym, subst, ◌∙◌, arith, eqb-true}
+use Rattle.std.proofs.Common.{◌≡◌, ℕ, ◌-◌, ◌==◌, Bool, true, false, Option, Some, None, List, [], ◌∷◌, refl, ap, sym, subst, ◌∙◌, eqb-true}
 use Rattle.std.specs.Prelude.{◌&&◌, if◌then◌else◌}
-use Rattle.ble_base.specs.ErrorCodes.{command_disallowed}
 use Rattle.h4_frames.specs.declared.packet.HostPacket.TheVariants.{Command as HostCommand, Acl}
 use Rattle.h4_frames.specs.declared.packet.Fed.{Fed}
 use Rattle.h4_frames.specs.declared.packet.Fed.TheVariants.{More, Packet, LostSync}
@@ -18,17 +17,17 @@ use Rattle.host_view.specs.declared.links.Link.{Link}
 use Rattle.host_view.specs.OnLinks.{asks_links}
 use Rattle.host_view.specs.Refusals.{first_refusal}
 use Rattle.host_view.specs.Status.{rows_of}
-use Rattle.host_view.specs.Unbuilt.{or_unbuilt, status_of}
+use Rattle.host_view.specs.Unbuilt.{status_of}
 use Rattle.link_model.specs.Facts.{Facts as EndFacts}
 use Rattle.open_links.specs.declared.offers.Offer.{Offer}
 use Rattle.open_links.specs.declared.offers.Offer.TheVariants.{NoLink, Empty, Overflow, Kept}
 use Rattle.open_links.specs.OpenLinks.{HaveHandles, Links, OpenLink, facts_in}
 use Rattle.open_links.proofs.UnderHandles.{map_at}
 use Rattle.host_asks.specs.Views.{KnowsAt, leaves_other_links}
-use Rattle.host_asks.proofs.EndsViewed.{changed_known, handed_known, key_known, other_known}
+use Rattle.host_asks.proofs.EndsViewed.{changed_known, handed_known, other_known}
 use Rattle.host_asks.proofs.OpenLinksKnown.{IsKnownAt, link_known}
 use Rattle.controller_model.specs.Facts.{Setup, Facts}
-use Rattle.controller_model.specs.Commands.{facts_accepted, facts_asking, facts_commanded, facts_known, links_after}
+use Rattle.controller_model.specs.Commands.{facts_accepted, facts_asking, facts_commanded, facts_known, links_after, moment_of}
 use Rattle.controller_model.specs.Data.{facts_offered, offer_of}
 use Rattle.controller_model.specs.Host.{commands_accepted_by, commands_accepted_in}
 use Rattle.controller_model.specs.Side.{facts_after, facts_fed, result_of}
@@ -68,11 +67,6 @@ accepted_in facts More command is = absurd cc
 
 -- ---- a command that asks nothing of links
 
-disallowed : (table : ℕ) → or_unbuilt table command_disallowed ≡ 0 → ⊥
-disallowed table is =
-    let code : command_disallowed ≡ 0 = subst (λ (n : ℕ). or_unbuilt n command_disallowed ≡ 0) (table_accepts table command_disallowed is) is in
-    absurd (omega (arith, code))
-
 -- the host took this number of packets of a link
 abbrev taking : ℕ → Link → Link
 taking count link = record link { outstanding = link.outstanding - count }
@@ -89,46 +83,36 @@ completed_known : (on : Bool) (view : View) (counts : List HandleCount) (handle 
 completed_known true view counts handle facts known = counts_known view counts handle facts known
 completed_known false view counts handle facts known = known
 
-key_answered : (view : View) (given handle : ℕ) (facts : EndFacts) → KnowsAt view handle facts
-    → KnowsAt (on_link given (λ link. record link { waits_for_key = false }) view) handle facts
-key_answered view given handle facts known =
-    changed_known Nothing view given handle facts (λ link. record link { waits_for_key = false }) (λ link knows. key_known link facts false knows) known
-
 -- the ends stay as they are
 still_known : (before after : View) (links : Links) (handle : ℕ) → ((facts : EndFacts) → KnowsAt before handle facts → KnowsAt after handle facts)
     → IsKnownAt before links handle → IsKnownAt after links handle
 still_known before after links handle keeps known = λ link is lasts. keeps (facts_in link) (known link is lasts)
 
-unasked_known : (view : View) (command : Command) (links : Links) (handle : ℕ) → status_of view command ≡ 0 → asks_links view command ≡ false
+unasked_known : (view : View) (command : Command) (links : Links) (handle : ℕ) → asks_links view command ≡ false
     → IsKnownAt view links handle → IsKnownAt (view_after view command) (links_after command links) handle
-unfolding view_after status_of
-unasked_known view Reset links handle ok none known =
+unfolding view_after
+unasked_known view Reset links handle none known =
     λ link is lasts. absurd (let h : None ≡ Some link = sym (map_at (λ (place : Option OpenLink). None) 0 handle links refl) ∙ is in cc)
-unasked_known view (HostCompleted counts) links handle ok none known = still_known view _ links handle (completed_known view.flow.on view counts.items handle) known
-unasked_known view (LeKeyReply given key) links handle ok none known = still_known view _ links handle (key_answered view given handle) known
-unasked_known view (LeKeyNegative given) links handle ok none known = still_known view _ links handle (key_answered view given handle) known
-unasked_known view (LeEnableEncryption given rand ediv key) links handle ok none known =
-    absurd (disallowed (first_refusal (rows_of view (LeEnableEncryption given rand ediv key))) ok)
-unasked_known view (LeSetChannels map) links handle ok none known =
-    still_known view _ links handle (λ facts known. record { link = known.link; is_open = known.is_open; knows = known.knows }) known
-unasked_known view (Disconnect given reason) links handle ok none known = absurd (cc)
-unasked_known view (ReadRemoteVersion given) links handle ok none known = absurd (cc)
-unasked_known view (LeReadRemoteFeatures given) links handle ok none known = absurd (cc)
-unasked_known view (LeSetDataLength given most time) links handle ok none known = absurd (cc)
-unasked_known view (LeConnectionUpdate given min max latency timeout lengths) links handle ok none known = absurd (cc)
-unasked_known view (LeSetPhy given all tx rx options) links handle ok none known = absurd (cc)
-unasked_known view (LeParamReply given min max latency timeout lengths) links handle ok none known = absurd (cc)
-unasked_known view (LeParamNegative given reason) links handle ok none known = absurd (cc)
-unasked_known view other links handle ok none known = still_known view _ links handle (λ facts known. other_known view other handle facts refl refl known) known
+unasked_known view (HostCompleted counts) links handle none known = still_known view _ links handle (completed_known view.flow.on view counts.items handle) known
+unasked_known view (LeSetChannels map) links handle none known = absurd (cc)
+unasked_known view (LeEnableEncryption given rand ediv key) links handle none known = absurd (cc)
+unasked_known view (LeKeyReply given key) links handle none known = absurd (cc)
+unasked_known view (LeKeyNegative given) links handle none known = absurd (cc)
+unasked_known view (Disconnect given reason) links handle none known = absurd (cc)
+unasked_known view (ReadRemoteVersion given) links handle none known = absurd (cc)
+unasked_known view (LeReadRemoteFeatures given) links handle none known = absurd (cc)
+unasked_known view (LeSetDataLength given most time) links handle none known = absurd (cc)
+unasked_known view (LeConnectionUpdate given min max latency timeout lengths) links handle none known = absurd (cc)
+unasked_known view (LeSetPhy given all tx rx options) links handle none known = absurd (cc)
+unasked_known view (LeParamReply given min max latency timeout lengths) links handle none known = absurd (cc)
+unasked_known view (LeParamNegative given reason) links handle none known = absurd (cc)
+unasked_known view other links handle none known = still_known view _ links handle (λ facts known. other_known view other handle facts refl refl known) known
 
 -- ---- any command
 
 leaves_others : (view : View) (command : Command) → asks_links view command ≡ true → leaves_other_links command ≡ true
 leaves_others view Reset asks = absurd (cc)
 leaves_others view (HostCompleted counts) asks = absurd (cc)
-leaves_others view (LeEnableEncryption given rand ediv key) asks = absurd (cc)
-leaves_others view (LeKeyReply given key) asks = absurd (cc)
-leaves_others view (LeKeyNegative given) asks = absurd (cc)
 leaves_others view other asks = refl
 
 module _ (setup : Setup) (handle : ℕ) where
@@ -136,16 +120,16 @@ module _ (setup : Setup) (handle : ℕ) where
   KnowsEnd facts = IsKnownAt facts.view facts.links handle
 
   accepted_known : (facts : Facts) (command : Command) → status_of facts.view command ≡ 0 → (asks : Bool) → asks_links facts.view command ≡ asks
-      → HaveHandles 0 facts.links → KnowsEnd facts → KnowsEnd (facts_asking asks facts command (facts_accepted setup facts command))
+      → HaveHandles 0 facts.links → KnowsEnd facts → KnowsEnd (facts_asking asks setup facts command (facts_accepted setup facts command))
   accepted_known facts command ok true asks have known =
-      link_known facts.view command facts.turn.begun facts.links (table_of facts.view command ok) (leaves_others facts.view command asks) have handle known
-  accepted_known facts command ok false none have known = unasked_known facts.view command facts.links handle ok none known
+      link_known facts.view command (moment_of setup facts) facts.links ok (leaves_others facts.view command asks) have handle known
+  accepted_known facts command ok false none have known = unasked_known facts.view command facts.links handle none known
 
   read_known : (read : CmdRead) (facts : Facts) → HaveHandles 0 facts.links → KnowsEnd facts → KnowsEnd (facts_commanded setup facts read)
   read_known (Known command) facts have known = by (status_of facts.view command == 0) refl
     where
       by : (accepted : Bool) → (status_of facts.view command == 0) ≡ accepted
-          → KnowsEnd (facts_asking (accepted && asks_links facts.view command) facts command (facts_known accepted setup facts command))
+          → KnowsEnd (facts_asking (accepted && asks_links facts.view command) setup facts command (facts_known accepted setup facts command))
       by true is = accepted_known facts command (eqb-true (status_of facts.view command) 0 is) (asks_links facts.view command) refl have known
       by false is = known
   read_known UnknownOpcode facts have known = known

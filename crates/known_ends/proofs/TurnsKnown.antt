@@ -1,10 +1,12 @@
 -- The view of a controller knows the end of the link under a handle after each part of a turn.
-use Rattle.std.proofs.Common.{◌≡◌, ◌≢◌, ℕ, ◌+◌, ◌<◌, ◌==◌, Bool, true, false, Option, Some, None, List, [], ◌∷◌, ◌++◌, length, map, cond, refl, ap, sym, subst, ◌∙◌, arith}
-use Rattle.std.specs.Prelude.{◌&&◌, not, filter, fold, nat_lt, if◌then◌else◌, ⊤}
+use Rattle.std.proofs.Common.{◌≡◌, ◌≢◌, ℕ, ◌+◌, ◌<◌, ◌==◌, Bool, true, false, Option, Some, None, Ok, Err, List, [], ◌∷◌, ◌++◌, length, map, cond, refl, ap, sym, subst, ◌∙◌, append_assoc, arith}
+use Rattle.std.specs.Prelude.{IfSome, ◌&&◌, filter, fold, nat_lt, if◌then◌else◌, ⊤}
 use Rattle.std.specs.Option.{option_map, option_to_list}
 use Rattle.std.proofs.lemmas.Bool.{eq-eqb, eqb-true}
 use Rattle.std.proofs.lemmas.List.{get_or-set_other}
 use Rattle.std.proofs.lemmas.List.Sums.{fold-append}
+use Rattle.ble_base.specs.ErrorCodes.{unsupported_remote_feature}
+use Rattle.ble_base.specs.declared.error_codes.ErrCode.{ErrCode}
 use Rattle.ble_base.specs.declared.roles.Role.{Role}
 use Rattle.ble_base.specs.declared.roles.Role.TheVariants.{Central, Peripheral}
 use Rattle.ble_base.specs.declared.notes.Note.{Note}
@@ -18,7 +20,7 @@ use Rattle.procedure_events.specs.procedure_stages.Steps.{asks_host}
 use Rattle.procedure_events.specs.Events.{event_of_effect}
 use Rattle.procedure_events.specs.Calls.{event_if_done, event_if_refused}
 use Rattle.host_view.specs.View.{View}
-use Rattle.host_view.specs.Links.{link_in}
+use Rattle.host_view.specs.Links.{link_in, was_encrypted}
 use Rattle.host_view.specs.Noted.{view_noted}
 use Rattle.host_view.specs.scan_init.Reports.{does_ask, scan_answer}
 use Rattle.slot_plan.specs.declared.Activity.{Activity}
@@ -26,16 +28,15 @@ use Rattle.slot_plan.specs.declared.Activity.TheVariants.{Link, Advertise, Scan,
 use Rattle.link_model.specs.declared.setup.LinkSetup.{LinkSetup}
 use Rattle.link_model.specs.End.{facts_after as end_after, facts_of as end_facts_of, notes_after as end_notes}
 use Rattle.link_model.specs.Facts.{Facts as EndFacts, params_of}
-use Rattle.link_model.specs.Hosts.{facts_answered}
-use Rattle.link_model.specs.Receiving.{effect_of}
+use Rattle.link_model.specs.Receiving.{effect_of, kept_effect_of}
 use Rattle.link_model.specs.Setup.{Setup as EndSetup}
 use Rattle.link_model.specs.Sending.{sent_notes_if}
 use Rattle.link_model.specs.Controls.{pdu_fixed}
 use Rattle.link_model.specs.Acknowledgement.{Pdu}
-use Rattle.link_model.specs.Step.{Step as EndStep, DataGiven, EventEntered, PduFixed, PacketSent, PacketReceived, RequestAnswered, DataReported}
+use Rattle.link_model.specs.Step.{Step as EndStep, DataGiven, EventEntered, KeyAnswered, PduFixed, PacketSent, PacketReceived, RequestAnswered, DataReported, WordsGiven}
 use Rattle.link_model.proofs.Pasts.{grows}
 use Rattle.link_model.proofs.KnownEnds.{IsPast}
-use Rattle.controller_model.specs.link_end.Answers.{acked_of, given_of}
+use Rattle.controller_model.specs.link_end.Answers.{acked_of, given_of, kept_given_of}
 use Rattle.open_links.specs.Data.{complete_in, link_reported, received_past}
 use Rattle.open_links.specs.OpenLinks.{Links, OpenLink, HasHandle, HaveHandles, facts_in, link_after, link_at, link_from, link_served, new_link, with_change, with_link}
 use Rattle.open_links.specs.Ended.{end_by}
@@ -44,9 +45,9 @@ use Rattle.open_links.proofs.Ends.{stays_where_not_due}
 use Rattle.open_links.proofs.UnderHandles.{map_at}
 use Rattle.open_links.proofs.Handles.{changed_is, has_its_handle, opened_at, other_stays}
 use Rattle.host_asks.proofs.OpenLinksKnown.{IsKnownAt}
-use Rattle.host_asks.specs.Noting.{effect_after, is_of_host}
+use Rattle.host_asks.specs.Noting.{effect_after, is_of_host, or_request}
 use Rattle.host_asks.specs.Views.{KnowsAt, KnowsOnceReported}
-use Rattle.host_asks.proofs.EndsViewed.{none_reported, packet_known, request_refused_at_once, request_reported, step_known}
+use Rattle.host_asks.proofs.EndsViewed.{key_lacked_at_once, none_reported, packet_known, request_refused_at_once, request_reported, step_known}
 use Rattle.host_asks.proofs.Lasting.{lasted}
 use Rattle.host_asks.proofs.LinksViewed.{notes_of_step, notes_other, opened_known}
 use Rattle.controller_model.specs.declared.doing.Doing.{Doing}
@@ -56,7 +57,7 @@ use Rattle.controller_model.specs.Facts.{Setup, Facts}
 use Rattle.controller_model.specs.Data.{facts_ended_turn, facts_handed}
 use Rattle.controller_model.specs.Entering.{events_entering, notes_all_entering}
 use Rattle.controller_model.specs.Events.{notes_of_events, passes}
-use Rattle.controller_model.specs.Heard.{notes_received, facts_connecting, asks_if, effect_in, events_received, has_room, is_refused, link_heard, link_received, link_taken, notes_taken, opens, replies_in, reply_if, scanner_after, with_scanner}
+use Rattle.controller_model.specs.Heard.{answer_unless, notes_received, facts_connecting, facts_with_words, asks_if, events_received, has_room, link_heard, link_received, link_taken, notes_taken, opens, or_refusal, refusal_in, refusal_of, replies_in, reply_if, scanner_after, with_scanner}
 use Rattle.controller_model.specs.Links.{note_opened, note_shut, stopped}
 use Rattle.controller_model.specs.Outcome.{facts_passed}
 use Rattle.controller_model.specs.Packets.{facts_doing}
@@ -65,9 +66,11 @@ use Rattle.controller_model.specs.Side.{facts_after}
 use Rattle.controller_model.proofs.Always.{IsInTurn, facts_ended, facts_given, leaving_is, left_doing, links_won, view_shut}
 use Rattle.controller_model.proofs.Books.{by_handle}
 use Rattle.controller_model.proofs.Following.{entering_is}
-use Rattle.controller_model.proofs.Handles.{HaveOwnHandles, IsNew, free_is_new, handles_kept, mapped_opens, reported_same}
+use Rattle.controller_model.proofs.Handles.{HaveOwnHandles, IsNew, free_is_new, handles_kept, mapped_opens, reported_same, words_own}
 use Rattle.controller_model.proofs.Phases.{EachOutcome, heard_is, unheard_is}
-use Rattle.controller_model.proofs.Places.{at_changed, at_received, link_receiving, receiving_is, refusal, refused_if}
+use Rattle.controller_model.proofs.Places.{at_changed, at_received, link_receiving, receiving_is, refused_if}
+use Rattle.known_ends.proofs.Refusals.{IsRefusal, asks_key, none_refused, refusals_are}
+use Rattle.known_ends.proofs.RequestsApart.{requests_apart}
 
 -- ---- the view after notes
 
@@ -390,37 +393,103 @@ module _ (handle : ℕ) where
 
   -- ---- a packet is received
 
-  -- what is known where a request is refused at once, and where it is not
-  abbrev KnownWhere : Bool → Effect → View → EndFacts → Type 0
-  KnownWhere true effect view facts = KnowsOnceReported effect view handle facts
-  KnownWhere false effect view facts = KnowsAt view handle facts
+  -- what is left once some events were received: nothing, or a request that is refused at once
+  data Left (refusal : Option EndStep) (view : View) (facts : EndFacts) : Type 0 where
+    Reported : KnowsAt view handle facts → Left refusal view facts
+    Refused : (effect : Effect) (code : ErrCode) → refusal ≡ Some (RequestAnswered (Err code)) → KnowsOnceReported effect view handle facts
+        → Left refusal view facts
 
-  where_packets : (refuses : Bool) (effect : Effect) (masks view : View) (events : List Event) (facts : EndFacts) → KnownWhere refuses effect view facts
-      → KnownWhere refuses effect (follow view (notes_of_events masks events)) facts
-  where_packets true effect masks view events facts known = packets_known effect masks view events handle facts known
-  where_packets false effect masks view events facts known = packets_known Nothing masks view events handle facts known
+  left_packets : (refusal : Option EndStep) (masks view : View) (events : List Event) (facts : EndFacts) → Left refusal view facts
+      → Left refusal (follow view (notes_of_events masks events)) facts
+  left_packets refusal masks view events facts (Reported known) = Reported (packets_known Nothing masks view events handle facts known)
+  left_packets refusal masks view events facts (Refused effect code is known) = Refused effect code is (packets_known effect masks view events handle facts known)
 
-  abbrev effect_notes : View → Effect → List Note
-  effect_notes masks effect = notes_of_events masks (option_to_list (event_of_effect handle effect))
+  module _ (masks : View) (slot : ℕ) (was_encrypted : Bool) (facts : EndFacts) (fits : handle < 65536) where
+    abbrev effect_notes : Effect → List Note
+    effect_notes effect = notes_of_events masks (option_to_list (event_of_effect handle was_encrypted effect))
 
-  effect_known : (effect : Effect) (masks view : View) (facts : EndFacts) → handle < 65536 → KnowsOnceReported effect view handle facts
-      → KnownWhere (is_refused masks handle effect) effect (follow view (effect_notes masks effect)) facts
-  effect_known (AskHost least most latency timeout) masks view facts fits known = by (passes masks (mask_bit_of (ParamRequest handle least most latency timeout)))
-    where
-      by : (pass : Bool) → KnownWhere (not pass) (AskHost least most latency timeout)
-          (follow view (map (λ event. Up (record { items = written event })) (if pass then ParamRequest handle least most latency timeout ∷ [] else []))) facts
-      by true = request_reported view handle least most latency timeout facts fits known
-      by false = known
-  effect_known other masks view facts fits known =
-      none_reported other _ handle facts refl (packets_known other masks view (option_to_list (event_of_effect handle other)) handle facts known)
+    -- after the event of the PDU that was taken there is left what it asked, or what one asked that was kept until then
+    data FirstLeft (effect kept : Effect) (view : View) : Type 0 where
+      Over : ((other : Option EndStep) → Left (or_refusal (refusal_of masks handle slot effect) other) view facts) → FirstLeft effect kept view
+      Later : asks_host effect ≡ false → KnowsOnceReported kept view handle facts → FirstLeft effect kept view
+
+    asks_first : (effect kept : Effect) (view : View) → KnowsOnceReported (or_request effect kept) view handle facts
+        → FirstLeft effect kept (follow view (effect_notes effect))
+    asks_first (AskHost least most latency timeout) kept view known = by (passes masks (mask_bit_of (ParamRequest handle least most latency timeout))) refl
+      where
+        by : (pass : Bool) → passes masks (mask_bit_of (ParamRequest handle least most latency timeout)) ≡ pass
+            → FirstLeft (AskHost least most latency timeout) kept
+            (follow view (map event_note (if pass then ParamRequest handle least most latency timeout ∷ [] else [])))
+        by true is = Over (λ other. Reported (request_reported view handle least most latency timeout facts fits known))
+        by false is =
+            Over (λ other. Refused (AskHost least most latency timeout) (record { 0 = unsupported_remote_feature })
+            (ap (λ (pass : Bool). or_refusal (answer_unless pass (RequestAnswered (Err (record { 0 = unsupported_remote_feature })))) other) is) known)
+    asks_first other kept view known =
+        Later refl (packets_known kept masks view (option_to_list (event_of_effect handle was_encrypted other)) handle facts known)
+
+    -- after the event of the one that was kept
+    asks_last : (kept : Effect) (view : View) (before : Option EndStep) → (asks_host kept ≡ true → before ≡ None) → KnowsOnceReported kept view handle facts
+        → Left (or_refusal before (refusal_of masks handle slot kept)) (follow view (effect_notes kept)) facts
+    asks_last (AskHost least most latency timeout) view before none known = by (passes masks (mask_bit_of (ParamRequest handle least most latency timeout))) refl
+      where
+        by : (pass : Bool) → passes masks (mask_bit_of (ParamRequest handle least most latency timeout)) ≡ pass
+            → Left (or_refusal before (refusal_of masks handle slot (AskHost least most latency timeout)))
+            (follow view (map event_note (if pass then ParamRequest handle least most latency timeout ∷ [] else []))) facts
+        by true is = Reported (request_reported view handle least most latency timeout facts fits known)
+        by false is =
+            Refused (AskHost least most latency timeout) (record { 0 = unsupported_remote_feature })
+            (λ i. or_refusal (none refl i) (answer_unless (is i) (RequestAnswered (Err (record { 0 = unsupported_remote_feature }))))) known
+    asks_last other view before none known =
+        Reported (none_reported other _ handle facts refl
+        (packets_known other masks view (option_to_list (event_of_effect handle was_encrypted other)) handle facts known))
+
+    -- with other events between these two
+    asks_either : (effect kept : Effect) (between : List Event) (view : View) → (asks_host kept ≡ true → asks_key effect ≡ false)
+        → FirstLeft effect kept view
+        → Left (or_refusal (refusal_of masks handle slot effect) (refusal_of masks handle slot kept))
+        (follow (follow view (notes_of_events masks between)) (effect_notes kept)) facts
+    asks_either effect kept between view apart (Over left) =
+        let refusal = or_refusal (refusal_of masks handle slot effect) (refusal_of masks handle slot kept) in
+        left_packets refusal masks _ (option_to_list (event_of_effect handle was_encrypted kept)) facts
+        (left_packets refusal masks view between facts (left (refusal_of masks handle slot kept)))
+    asks_either effect kept between view apart (Later none known) =
+        asks_last kept _ (refusal_of masks handle slot effect) (λ asks. none_refused masks handle slot effect none (apart asks))
+        (packets_known kept masks view between handle facts known)
+
+  -- what is refused at once is refused, and whether a host has a key changes nothing
+  refused_now : (effect : Effect) (view : View) (now : OpenLink) (code : ErrCode) → KnowsOnceReported effect view handle (facts_in now)
+      → (facts_in (link_after (RequestAnswered (Err code)) now)).control.ends ≡ None
+      → KnowsAt view handle (facts_in (link_after (RequestAnswered (Err code)) now))
+  refused_now effect view now code known lasts =
+      let grown = facts_grow now (RequestAnswered (Err code)) in
+      subst (λ (f : EndFacts). KnowsAt view handle f) (sym grown)
+      (request_refused_at_once effect view handle (facts_in now) code known (ap (λ (f : EndFacts). f.control.ends) (sym grown) ∙ lasts))
+
+  answered_left : (refusal : Option EndStep) (view : View) (now : OpenLink) → IfSome refusal IsRefusal → Left refusal view (facts_in now)
+      → (facts_in (refused_if refusal now)).control.ends ≡ None → KnowsAt view handle (facts_in (refused_if refusal now))
+  answered_left None view now is (Reported known) lasts = known
+  answered_left None view now is (Refused effect code refuses known) lasts = absurd cc
+  answered_left (Some (RequestAnswered (Err code))) view now is (Reported known) lasts = refused_now Nothing view now code known lasts
+  answered_left (Some (RequestAnswered (Err code))) view now is (Refused effect other refuses known) lasts = refused_now effect view now code known lasts
+  answered_left (Some (KeyAnswered None slot)) view now is (Reported known) lasts =
+      subst (λ (f : EndFacts). KnowsAt view handle f) (sym (facts_grow now (KeyAnswered None slot)))
+      (key_lacked_at_once Nothing view handle slot (facts_in now) known)
+  answered_left (Some (KeyAnswered None slot)) view now is (Refused effect code refuses known) lasts = absurd cc
+  answered_left (Some (RequestAnswered (Ok ask))) view now is left lasts = absurd is
+  answered_left (Some (KeyAnswered (Some ltk) slot)) view now is left lasts = absurd is
+  answered_left (Some step) view now is left lasts = absurd is
+
+  before_answer : (refusal : Option EndStep) (now : OpenLink) → (facts_in (refused_if refusal now)).control.ends ≡ None → (facts_in now).control.ends ≡ None
+  before_answer None now lasts = lasts
+  before_answer (Some step) now lasts =
+      lasted now.setup (facts_in now) step (link_past now) (ap (λ (f : EndFacts). f.control.ends) (sym (facts_grow now step)) ∙ lasts)
 
   module _ (slot : ℕ) (room : Bool) (octets : List ℕ) where
-    received_link : (masks : View) (link : OpenLink) (view : View) → handle < 65536 → Known (Some link) view
-        → KnownAfter (Some (refused_if (is_refused masks handle (effect_of link.setup (facts_in link) slot octets room)) (link_after (PacketReceived slot octets room) link)))
-        view (notes_taken slot room (Some link) octets ++ notes_of_events masks (events_received handle slot room (Some link) octets))
-    received_link masks link view fits is =
-        and_then (Some (refused_if (is_refused masks handle effect) now)) view taken (notes_of_events masks (acked ++ asked ++ refused ++ done))
-        (has_kept (is_refused masks handle effect), ends_known_by (is_refused masks handle effect) refl)
+    received_link : (masks : View) (was_encrypted : Bool) (link : OpenLink) (view : View) → handle < 65536 → Known (Some link) view
+        → KnownAfter (Some (refused_if (refusal_in masks handle slot room (Some link) octets) (link_after (PacketReceived slot octets room) link)))
+        view (notes_taken slot room (Some link) octets ++ notes_of_events masks (events_received was_encrypted handle slot room (Some link) octets))
+    received_link masks was_encrypted link view fits is =
+        and_then (Some (refused_if refusal now)) view taken (notes_of_events masks events) (has_kept refusal, all_seen)
       where
         step : EndStep
         step = PacketReceived slot octets room
@@ -431,11 +500,17 @@ module _ (handle : ℕ) where
         effect : Effect
         effect = effect_of link.setup (facts_in link) slot octets room
 
+        kept_effect : Effect
+        kept_effect = kept_effect_of link.setup (facts_in link) slot octets room
+
+        refusal : Option EndStep
+        refusal = refusal_in masks handle slot room (Some link) octets
+
         acked : List Event
         acked = option_to_list (event_if_done handle (facts_in now).peer (acked_of link.setup (facts_in link) octets))
 
         asked : List Event
-        asked = option_to_list (event_of_effect handle effect)
+        asked = option_to_list (event_of_effect handle was_encrypted effect)
 
         refused : List Event
         refused = option_to_list (event_if_refused handle (params_of (facts_in link)) (given_of link.setup (facts_in link) slot octets room).refused)
@@ -443,45 +518,60 @@ module _ (handle : ℕ) where
         done : List Event
         done = option_to_list (event_if_done handle (facts_in now).peer (given_of link.setup (facts_in link) slot octets room).done)
 
+        kept_asked : List Event
+        kept_asked = option_to_list (event_of_effect handle was_encrypted kept_effect)
+
+        kept_done : List Event
+        kept_done = option_to_list (event_if_done handle (facts_in now).peer (kept_given_of link.setup (facts_in link) slot octets room).done)
+
+        events : List Event
+        events = acked ++ asked ++ refused ++ done ++ (kept_asked ++ kept_done)
+
         taken : List Note
         taken = end_notes link.setup (facts_in link) step
-
-        seen : View
-        seen = follow (follow view taken) (notes_of_events masks (acked ++ asked ++ refused ++ done))
-
-        has_kept : (refuses : Bool) → (refused_if refuses now).setup.link.handle ≡ handle
-        has_kept true = is.0
-        has_kept false = is.0
 
         noted : View
         noted = follow view taken
 
-        both : (xs ys : List Event) → follow (follow noted (notes_of_events masks xs)) (notes_of_events masks ys) ≡ follow noted (notes_of_events masks (xs ++ ys))
-        both xs ys = sym (fold-append view_noted noted (notes_of_events masks xs) (notes_of_events masks ys)) ∙ ap (follow noted) (sym (events_append masks xs ys))
+        seen : View
+        seen = follow noted (notes_of_events masks events)
 
-        split : follow (follow (follow (follow noted (notes_of_events masks acked)) (notes_of_events masks asked)) (notes_of_events masks refused)) (notes_of_events masks done) ≡ seen
+        has_kept : (refused_now : Option EndStep) → (refused_if refused_now now).setup.link.handle ≡ handle
+        has_kept None = is.0
+        has_kept (Some step) = is.0
+
+        both : (before : View) (xs ys : List Event) → follow (follow before (notes_of_events masks xs)) (notes_of_events masks ys) ≡ follow before (notes_of_events masks (xs ++ ys))
+        both before xs ys = sym (fold-append view_noted before (notes_of_events masks xs) (notes_of_events masks ys)) ∙ ap (follow before) (sym (events_append masks xs ys))
+
+        -- the view after the event of each request
+        first : View
+        first = follow (follow noted (notes_of_events masks acked)) (notes_of_events masks asked)
+
+        last : View
+        last = follow (follow first (notes_of_events masks (refused ++ done))) (notes_of_events masks kept_asked)
+
+        first_is : first ≡ follow noted (notes_of_events masks (acked ++ asked))
+        first_is = both noted acked asked
+
+        split : follow last (notes_of_events masks kept_done) ≡ seen
         split =
-            ap (λ v. follow (follow v (notes_of_events masks refused)) (notes_of_events masks done)) (both acked asked)
-            ∙ ap (λ v. follow v (notes_of_events masks done)) (both (acked ++ asked) refused)
-            ∙ both (acked ++ asked ++ refused) done
+            both (follow first (notes_of_events masks (refused ++ done))) kept_asked kept_done
+            ∙ ap (λ v. follow (follow v (notes_of_events masks (refused ++ done))) (notes_of_events masks (kept_asked ++ kept_done))) first_is
+            ∙ ap (λ v. follow v (notes_of_events masks (kept_asked ++ kept_done))) (both noted (acked ++ asked) (refused ++ done) ∙ ap (λ xs. follow noted (notes_of_events masks xs)) (sym (append_assoc (acked ++ asked) refused done)))
+            ∙ both noted (acked ++ asked ++ refused ++ done) (kept_asked ++ kept_done)
 
-        all_seen : (facts_in now).control.ends ≡ None → KnownWhere (is_refused masks handle effect) effect seen (facts_in now)
+        left : (facts_in now).control.ends ≡ None → Left refusal seen (facts_in now)
+        left lasts =
+            let known = reported step refl link view is lasts in
+            let then_first = asks_first masks slot was_encrypted (facts_in now) fits effect kept_effect (follow noted (notes_of_events masks acked))
+            (packets_known (or_request effect kept_effect) masks noted acked handle (facts_in now) known) in
+            let then_last = asks_either masks slot was_encrypted (facts_in now) fits effect kept_effect (refused ++ done) first
+            (requests_apart link slot room octets) then_first in
+            subst (λ v. Left refusal v (facts_in now)) split (left_packets refusal masks last kept_done (facts_in now) then_last)
+
+        all_seen : (facts_in (refused_if refusal now)).control.ends ≡ None → KnowsAt seen handle (facts_in (refused_if refusal now))
         all_seen lasts =
-            let first = packets_known effect masks noted acked handle (facts_in now) (reported step refl link view is lasts) in
-            let before = effect_known effect masks (follow noted (notes_of_events masks acked)) (facts_in now) fits first in
-            subst (λ (v : View). KnownWhere (is_refused masks handle effect) effect v (facts_in now)) split
-            (where_packets (is_refused masks handle effect) effect masks _ done (facts_in now)
-            (where_packets (is_refused masks handle effect) effect masks _ refused (facts_in now) before))
-
-        ends_known_by : (refuses : Bool) → is_refused masks handle effect ≡ refuses → (facts_in (refused_if refuses now)).control.ends ≡ None
-            → KnowsAt seen handle (facts_in (refused_if refuses now))
-        ends_known_by true refuses lasts =
-            let grown = facts_grow now (RequestAnswered refusal) in
-            let goes : (facts_answered refusal (facts_in now)).control.ends ≡ None = ap (λ (f : EndFacts). f.control.ends) (sym grown) ∙ lasts in
-            subst (λ (f : EndFacts). KnowsAt seen handle f) (sym grown)
-            (request_refused_at_once effect seen handle (facts_in now) _
-            (subst (λ (b : Bool). KnownWhere b effect seen (facts_in now)) refuses (all_seen (lasted now.setup (facts_in now) (RequestAnswered refusal) (link_past now) goes))) goes)
-        ends_known_by false refuses lasts = subst (λ (b : Bool). KnownWhere b effect seen (facts_in now)) refuses (all_seen lasts)
+            answered_left refusal seen now (refusals_are masks handle slot effect kept_effect) (left (before_answer refusal now lasts)) lasts
 
   taken_at : (given : ℕ) (octets : List ℕ) (setup : Setup) (facts : Facts) → HaveHandles 0 facts.links → handle < 65536
       → Known (link_at handle facts.links) facts.view
@@ -503,20 +593,21 @@ module _ (handle : ℕ) where
       notes_at n = notes_received n room octets facts
 
       apart : given ≢ handle → (place : Option OpenLink) → HasHandle given place
-          → KnownAfter (link_at handle facts.links) facts.view (notes_taken slot room place octets ++ notes_of_events facts.view (events_received given slot room place octets))
+          → KnownAfter (link_at handle facts.links) facts.view
+          (notes_taken slot room place octets ++ notes_of_events facts.view (events_received (was_encrypted given facts.view.links) given slot room place octets))
       apart differs None has = is
       apart differs (Some link) has =
           let taken = end_notes link.setup (facts_in link) (PacketReceived slot octets room) in
-          let events = events_received given slot room (Some link) octets in
+          let events = events_received (was_encrypted given facts.view.links) given slot room (Some link) octets in
           and_then (link_at handle facts.links) facts.view taken (notes_of_events facts.view events)
           (packets (link_at handle facts.links) facts.view (follow facts.view taken) events
           (others (link_at handle facts.links) facts.view link.setup (facts_in link) (PacketReceived slot octets room) (λ same. differs (sym has ∙ same)) is))
 
       own_by : (place : Option OpenLink) → Known place facts.view
-          → KnownAfter (option_map (λ link. refused_if (is_refused facts.view handle (effect_in slot room place octets)) (link_after (PacketReceived slot octets room) link)) place)
-          facts.view (notes_taken slot room place octets ++ notes_of_events facts.view (events_received handle slot room place octets))
+          → KnownAfter (option_map (λ link. refused_if (refusal_in facts.view handle slot room place octets) (link_after (PacketReceived slot octets room) link)) place)
+          facts.view (notes_taken slot room place octets ++ notes_of_events facts.view (events_received (was_encrypted handle facts.view.links) handle slot room place octets))
       own_by None known = tt
-      own_by (Some link) known = received_link slot room octets facts.view link facts.view fits known
+      own_by (Some link) known = received_link slot room octets facts.view (was_encrypted handle facts.view.links) link facts.view fits known
 
       own : KnownAfter (link_at handle (link_received handle room octets facts).links) facts.view (notes_at handle)
       own =
@@ -572,6 +663,13 @@ module _ (handle : ℕ) where
         doing_known (reply_if (replies_in facts.turn.slot (has_room setup facts) (link_at given facts.links) octets) given)
         (link_received given (has_room setup facts) octets facts) (taken_at given octets setup facts own.handles (omega (arith, low)) is)
 
+    -- with the words that a peripheral was given
+    worded_known : (given : ℕ) (octets : List ℕ) (facts : Facts) → HaveOwnHandles setup facts → KnownIn facts
+        → KnownIn (facts_passed (link_heard setup given octets (facts_with_words setup given facts)))
+    worded_known given octets facts own is =
+        heard_known given octets (facts_with_words setup given facts) (words_own setup given facts own)
+        (unnoted_at (WordsGiven _ _) refl (λ setup facts. refl) given facts.links facts.view (λ setup facts. refl) is)
+
     phase_known : (facts : Facts) → HaveOwnHandles setup facts → length facts.view.links ≡ 6 → KnownIn facts
         → EachOutcome setup facts (λ outcome. KnownIn (facts_passed outcome))
     phase_known facts own six is = record {
@@ -616,6 +714,7 @@ module _ (handle : ℕ) where
     turn_known facts (TurnBegins slot on) turn own six is = begun_known slot on facts own is
     turn_known facts (PacketHeard octets) turn own six is =
         heard_is setup facts (λ outcome. KnownIn (facts_passed outcome)) (phase_known facts own six is) facts.turn.doing octets refl
+        (λ given. worded_known given octets facts own is)
     turn_known facts NothingHeard turn own six is = unheard_is setup facts (λ outcome. KnownIn (facts_passed outcome)) (phase_known facts own six is) facts.turn.doing refl
     turn_known facts TurnEnds turn own six is = ended_known facts own is
 

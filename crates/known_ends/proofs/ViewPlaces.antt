@@ -78,6 +78,7 @@ six_in_turns setup = record {
         let room = has_room setup facts in
         followed_long facts.view (notes_received handle room octets facts) (received_are handle room octets facts) ∙ six;
   };
+  words = λ handle facts listens six. six;
 }
 
 -- ---- any step

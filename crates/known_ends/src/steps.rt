@@ -6,6 +6,7 @@ ghost use Rattle.link_model.specs.Step.{Step as EndStep};
 ghost use Rattle.host_asks.specs.link_pairs.Hosts.{MayHost};
 ghost use Rattle.open_links.specs.OpenLinks.{OpenLink, facts_in, link_at};
 ghost use Rattle.controller_model.specs.link_commands.Commands.{step_on};
+ghost use Rattle.controller_model.specs.Commands.{moment_of};
 ghost use Rattle.controller_model.specs.Facts.{Setup};
 ghost use Rattle.controller_model.specs.Host.{commands_accepted_after};
 ghost use Rattle.controller_model.specs.Side.{facts_of};
@@ -21,7 +22,7 @@ pub fn what_hosts_ask_may_come()
         → link_at handle (facts_of setup past).links ≡ Some link
         → (facts_in link).control.ends ≡ None
         → commands_accepted_after (facts_of setup past) (HostOctet octet) ≡ command ∷ []
-        → step_on handle command (facts_of setup past).turn.begun link.setup.link.role
+        → step_on handle command (moment_of setup (facts_of setup past)) link.setup.link.role
         (facts_in link).peer ≡ Some step
         → MayHost step (facts_in link) }
 {}

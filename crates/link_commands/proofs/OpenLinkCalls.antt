@@ -10,6 +10,7 @@ use Rattle.open_links.specs.procedure_values.declared.asks.Ask.TheVariants.{Feat
 use Rattle.open_links.specs.link_model.Step.{ProcedureAsked}
 use Rattle.open_links.specs.Hosts.{asked_map_by, link_asked_map, links_asked, links_asked_map}
 use Rattle.open_links.specs.OpenLinks.{Links, OpenLink, facts_in, link_after, link_at, link_from, with_change, with_change_from}
+use Rattle.link_commands.specs.declared.moments.Moment.{Moment}
 use Rattle.link_commands.specs.Commands.{ask_unless, is_about, map_by, update_by}
 use Rattle.link_commands.specs.LinksCommanded.{link_after_if, links_commanded, links_commanded_from, open_link_commanded, place_commanded}
 
@@ -34,27 +35,27 @@ turned a b = by (a == b) (b == a) refl refl
     by true false e f = sym (subst (λ (n : ℕ). (n == a) ≡ true) (eqb-true a b e) (self a)) ∙ f
     by false true e f = sym e ∙ subst (λ (n : ℕ). (n == b) ≡ true) (eqb-true b a f) (self b)
 
-module _ (command : Command) (slot given : ℕ) (about : (handle : ℕ) → is_about handle command ≡ (given == handle)) where
-  passed : (first : ℕ) (links : Links) → given < first → links_commanded_from first command slot links ≡ links
+module _ (command : Command) (moment : Moment) (given : ℕ) (about : (handle : ℕ) → is_about handle command ≡ (given == handle)) where
+  passed : (first : ℕ) (links : Links) → given < first → links_commanded_from first command moment links ≡ links
   passed first [] less = refl
   passed first (place ∷ links) less =
-      λ i. place_commanded ((about first ∙ not_same given first less) i) command slot place ∷ passed (first + 1) links (omega (arith, less)) i
+      λ i. place_commanded ((about first ∙ not_same given first less) i) command moment place ∷ passed (first + 1) links (omega (arith, less)) i
 
-  one_from : (first : ℕ) (links : Links) → links_commanded_from first command slot links ≡ with_change_from first given (option_map (open_link_commanded command slot)) links
+  one_from : (first : ℕ) (links : Links) → links_commanded_from first command moment links ≡ with_change_from first given (option_map (open_link_commanded command moment)) links
   one_from first [] = refl
   one_from first (place ∷ links) = by (first == given) refl (one_from (first + 1) links)
     where
       by : (same : Bool) → (first == given) ≡ same
-          → links_commanded_from (first + 1) command slot links ≡ with_change_from (first + 1) given (option_map (open_link_commanded command slot)) links
-          → place_commanded (is_about first command) command slot place ∷ links_commanded_from (first + 1) command slot links
-          ≡ (if same then option_map (open_link_commanded command slot) place ∷ links
-          else place ∷ with_change_from (first + 1) given (option_map (open_link_commanded command slot)) links)
+          → links_commanded_from (first + 1) command moment links ≡ with_change_from (first + 1) given (option_map (open_link_commanded command moment)) links
+          → place_commanded (is_about first command) command moment place ∷ links_commanded_from (first + 1) command moment links
+          ≡ (if same then option_map (open_link_commanded command moment) place ∷ links
+          else place ∷ with_change_from (first + 1) given (option_map (open_link_commanded command moment)) links)
       by true is rest =
-          λ i. place_commanded ((about first ∙ turned given first ∙ is) i) command slot place
+          λ i. place_commanded ((about first ∙ turned given first ∙ is) i) command moment place
           ∷ passed (first + 1) links (let same = eqb-true first given is in omega (arith, same)) i
-      by false is rest = λ i. place_commanded ((about first ∙ turned given first ∙ is) i) command slot place ∷ rest i
+      by false is rest = λ i. place_commanded ((about first ∙ turned given first ∙ is) i) command moment place ∷ rest i
 
-  pub one_change : (links : Links) → links_commanded command slot links ≡ with_change given (open_link_commanded command slot) links
+  pub one_change : (links : Links) → links_commanded command moment links ≡ with_change given (open_link_commanded command moment) links
   one_change links = one_from 0 links
 
 -- ---- a change of the link that is there
@@ -99,54 +100,54 @@ none_changed f first given (place ∷ links) is = by (first == given) is (none_c
     by true is rest = λ i. (ap (option_map f) is ∙ sym is) i ∷ links
     by false is rest = λ i. place ∷ rest is i
 
-pub none_commanded : (command : Command) (slot given : ℕ) (links : Links) → ((handle : ℕ) → is_about handle command ≡ (given == handle))
-    → link_at given links ≡ None → links_commanded command slot links ≡ links
-none_commanded command slot given links about is =
-    one_change command slot given about links ∙ none_changed (open_link_commanded command slot) 0 given links is
+pub none_commanded : (command : Command) (moment : Moment) (given : ℕ) (links : Links) → ((handle : ℕ) → is_about handle command ≡ (given == handle))
+    → link_at given links ≡ None → links_commanded command moment links ≡ links
+none_commanded command moment given links about is =
+    one_change command moment given about links ∙ none_changed (open_link_commanded command moment) 0 given links is
 
 -- ---- what may be known
 
-pub asked_unless_known : (command : Command) (slot given : ℕ) (ask : Ask) (known : Bool) (links : Links) (link : OpenLink)
+pub asked_unless_known : (command : Command) (moment : Moment) (given : ℕ) (ask : Ask) (known : Bool) (links : Links) (link : OpenLink)
     → ((handle : ℕ) → is_about handle command ≡ (given == handle)) → link_at given links ≡ Some link
-    → open_link_commanded command slot link ≡ link_after_if (ask_unless known ask) link
-    → links_commanded command slot links ≡ (if known then links else links_asked given ask links)
-asked_unless_known command slot given ask true links link about is same =
-    one_change command slot given about links ∙ changed_alike (open_link_commanded command slot) (λ l. l) 0 given links link is same ∙ changed_none 0 given links
-asked_unless_known command slot given ask false links link about is same =
-    one_change command slot given about links ∙ changed_alike (open_link_commanded command slot) (link_after (ProcedureAsked ask)) 0 given links link is same
+    → open_link_commanded command moment link ≡ link_after_if (ask_unless known ask) link
+    → links_commanded command moment links ≡ (if known then links else links_asked given ask links)
+asked_unless_known command moment given ask true links link about is same =
+    one_change command moment given about links ∙ changed_alike (open_link_commanded command moment) (λ l. l) 0 given links link is same ∙ changed_none 0 given links
+asked_unless_known command moment given ask false links link about is same =
+    one_change command moment given about links ∙ changed_alike (open_link_commanded command moment) (link_after (ProcedureAsked ask)) 0 given links link is same
 
-pub version_asked : (handle slot : ℕ) (links : Links) (link : OpenLink) → link_at handle links ≡ Some link
-    → links_commanded (ReadRemoteVersion handle) slot links ≡ (if is_some (facts_in link).peer.version then links else links_asked handle Version links)
-version_asked handle slot links link is =
-    asked_unless_known (ReadRemoteVersion handle) slot handle Version (is_some (facts_in link).peer.version) links link (λ h. refl) is refl
+pub version_asked : (handle : ℕ) (moment : Moment) (links : Links) (link : OpenLink) → link_at handle links ≡ Some link
+    → links_commanded (ReadRemoteVersion handle) moment links ≡ (if is_some (facts_in link).peer.version then links else links_asked handle Version links)
+version_asked handle moment links link is =
+    asked_unless_known (ReadRemoteVersion handle) moment handle Version (is_some (facts_in link).peer.version) links link (λ h. refl) is refl
 
-pub features_asked : (handle slot : ℕ) (links : Links) (link : OpenLink) → link_at handle links ≡ Some link
-    → links_commanded (LeReadRemoteFeatures handle) slot links ≡ (if is_some (facts_in link).peer.features then links else links_asked handle Features links)
-features_asked handle slot links link is =
-    asked_unless_known (LeReadRemoteFeatures handle) slot handle Features (is_some (facts_in link).peer.features) links link (λ h. refl) is refl
+pub features_asked : (handle : ℕ) (moment : Moment) (links : Links) (link : OpenLink) → link_at handle links ≡ Some link
+    → links_commanded (LeReadRemoteFeatures handle) moment links ≡ (if is_some (facts_in link).peer.features then links else links_asked handle Features links)
+features_asked handle moment links link is =
+    asked_unless_known (LeReadRemoteFeatures handle) moment handle Features (is_some (facts_in link).peer.features) links link (λ h. refl) is refl
 
-pub update_asked : (handle slot min max latency timeout : ℕ) (lengths : List ℕ) (links : Links) (link : OpenLink) → link_at handle links ≡ Some link
-    → links_commanded (LeConnectionUpdate handle min max latency timeout lengths) slot links ≡ links_asked handle (update_by link.setup.link.role min max latency timeout) links
-update_asked handle slot min max latency timeout lengths links link is =
-    asked_unless_known (LeConnectionUpdate handle min max latency timeout lengths) slot handle (update_by link.setup.link.role min max latency timeout) false links link
+pub update_asked : (handle : ℕ) (moment : Moment) (min max latency timeout : ℕ) (lengths : List ℕ) (links : Links) (link : OpenLink) → link_at handle links ≡ Some link
+    → links_commanded (LeConnectionUpdate handle min max latency timeout lengths) moment links ≡ links_asked handle (update_by link.setup.link.role min max latency timeout) links
+update_asked handle moment min max latency timeout lengths links link is =
+    asked_unless_known (LeConnectionUpdate handle min max latency timeout lengths) moment handle (update_by link.setup.link.role min max latency timeout) false links link
     (λ h. refl) is refl
 
 -- ---- a map, on all links
 
-map_one : (map slot : ℕ) (link : OpenLink) → open_link_commanded (LeSetChannels map) slot link ≡ link_asked_map map link
-map_one map slot link = by link.setup.link.role
+map_one : (map : ℕ) (moment : Moment) (link : OpenLink) → open_link_commanded (LeSetChannels map) moment link ≡ link_asked_map map link
+map_one map moment link = by link.setup.link.role
   where
     by : (role : Role) → link_after_if (map_by role map) link ≡ asked_map_by role map link
     by Central = refl
     by Peripheral = refl
 
-map_place : (map slot : ℕ) (place : Option OpenLink) → option_map (open_link_commanded (LeSetChannels map) slot) place ≡ option_map (link_asked_map map) place
-map_place map slot None = refl
-map_place map slot (Some link) = ap Some (map_one map slot link)
+map_place : (map : ℕ) (moment : Moment) (place : Option OpenLink) → option_map (open_link_commanded (LeSetChannels map) moment) place ≡ option_map (link_asked_map map) place
+map_place map moment None = refl
+map_place map moment (Some link) = ap Some (map_one map moment link)
 
-map_from : (map slot first : ℕ) (links : Links) → links_commanded_from first (LeSetChannels map) slot links ≡ links_asked_map map links
-map_from map slot first [] = refl
-map_from map slot first (place ∷ links) = λ i. map_place map slot place i ∷ map_from map slot (first + 1) links i
+map_from : (map : ℕ) (moment : Moment) (first : ℕ) (links : Links) → links_commanded_from first (LeSetChannels map) moment links ≡ links_asked_map map links
+map_from map moment first [] = refl
+map_from map moment first (place ∷ links) = λ i. map_place map moment place i ∷ map_from map moment (first + 1) links i
 
-pub map_asked : (map slot : ℕ) (links : Links) → links_commanded (LeSetChannels map) slot links ≡ links_asked_map map links
-map_asked map slot links = map_from map slot 0 links
+pub map_asked : (map : ℕ) (moment : Moment) (links : Links) → links_commanded (LeSetChannels map) moment links ≡ links_asked_map map links
+map_asked map moment links = map_from map moment 0 links

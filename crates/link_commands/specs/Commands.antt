@@ -1,24 +1,25 @@
 -- Which step of a link an accepted command makes (Core 5.2, volume 4 part E, sections 7.1 and 7.8; volume 6 part B,
 -- section 5.1).
-use Rattle.std.specs.Prelude.{ℕ, ◌+◌, ◌-◌, ◌/◌, ◌%◌, ◌==◌, ◌<◌, min, Bool, true, false, List, [], ◌∷◌, Option, Some, None, Ok, Err, is_some, if◌then◌else◌, ⊤}
+use Rattle.std.specs.Prelude.{ℕ, ◌+◌, ◌-◌, ◌/◌, ◌%◌, ◌==◌, ◌<◌, min, Bool, true, false, List, [], ◌∷◌, reverse, Option, Some, None, Ok, Err, is_some, if◌then◌else◌, ⊤}
 use Rattle.ble_base.specs.ChannelMap.{IsMap}
 use Rattle.ble_base.specs.declared.procedure_kinds.Kind.{Kind}
-use Rattle.ble_base.specs.declared.procedure_kinds.Kind.TheVariants.{Features as features_kind, Length as length_kind, Phy as phy_kind, Version as version_kind}
+use Rattle.ble_base.specs.declared.procedure_kinds.Kind.TheVariants.{Encrypt as encrypt_kind, Features as features_kind, Length as length_kind, Phy as phy_kind, Version as version_kind}
 use Rattle.ble_base.specs.declared.roles.Role.{Role}
 use Rattle.ble_base.specs.declared.roles.Role.TheVariants.{Central, Peripheral}
 use Rattle.hci_cmd.specs.declared.command.Command.{Command}
-use Rattle.hci_cmd.specs.declared.command.Command.TheVariants.{Disconnect, LeConnectionUpdate, LeParamNegative, LeParamReply, LeReadRemoteFeatures, LeSetChannels, LeSetDataLength, LeSetPhy, ReadRemoteVersion}
+use Rattle.hci_cmd.specs.declared.command.Command.TheVariants.{Disconnect, LeConnectionUpdate, LeEnableEncryption, LeKeyNegative, LeKeyReply, LeParamNegative, LeParamReply, LeReadRemoteFeatures, LeSetChannels, LeSetDataLength, LeSetPhy, ReadRemoteVersion}
 use Rattle.open_links.specs.procedure_values.declared.asks.Ask.{Ask}
-use Rattle.open_links.specs.procedure_values.declared.asks.Ask.TheVariants.{Features, Length, Map, Phy, Request, Update, Version}
+use Rattle.open_links.specs.procedure_values.declared.asks.Ask.TheVariants.{Encrypt, Features, Length, Map, Phy, Request, Update, Version}
 use Rattle.open_links.specs.procedure_values.Wants.{IsAsk}
 use Rattle.open_links.specs.link_model.declared.state.PeerFacts.{PeerFacts}
 use Rattle.open_links.specs.link_model.End.{facts_after}
 use Rattle.open_links.specs.link_model.Facts.{Facts}
 use Rattle.open_links.specs.link_model.Setup.{Setup}
-use Rattle.open_links.specs.link_model.Step.{Step, Disconnected, ProcedureAsked, RequestAnswered}
+use Rattle.open_links.specs.link_model.Step.{Step, Disconnected, KeyAnswered, ProcedureAsked, RequestAnswered}
 use Rattle.host_view.specs.declared.links.Link.{Link}
 use Rattle.host_view.specs.Links.{update_kind}
 use Rattle.host_view.specs.Changes.{answered, asking}
+use Rattle.link_commands.specs.declared.moments.Moment.{Moment}
 
 -- ---- which step it is, by the role of the end and by what it knows of its peer
 
@@ -41,22 +42,28 @@ abbrev pub map_by : Role → ℕ → Option Step
 map_by Central map = Some (ProcedureAsked (Map map))
 map_by Peripheral map = None
 
--- the step, if there is one: a Disconnect is accepted in this slot. The reason for which a host refuses a request has one
--- octet (volume 4 part E, section 7.8.32)
-abbrev pub host_step_of : Command → ℕ → Role → PeerFacts → Option Step
-host_step_of (Disconnect handle reason) slot role peer = Some (Disconnected (record { 0 = reason }) slot)
-host_step_of (ReadRemoteVersion handle) slot role peer = ask_unless (is_some peer.version) Version
-host_step_of (LeReadRemoteFeatures handle) slot role peer = ask_unless (is_some peer.features) Features
-host_step_of (LeSetDataLength handle octets time) slot role peer =
+-- the step, if there is one. The reason for which a host refuses a request has one octet (volume 4 part E, section
+-- 7.8.32). A key of a host has its least significant octet first (sections 7.8.24 and 7.8.25), and one of a link its most
+-- significant one
+abbrev pub host_step_of : Command → Moment → Role → PeerFacts → Option Step
+host_step_of (Disconnect handle reason) moment role peer = Some (Disconnected (record { 0 = reason }) moment.slot)
+host_step_of (ReadRemoteVersion handle) moment role peer = ask_unless (is_some peer.version) Version
+host_step_of (LeReadRemoteFeatures handle) moment role peer = ask_unless (is_some peer.features) Features
+host_step_of (LeSetDataLength handle octets time) moment role peer =
     Some (ProcedureAsked (Length (transmit_maximum octets time)))
-host_step_of (LeConnectionUpdate handle min max latency timeout lengths) slot role peer =
+host_step_of (LeConnectionUpdate handle min max latency timeout lengths) moment role peer =
     Some (ProcedureAsked (update_by role min max latency timeout))
-host_step_of (LeSetChannels map) slot role peer = map_by role map
-host_step_of (LeSetPhy handle all tx rx options) slot role peer = Some (ProcedureAsked Phy)
-host_step_of (LeParamReply handle min max latency timeout lengths) slot role peer =
+host_step_of (LeSetChannels map) moment role peer = map_by role map
+host_step_of (LeSetPhy handle all tx rx options) moment role peer = Some (ProcedureAsked Phy)
+host_step_of (LeParamReply handle min max latency timeout lengths) moment role peer =
     Some (RequestAnswered (Ok (Update max latency timeout)))
-host_step_of (LeParamNegative handle reason) slot role peer = Some (RequestAnswered (Err (record { 0 = reason % 256 })))
-host_step_of other slot role peer = None
+host_step_of (LeParamNegative handle reason) moment role peer =
+    Some (RequestAnswered (Err (record { 0 = reason % 256 })))
+host_step_of (LeEnableEncryption handle rand ediv key) moment role peer =
+    Some (ProcedureAsked (Encrypt rand ediv (reverse key) moment.skd_m moment.iv_m))
+host_step_of (LeKeyReply handle key) moment role peer = Some (KeyAnswered (Some (reverse key)) moment.slot)
+host_step_of (LeKeyNegative handle) moment role peer = Some (KeyAnswered None moment.slot)
+host_step_of other moment role peer = None
 
 -- the host asks for what the end may know already (volume 4 part E, sections 7.1.23 and 7.8.21)
 abbrev pub is_read_of_peer : Command → Bool
@@ -77,31 +84,34 @@ is_about handle (LeSetChannels map) = true
 is_about handle (LeSetPhy given all tx rx options) = given == handle
 is_about handle (LeParamReply given min max latency timeout lengths) = given == handle
 is_about handle (LeParamNegative given reason) = given == handle
+is_about handle (LeEnableEncryption given rand ediv key) = given == handle
+is_about handle (LeKeyReply given key) = given == handle
+is_about handle (LeKeyNegative given) = given == handle
 is_about handle other = false
 
 abbrev pub step_if_about : Bool → Option Step → Option Step
 step_if_about about step = if about then step else None
 
-abbrev pub step_on : ℕ → Command → ℕ → Role → PeerFacts → Option Step
-step_on handle command slot role peer = step_if_about (is_about handle command) (host_step_of command slot role peer)
+abbrev pub step_on : ℕ → Command → Moment → Role → PeerFacts → Option Step
+step_on handle command moment role peer = step_if_about (is_about handle command) (host_step_of command moment role peer)
 
 -- the steps on all links, each with its handle; `peer_of` is what the end under a handle knows of its peer
 abbrev pub with_host_step : ℕ → Option Step → List (ℕ × Step) → List (ℕ × Step)
 with_host_step handle None steps = steps
 with_host_step handle (Some step) steps = (handle, step) ∷ steps
 
-abbrev pub step_on_open : ℕ → Command → ℕ → Option Link → (ℕ → PeerFacts) → Option Step
-step_on_open handle command slot None peer_of = None
-step_on_open handle command slot (Some link) peer_of = step_on handle command slot link.role (peer_of handle)
+abbrev pub step_on_open : ℕ → Command → Moment → Option Link → (ℕ → PeerFacts) → Option Step
+step_on_open handle command moment None peer_of = None
+step_on_open handle command moment (Some link) peer_of = step_on handle command moment link.role (peer_of handle)
 
-abbrev pub host_steps_from : ℕ → Command → ℕ → List (Option Link) → (ℕ → PeerFacts) → List (ℕ × Step)
-host_steps_from handle command slot [] peer_of = []
-host_steps_from handle command slot (link ∷ links) peer_of =
-    with_host_step handle (step_on_open handle command slot link peer_of)
-    (host_steps_from (handle + 1) command slot links peer_of)
+abbrev pub host_steps_from : ℕ → Command → Moment → List (Option Link) → (ℕ → PeerFacts) → List (ℕ × Step)
+host_steps_from handle command moment [] peer_of = []
+host_steps_from handle command moment (link ∷ links) peer_of =
+    with_host_step handle (step_on_open handle command moment link peer_of)
+    (host_steps_from (handle + 1) command moment links peer_of)
 
-abbrev pub host_steps : Command → ℕ → List (Option Link) → (ℕ → PeerFacts) → List (ℕ × Step)
-host_steps command slot links peer_of = host_steps_from 0 command slot links peer_of
+abbrev pub host_steps : Command → Moment → List (Option Link) → (ℕ → PeerFacts) → List (ℕ × Step)
+host_steps command moment links peer_of = host_steps_from 0 command moment links peer_of
 
 -- ---- how the view of its link changes
 
@@ -115,6 +125,9 @@ link_accepted (LeConnectionUpdate handle min max latency timeout lengths) link =
 link_accepted (LeSetPhy handle all tx rx options) link = asking phy_kind link
 link_accepted (LeParamReply handle min max latency timeout lengths) link = record link { waits_for_parameters = false }
 link_accepted (LeParamNegative handle reason) link = record link { waits_for_parameters = false }
+link_accepted (LeEnableEncryption handle rand ediv key) link = asking encrypt_kind link
+link_accepted (LeKeyReply handle key) link = record link { waits_for_key = false }
+link_accepted (LeKeyNegative handle) link = record link { waits_for_key = false }
 link_accepted other link = link
 
 -- what is answered at once is no longer asked for

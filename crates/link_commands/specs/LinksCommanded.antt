@@ -9,6 +9,7 @@ use Rattle.open_links.specs.link_model.Step.{Step}
 use Rattle.open_links.specs.OpenLinks.{Links, OpenLink, facts_in, link_after, link_at}
 use Rattle.host_view.specs.View.{View}
 use Rattle.host_view.specs.Changes.{view_after}
+use Rattle.link_commands.specs.declared.moments.Moment.{Moment}
 use Rattle.link_commands.specs.Commands.{host_step_of, is_about}
 use Rattle.link_commands.specs.Views.{events_at_once, kind_known, view_answered}
 
@@ -19,22 +20,22 @@ abbrev pub link_after_if : Option Step → OpenLink → OpenLink
 link_after_if None link = link
 link_after_if (Some step) link = link_after step link
 
-abbrev pub open_link_commanded : Command → ℕ → OpenLink → OpenLink
-open_link_commanded command slot link =
-    link_after_if (host_step_of command slot link.setup.link.role (facts_in link).peer) link
+abbrev pub open_link_commanded : Command → Moment → OpenLink → OpenLink
+open_link_commanded command moment link =
+    link_after_if (host_step_of command moment link.setup.link.role (facts_in link).peer) link
 
-abbrev pub place_commanded : Bool → Command → ℕ → Option OpenLink → Option OpenLink
-place_commanded about command slot place = if about then option_map (open_link_commanded command slot) place else place
+abbrev pub place_commanded : Bool → Command → Moment → Option OpenLink → Option OpenLink
+place_commanded about command moment place = if about then option_map (open_link_commanded command moment) place else place
 
 -- the links from this handle on
-abbrev pub links_commanded_from : ℕ → Command → ℕ → Links → Links
-links_commanded_from handle command slot [] = []
-links_commanded_from handle command slot (place ∷ links) =
-    place_commanded (is_about handle command) command slot place
-    ∷ links_commanded_from (handle + 1) command slot links
+abbrev pub links_commanded_from : ℕ → Command → Moment → Links → Links
+links_commanded_from handle command moment [] = []
+links_commanded_from handle command moment (place ∷ links) =
+    place_commanded (is_about handle command) command moment place
+    ∷ links_commanded_from (handle + 1) command moment links
 
-abbrev pub links_commanded : Command → ℕ → Links → Links
-links_commanded command slot links = links_commanded_from 0 command slot links
+abbrev pub links_commanded : Command → Moment → Links → Links
+links_commanded command moment links = links_commanded_from 0 command moment links
 
 -- ---- the view
 

@@ -1,13 +1,11 @@
 -- The anchors of an end: what it does between two of them, and how far apart they are (Core 5.2, volume 6 part B, section
 -- 4.5.1).
-use Rattle.std.proofs.Common.{◌≡◌, ℕ, ◌+◌, ◌≤◌, ◌==◌, ◌&&◌, nat_lt, Bool, true, false, List, [], ◌∷◌, Option, Some, None, IfSome, is_none, refl, ap, sym, ◌∙◌, subst, arith, if◌then◌else◌}
-use Rattle.std.specs.List.{AllByRecursion}
+use Rattle.std.proofs.Common.{◌≡◌, ℕ, ◌+◌, ◌≤◌, ◌==◌, ◌&&◌, nat_lt, Bool, true, false, Option, Some, None, IfSome, is_none, refl, ap, sym, ◌∙◌, subst, arith, if◌then◌else◌}
+use Rattle.std.specs.Bool.{⊤}
 use Rattle.std.proofs.lemmas.Bool.{ne_eqb}
-use Rattle.ble_base.specs.ErrorCodes.{mic_failure}
 use Rattle.ble_base.specs.declared.error_codes.ErrCode.{ErrCode}
 use Rattle.ble_base.specs.declared.roles.Role.{Role}
 use Rattle.ble_base.specs.declared.roles.Role.TheVariants.{Central, Peripheral}
-use Rattle.data_pdu.specs.declared.ctrl.Ctrl.{Ctrl}
 use Rattle.instants.specs.Track.{TrackFacts, event_of, gap_ahead, is_due, next_anchor_of, spacing_of, track_after_enter, track_after_take, track_changed, track_in_next, track_unchanged}
 use Rattle.instants.specs.Parameters.{params_after}
 use Rattle.instants.specs.declared.indications.Indication.{Indication}
@@ -21,27 +19,17 @@ use Rattle.procedures.specs.Going.{is_answer}
 use Rattle.procedures.specs.Table.{TableFacts}
 use Rattle.procedures.specs.Taking.{took_step}
 use Rattle.two_tracks.specs.TwoEnds.{HasSlots, MayIndicate, MayIndicateIf, TwoEnds, beginning, change_of}
-use Rattle.link_end.specs.control_model.Control.{Control, Step as ControlStep, Answers, Asks, Disconnects, Enters, Owes, SeesAcknowledged, Sends, Takes, after, after_all, ended, following, goes_out, indicated_by, is_to_come, moved, table_if, taken, went}
+use Rattle.link_end.specs.control_model.Control.{Control, Step as ControlStep, Answers, Asks, Disconnects, Enters, Owes, SeesAcknowledged, Sends, Takes, after, following, goes_out, indicated_by, is_to_come, moved, table_if, taken, went}
 use Rattle.link_end.proofs.control_model.Calls.{any_step, either_way}
 use Rattle.link_end.proofs.control_model.Indicating.{Indicates}
 use Rattle.link_end.proofs.control_model.Sending.{may_of, own_of, owned}
 use Rattle.link_end.specs.link_model.Setup.{Setup}
-use Rattle.link_end.specs.link_model.Facts.{Facts, keyed_of}
+use Rattle.link_end.specs.link_model.Facts.{Facts}
 use Rattle.link_end.specs.link_model.Controls.{goes_on}
 use Rattle.link_end.specs.link_model.End.{facts_after}
-use Rattle.link_end.specs.link_model.KeyedSteps.{is_forged_in_step, keyed_steps_in}
 use Rattle.link_end.specs.link_model.Step.{Step, EventEntered}
-use Rattle.link_end.specs.link_model.keyed_control.Keyed.{Keyed}
-use Rattle.link_end.specs.link_model.keyed_control.KeyedSteps.{KeyedStep, Enters as keyed_enters, Takes as keyed_takes, keyed_after, keyed_after_all, phased_step}
-use Rattle.link_end.specs.link_model.phased_control.Phased.{Phased}
-use Rattle.link_end.specs.link_model.phased_control.Steps.{control_steps, end_by_phase, ended_if}
-use Rattle.link_end.specs.link_model.phased_control.Taken.{PhasedStep, Answers as phased_answers, Asks as phased_asks, Disconnects as phased_disconnects, Enters as phased_enters, GivesKey, LacksKey, SeesAcknowledged as phased_sees_acknowledged, Sends as phased_sends, Takes as phased_takes, TakesData as phased_takes_data, phased_moved}
-use Rattle.link_end.proofs.link_model.KeyedSteps.{forged_ends, one_step}
-use Rattle.link_end.proofs.link_model.KeyedPasts.{over}
-use Rattle.link_end.proofs.link_model.phased_end.keyed_control.Phases.{after_one, phased_once}
-use Rattle.link_end.proofs.link_model.phased_end.keyed_control.phased_control.Moving.{open_moves}
+use Rattle.open_links.proofs.EndSteps.{is_entry, step_keeps}
 use Rattle.open_links.proofs.Intervals.{HasIntervals, changed_interval, enters_track}
-use Rattle.open_links.proofs.PhasedSteps.{Own, controls_all, is_other, steps_all}
 
 -- ---- the next anchor is at least 6 slots after the last one
 
@@ -133,10 +121,6 @@ by_taken t g None None c is = is
 by_taken t g None (Some indication) c is =
     either_way (StaysIn t) (is_to_come c.track indication) _ _ (record { entered = is.entered; anchor = is.anchor }) is
 
-abbrev is_entry : ControlStep → Bool
-is_entry (Enters slot quiet) = true
-is_entry other = false
-
 by_moved : (t : TrackFacts) (step : ControlStep) (c : Control) → is_entry step ≡ false → StaysIn t c → StaysIn t (moved step c)
 by_moved t (Enters slot quiet) c none is = absurd cc
 by_moved t (Asks ask) c none is = is
@@ -150,102 +134,17 @@ by_moved t (Takes read slot quiet) c none is =
     let step = took_step c.table read slot quiet in by_taken t step.0 step.1.ends (indicated_by step.1.effect) c is
 by_moved t (Owes ctrl) c none is = is
 
--- no event is entered in this step
-abbrev NoEntry : ControlStep → Type 0
-NoEntry step = is_entry step ≡ false
-
-owes_none : (ctrl : Ctrl) → NoEntry (Owes ctrl)
-owes_none ctrl = refl
-
-all_stay : (t : TrackFacts) (steps : List ControlStep) (c : Control) → AllByRecursion NoEntry steps → StaysIn t c → StaysIn t (after_all steps c)
-all_stay t [] c none is = is
-all_stay t (step ∷ steps) c none is = all_stay t steps (after step c) none.1 (any_step (StaysIn t) step c (by_moved t step c none.0 is) is)
-
-ends_in : (t : TrackFacts) (ends : Option ErrCode) (c : Control) → StaysIn t c → StaysIn t (ended_if ends c)
-ends_in t None c is = is
-ends_in t (Some code) c is = is
-
-abbrev is_entering : Option PhasedStep → Bool
-is_entering (Some (phased_enters slot)) = true
-is_entering other = false
-
-abbrev IsNoEntry : KeyedStep → Type 0
-IsNoEntry step = is_entering (phased_step step) ≡ false
-
-own_none : (step : PhasedStep) (s : Phased) → is_entering (Some step) ≡ false → Own NoEntry owes_none step s
-own_none (phased_enters slot) s none = absurd cc
-own_none (phased_asks ask) s none = refl
-own_none (phased_answers answer) s none = refl
-own_none GivesKey s none = tt
-own_none LacksKey s none = tt
-own_none (phased_disconnects reason) s none = refl
-own_none (phased_sends slot) s none = refl
-own_none phased_sees_acknowledged s none = refl
-own_none (phased_takes read slot response) s none = (refl, λ ctrl. λ kept. refl)
-own_none phased_takes_data s none = tt
-
-module _ (t : TrackFacts) where
-  abbrev StaysAt : Phased → Type 0
-  StaysAt s = StaysIn t s.control
-
-  moved_stays : (step : PhasedStep) (s : Phased) → is_entering (Some step) ≡ false → StaysAt s → StaysAt (phased_moved step s)
-  moved_stays step s none is =
-      subst (StaysIn t) (sym (open_moves step s))
-      (ends_in t (end_by_phase step s) _
-      (all_stay t (control_steps step s) s.control (controls_all NoEntry owes_none step s (own_none step s none)) is))
-
-  after_stays : (goes : Bool) (step : PhasedStep) (s : Phased) → is_entering (Some step) ≡ false → StaysAt s
-      → StaysAt (if goes then phased_moved step s else s)
-  after_stays true step s none is = moved_stays step s none is
-  after_stays false step s none is = is
-
-  once_stays : (step : Option PhasedStep) (s : Phased) → is_entering step ≡ false → StaysAt s → StaysAt (after_one step s)
-  once_stays None s none is = is
-  once_stays (Some step) s none is = after_stays (is_none s.control.ends) step s none is
-
-  keyed_stays : (steps : List KeyedStep) (k : Keyed) → AllByRecursion IsNoEntry steps → StaysAt k.phased → StaysAt (keyed_after_all steps k).phased
-  keyed_stays [] k none is = is
-  keyed_stays (step ∷ steps) k none is =
-      keyed_stays steps (keyed_after step k) none.1
-      (subst StaysAt (sym (phased_once step k)) (once_stays (phased_step step) k.phased none.0 is))
-
-  -- a forged packet ends the link
-  forged_stays : (goes : Bool) (c : Control) → StaysIn t c → StaysIn t (if goes then ended (record { 0 = mic_failure }) c else c)
-  forged_stays true c is = is
-  forged_stays false c is = is
-
 abbrev pub enters : Step → Bool
 enters (EventEntered slot) = true
 enters other = false
 
-other_none : (step : KeyedStep) → is_other step ≡ true → IsNoEntry step
-other_none (keyed_enters slot) is = absurd cc
-other_none (keyed_takes read slot response) is = absurd cc
-other_none step is = refl
-
-no_entry : (setup : Setup) (facts : Facts) (step : Step) → enters step ≡ false → AllByRecursion IsNoEntry (keyed_steps_in setup facts step)
-no_entry setup facts step none =
-    steps_all IsNoEntry other_none (λ pdu. λ slot. λ response. refl) setup facts step
-    (λ slot. λ is. let no : ◌≡◌ {A = Bool} true false = sym (ap enters is) ∙ none in absurd cc)
-
--- the session of the end is in the phase of its procedures
-abbrev pub IsInPhase : Facts → Type 0
-IsInPhase facts = facts.encryption.end.phase ≡ facts.encryption.phase
-
-pub stays_in_place : (setup : Setup) (facts : Facts) (step : Step) → IsInPhase facts → enters step ≡ false
+pub stays_in_place : (setup : Setup) (facts : Facts) (step : Step) → enters step ≡ false
     → IsInPlace facts.control.track (facts_after setup facts step).control.track
-stays_in_place setup facts step phase none = by (is_forged_in_step setup facts step) refl
-  where
-    t : TrackFacts
-    t = facts.control.track
-
-    by : (forged : Bool) → is_forged_in_step setup facts step ≡ forged → IsInPlace t (facts_after setup facts step).control.track
-    by true is =
-        subst (λ (f : Facts). StaysIn t f.control) (sym (forged_ends setup facts step is))
-        (forged_stays t (is_none facts.control.ends) facts.control (in_place t))
-    by false is =
-        subst (λ (k : Keyed). StaysIn t k.phased.control) (sym (one_step setup facts step phase is))
-        (keyed_stays t (keyed_steps_in setup facts step) (keyed_of facts) (no_entry setup facts step none) (in_place t))
+stays_in_place setup facts step none =
+    let t = facts.control.track in
+    step_keeps (StaysIn t) (λ (step : ControlStep). is_entry step ≡ false) (λ step. λ is. is)
+    (λ step. λ c. λ other. λ is. any_step (StaysIn t) step c (by_moved t step c other is) is) (λ code. λ c. λ is. is) setup facts step
+    (λ slot. λ is. let no : ◌≡◌ {A = Bool} true false = sym (ap enters is) ∙ none in absurd cc) (in_place t)
 
 -- ---- an indication that a central sends leaves the next anchor, or moves it on: its Instant is ahead
 
@@ -319,24 +218,15 @@ sent_later c slot quiet central =
 
 -- ---- an end whose procedures ended the link does not go on
 
-over_before : (c : Control) (goes : Bool) → is_none c.ends ≡ goes → is_none (if goes then ended (record { 0 = mic_failure }) c else c).ends ≡ true → goes ≡ true
-over_before c true at is = refl
-over_before c false at is = sym at ∙ is
+abbrev WentOn : Control → Control → Type 0
+WentOn before c = is_none c.ends ≡ true → is_none before.ends ≡ true
 
-went_before : (steps : List KeyedStep) (k : Keyed) (ends : Option ErrCode) → k.phased.control.ends ≡ ends
-    → is_none (keyed_after_all steps k).phased.control.ends ≡ true → is_none ends ≡ true
-went_before steps k None at is = refl
-went_before steps k (Some code) at is =
-    let same = ap (λ (s : Phased). is_none s.control.ends) (over steps k code at).phased ∙ ap (λ (e : Option ErrCode). is_none e) at in
-    let no : ◌≡◌ {A = Bool} false true = sym same ∙ is in
-    absurd cc
+over_by : (b : Bool) (step : ControlStep) (c : Control) → is_none c.ends ≡ b → is_none (if b then moved step c else c).ends ≡ true → is_none c.ends ≡ true
+over_by true step c e is = e
+over_by false step c e is = is
 
-pub went_on : (setup : Setup) (facts : Facts) (step : Step) → IsInPhase facts → goes_on (facts_after setup facts step) ≡ true → goes_on facts ≡ true
-went_on setup facts step phase is = by (is_forged_in_step setup facts step) refl
-  where
-    by : (forged : Bool) → is_forged_in_step setup facts step ≡ forged → goes_on facts ≡ true
-    by true at =
-        over_before facts.control (goes_on facts) refl (ap (λ (f : Facts). goes_on f) (sym (forged_ends setup facts step at)) ∙ is)
-    by false at =
-        went_before (keyed_steps_in setup facts step) (keyed_of facts) facts.control.ends refl
-        (ap (λ (k : Keyed). is_none k.phased.control.ends) (sym (one_step setup facts step phase at)) ∙ is)
+pub went_on : (setup : Setup) (facts : Facts) (step : Step) → goes_on (facts_after setup facts step) ≡ true → goes_on facts ≡ true
+went_on setup facts step =
+    step_keeps (WentOn facts.control) (λ (step : ControlStep). ⊤) (λ step. λ is. tt)
+    (λ step. λ c. λ any. λ went. λ is. went (over_by (is_none c.ends) step c refl is)) (λ code. λ c. λ went. λ is. absurd cc) setup facts step
+    (λ slot. λ is. tt) (λ is. is)

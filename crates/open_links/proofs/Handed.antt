@@ -1,19 +1,16 @@
 -- An indication that an end takes from the peer leaves an interval of at least 6 slots (Core 5.2, volume 6 part B,
 -- sections 2.4.2.1 and 4.5.1).
-use Rattle.std.proofs.Common.{◌≡◌, ◌≤◌, ℕ, Bool, true, false, ◌&&◌, ◌||◌, ◌==◌, length, sum, if◌then◌else◌, List, [], ◌∷◌, Option, Some, None, IfSome, is_some, refl, sym, subst}
+use Rattle.std.proofs.Common.{◌≤◌, ℕ, Bool, true, false, ◌||◌, if◌then◌else◌, Option, Some, None, IfSome, is_some}
 use Rattle.std.specs.Bool.{⊤}
-use Rattle.std.proofs.lemmas.Bool.{and_parts}
 use Rattle.ble_base.specs.declared.error_codes.ErrCode.{ErrCode}
 use Rattle.ble_base.specs.declared.procedure_kinds.Kind.{Kind}
 use Rattle.ble_base.specs.declared.procedure_kinds.Kind.TheVariants.{Map as map_kind, Phy, Request}
-use Rattle.data_pdu.specs.Layouts.{Maker, makers}
-use Rattle.data_pdu.specs.Ranges.{IsInRange, is_in_range}
-use Rattle.data_pdu.specs.Reading.{IfKnown, blank_of, ctrl_by, ctrl_of, maker_in, read_by, widths_of}
+use Rattle.data_pdu.specs.Ranges.{IsInRange}
+use Rattle.data_pdu.specs.Reading.{IfKnown}
 use Rattle.data_pdu.specs.declared.ctrl.Ctrl.{Ctrl}
 use Rattle.data_pdu.specs.declared.ctrl.Ctrl.TheVariants.{TerminateInd, UnknownRsp, FeatureRsp, VersionInd, RejectInd, RejectExtInd, LengthReq, LengthRsp, ConnectionUpdateInd, ChannelMapInd, EncReq, EncRsp, StartEncReq, StartEncRsp, FeatureReq, PauseEncReq, PauseEncRsp, PeripheralFeatureReq, ConnectionParamReq, PhyReq, PhyRsp, PhyUpdateInd}
 use Rattle.data_pdu.specs.declared.ctrl.CtrlRead.{CtrlRead}
 use Rattle.data_pdu.specs.declared.ctrl.CtrlRead.TheVariants.{Known, Unknown, Bare}
-use Rattle.data_pdu.proofs.RangeTests.{range_is_tested}
 use Rattle.procedures.specs.procedure_values.Values.{are_valid}
 use Rattle.procedures.specs.procedure_stages.Awaited.{awaits_features, awaits_lengths}
 use Rattle.procedures.specs.procedure_stages.Collisions.{collision}
@@ -40,28 +37,10 @@ use Rattle.two_tracks.specs.TwoEnds.{HasSlots}
 use Rattle.link_end.specs.control_model.Control.{indicated_by}
 use Rattle.link_end.specs.link_model.Acknowledgement.{Pdu}
 use Rattle.link_end.specs.link_model.Controls.{read_of}
-use Rattle.link_end.proofs.link_model.Views.{AsRead, AsUnknown, SeenAs, reading_view}
+use Rattle.link_end.proofs.link_model.ReadRanges.{read_range}
 
--- ---- what is read of a body is in its range
+-- ---- what is read of a body is in its range (`ReadRanges` of link_model), so an interval is at least 6 slots
 
-tested : (make : Maker) (opcode : ℕ) (pdu : List ℕ) (fits : Bool)
-    → (fits ≡ true → IsInRange (ctrl_by make pdu))
-    → IfKnown (if fits then Known (ctrl_by make pdu) else Unknown opcode) IsInRange
-tested make opcode pdu true is = is refl
-tested make opcode pdu false is = tt
-
-read_by_range : (make : Option Maker) (opcode : ℕ) (pdu : List ℕ) → IfKnown (read_by make opcode pdu) IsInRange
-read_by_range None opcode pdu = tt
-read_by_range (Some make) opcode pdu =
-    tested make opcode pdu ((length pdu == sum (widths_of (blank_of make))) && is_in_range (ctrl_by make pdu))
-    (λ fits. (range_is_tested (ctrl_by make pdu)).0 (and_parts (length pdu == sum (widths_of (blank_of make))) (is_in_range (ctrl_by make pdu)) fits).1)
-
-ctrl_range : (pdu : List ℕ) → IfKnown (ctrl_of pdu) IsInRange
-unfolding ctrl_of
-ctrl_range [] = tt
-ctrl_range (opcode ∷ rest) = read_by_range (maker_in makers opcode) opcode (opcode ∷ rest)
-
--- so an interval is at least 6 slots
 abbrev pub HasInterval : Ctrl → Type 0
 HasInterval (ConnectionUpdateInd win_size win_offset interval latency timeout instant) = 6 ≤ interval
 HasInterval ctrl = ⊤
@@ -75,14 +54,8 @@ read_interval (Known ctrl) is = range_interval ctrl is
 read_interval (Unknown opcode) is = tt
 read_interval Bare is = tt
 
--- whatever the phase of encryption makes of it
-seen_interval : (read seen : CtrlRead) → SeenAs read seen → IfKnown read HasInterval → IfKnown seen HasInterval
-seen_interval read seen (AsRead is) has = subst (λ (other : CtrlRead). IfKnown other HasInterval) (sym is) has
-seen_interval read seen (AsUnknown ctrl named read_is is) has = subst (λ (other : CtrlRead). IfKnown other HasInterval) (sym is) tt
-
 pub pdu_interval : (pdu : Pdu) → IfKnown (read_of pdu) HasInterval
-pdu_interval pdu =
-    seen_interval (ctrl_of pdu.body) (read_of pdu) (reading_view pdu) (read_interval (ctrl_of pdu.body) (ctrl_range pdu.body))
+pdu_interval pdu = read_interval (read_of pdu) (read_range pdu)
 
 -- ---- the indication that an outcome hands on
 

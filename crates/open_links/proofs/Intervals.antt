@@ -2,6 +2,8 @@
 use Rattle.std.proofs.Common.{◌≡◌, ℕ, ◌≤◌, ◌&&◌, Bool, true, false, List, [], ◌∷◌, ◌++◌, Option, Some, None, IfSome, is_none, refl, ap, sym, ◌∙◌, subst, if◌then◌else◌}
 use Rattle.std.specs.Bool.{⊤}
 use Rattle.std.specs.List.{AllByRecursion}
+use Rattle.std.proofs.lemmas.List.{append-nil, append_assoc}
+use Rattle.ble_base.specs.ErrorCodes.{mic_failure}
 use Rattle.ble_base.specs.declared.error_codes.ErrCode.{ErrCode}
 use Rattle.ble_base.specs.declared.roles.Role.{Role}
 use Rattle.ble_base.specs.declared.roles.Role.TheVariants.{Central, Peripheral}
@@ -25,7 +27,7 @@ use Rattle.procedures.specs.Going.{is_answer}
 use Rattle.procedures.specs.Table.{TableFacts}
 use Rattle.procedures.specs.Taking.{took_step}
 use Rattle.two_tracks.specs.TwoEnds.{HasSlots}
-use Rattle.link_end.specs.control_model.Control.{Control, Step as ControlStep, Answers, Asks, Disconnects, Enters, Owes, SeesAcknowledged, Sends, Takes, after, after_all, first_control, following, goes_out, indicated_by, is_to_come, moved, table_if, taken, went}
+use Rattle.link_end.specs.control_model.Control.{Control, Step as ControlStep, Answers, Asks, Disconnects, Enters, Owes, SeesAcknowledged, Sends, Takes, after, after_all, ended, first_control, following, goes_out, indicated_by, is_to_come, moved, table_if, taken, went}
 use Rattle.link_end.specs.control_model.Waits.{AreInRange, IsInRange as IsStepInRange}
 use Rattle.link_end.proofs.control_model.Calls.{any_step, either_way}
 use Rattle.link_end.proofs.control_model.Central.{indicates}
@@ -34,25 +36,27 @@ use Rattle.link_end.proofs.control_model.Moving.{role_after}
 use Rattle.link_end.proofs.control_model.Sending.{OwnsIf, owned}
 use Rattle.link_end.specs.link_model.Acknowledgement.{Pdu}
 use Rattle.link_end.specs.link_model.Setup.{Setup, first_anchor, first_params}
-use Rattle.link_end.specs.link_model.Facts.{Facts, first_facts}
+use Rattle.link_end.specs.link_model.Facts.{Facts, first_facts, keyed_of}
 use Rattle.link_end.specs.link_model.Controls.{goes_on, read_of}
-use Rattle.link_end.specs.link_model.ControlSteps.{AreAsksInRange}
+use Rattle.link_end.specs.link_model.ControlSteps.{AreAsksInRange, IsAskInRange}
 use Rattle.link_end.specs.link_model.End.{facts_after, facts_of}
-use Rattle.link_end.specs.link_model.KeyedSteps.{keyed_steps_from, keyed_steps_in, keyed_steps_of}
+use Rattle.link_end.specs.link_model.KeyedSteps.{is_forged_in_step, keyed_steps_from, keyed_steps_in, keyed_steps_of}
 use Rattle.link_end.specs.link_model.Step.{Step}
 use Rattle.link_end.specs.link_model.enc_phase.declared.classes.PduClass.TheVariants.{Request}
 use Rattle.link_end.specs.link_model.enc_phase.Taking.{ctrl_class, is_unknown}
-use Rattle.link_end.specs.link_model.keyed_control.Keyed.{Keyed}
-use Rattle.link_end.specs.link_model.keyed_control.KeyedSteps.{KeyedStep, Enters as keyed_enters, Takes as keyed_takes, phased_step, phased_steps, step_before}
+use Rattle.link_end.specs.link_model.keyed_control.Keyed.{Keyed, first_keyed}
+use Rattle.link_end.specs.link_model.keyed_control.KeyedSteps.{KeyedStep, Enters as keyed_enters, Takes as keyed_takes, keyed_after_all, phased_step, phased_steps, step_before}
 use Rattle.link_end.specs.link_model.phased_control.Ends.{IsFirst}
 use Rattle.link_end.specs.link_model.phased_control.Phased.{Phased, first_phased}
 use Rattle.link_end.specs.link_model.phased_control.Steps.{all_control_steps, control_steps, steps_now}
 use Rattle.link_end.specs.link_model.phased_control.Taken.{PhasedStep, Response, Takes as phased_takes, class_of_read, phased_after, phased_after_all, role_now, seen_if}
-use Rattle.link_end.proofs.link_model.KeyedPasts.{past_goes, past_in_range}
+use Rattle.link_end.proofs.link_model.KeyedPasts.{over, past_goes, past_in_phase, past_in_range, steps_grow}
+use Rattle.link_end.proofs.link_model.KeyedSteps.{forged_ends, joined, one_step}
+use Rattle.link_end.proofs.link_model.Pasts.{grows}
 use Rattle.link_end.proofs.link_model.phased_end.keyed_control.Phases.{moves as phased_goes}
 use Rattle.link_end.proofs.link_model.phased_end.keyed_control.phased_control.Indicating.{in_range}
 use Rattle.link_end.proofs.link_model.phased_end.keyed_control.phased_control.Kept.{first_now}
-use Rattle.link_end.proofs.link_model.phased_end.keyed_control.phased_control.Moving.{whole}
+use Rattle.link_end.proofs.link_model.phased_end.keyed_control.phased_control.Moving.{but_end, with_end}
 use Rattle.open_links.proofs.Handed.{HasInterval, pdu_interval, took_slots}
 use Rattle.open_links.proofs.PhasedSteps.{Own, both_controls, both_steps, controls_all, is_other, steps_all}
 
@@ -240,50 +244,115 @@ reads_of : (setup : Setup) (past : List Step) → AllByRecursion IsReadWell (key
 unfolding keyed_steps_of
 reads_of setup past = reads_from setup (first_facts setup) past
 
--- ---- an end with a past that goes on
+-- ---- the control part of an end after a past
 
-module _ (setup : Setup) (past : List Step) where
-  abbrev steps_made : List PhasedStep
-  steps_made = phased_steps (keyed_steps_of setup past)
+pub asks_more : (past : List Step) (step : Step) → AreAsksInRange past → IsAskInRange step → AreAsksInRange (past ++ step ∷ [])
+asks_more [] step are is = (is, tt)
+asks_more (first ∷ past) step are is = (are.0, asks_more past step are.1 is)
 
-  abbrev controls_made : List ControlStep
-  controls_made = all_control_steps steps_made (first_phased setup.link.role setup.link.max_rx (first_params setup.link.fields) (first_anchor setup))
+module _ (setup : Setup) where
+  abbrev first_control_part : Control
+  first_control_part = first_control setup.link.role setup.link.max_rx (first_params setup.link.fields) (first_anchor setup)
 
-  none_ends : (ends : Option ErrCode) → is_none ends ≡ true → ends ≡ None
-  none_ends None is = refl
-  none_ends (Some code) is = absurd cc
+  abbrev steps_of : List Step → List PhasedStep
+  steps_of past = phased_steps (keyed_steps_of setup past)
 
-  control_goes : goes_on (facts_of setup past) ≡ true → (facts_of setup past).control
-      ≡ after_all controls_made (first_control setup.link.role setup.link.max_rx (first_params setup.link.fields) (first_anchor setup))
-  control_goes goes =
-      let role = setup.link.role in
-      let most = setup.link.max_rx in
-      let params = first_params setup.link.fields in
-      let anchor = first_anchor setup in
-      let is = ap (λ (k : Keyed). k.phased) (past_goes setup past goes) ∙ phased_goes role most params anchor (keyed_steps_of setup past) in
-      let over = sym (ap (λ (s : Phased). s.control.ends) is) ∙ none_ends (facts_of setup past).control.ends goes in
-      ap (λ (s : Phased). s.control) is ∙ whole role most params anchor steps_made over
+  abbrev first_part : Phased
+  first_part = first_phased setup.link.role setup.link.max_rx (first_params setup.link.fields) (first_anchor setup)
 
-  pub has_intervals : AreFieldsInRange setup.link.fields → AreAsksInRange past → goes_on (facts_of setup past) ≡ true
-      → HasIntervals (facts_of setup past).control.track
-  has_intervals fields asks goes =
-      let role = setup.link.role in
-      let most = setup.link.max_rx in
-      let params = first_params setup.link.fields in
-      let anchor = first_anchor setup in
-      subst Spaced (sym (control_goes goes))
-      (all_spaced role most params anchor fields.parameters.latency_to [] controls_made tt
-      (in_range steps_made (first_phased role most params anchor) (past_in_range setup past asks))
-      (all_well role most params anchor [] steps_made (phased_well (keyed_steps_of setup past) (reads_of setup past)))
-      (record { now = fields.parameters.interval_from; waits = tt }))
+  abbrev controls_of : List Step → List ControlStep
+  controls_of past = all_control_steps (steps_of past) first_part
 
-  pub past_indicates : AreFieldsInRange setup.link.fields → AreAsksInRange past → goes_on (facts_of setup past) ≡ true
-      → role_of (facts_of setup past).control.table.progress ≡ Central → Indicates (facts_of setup past).control
-  past_indicates fields asks goes =
-      let role = setup.link.role in
-      let most = setup.link.max_rx in
-      let params = first_params setup.link.fields in
-      let anchor = first_anchor setup in
-      subst (λ (c : Control). role_of c.table.progress ≡ Central → Indicates c) (sym (control_goes goes))
-      (indicating role most params anchor fields.parameters.latency_to controls_made
-      (in_range steps_made (first_phased role most params anchor) (past_in_range setup past asks)))
+  -- it went by the steps of this past, but for its end: once the end ended the link nothing happens
+  record IsMade (c : Control) : Type 0 where
+    past : List Step
+    asks : AreAsksInRange past
+    is : c ≡ with_end c.ends (after_all (controls_of past) first_control_part)
+
+  forged_made : (goes : Bool) (c : Control) → IsMade c → IsMade (if goes then ended (record { 0 = mic_failure }) c else c)
+  forged_made true c m = record { past = m.past; asks = m.asks; is = ap (ended (record { 0 = mic_failure })) m.is }
+  forged_made false c m = m
+
+  step_made : (front : List Step) (step : Step) → AreAsksInRange (front ++ step ∷ []) → IsMade (facts_of setup front).control
+      → IsMade (facts_after setup (facts_of setup front) step).control
+  step_made front step asks m = by (is_forged_in_step setup facts step) refl
+    where
+      facts : Facts
+      facts = facts_of setup front
+
+      later : Facts
+      later = facts_after setup facts step
+
+      now : List KeyedStep
+      now = keyed_steps_in setup facts step
+
+      goes_further : keyed_of later ≡ keyed_after_all now (keyed_of facts) → goes_on facts ≡ true → IsMade later.control
+      goes_further by_steps goes =
+          let first = first_keyed setup.link.role setup.link.max_rx (first_params setup.link.fields) (first_anchor setup) in
+          let all : keyed_of later ≡ keyed_after_all (keyed_steps_of setup (front ++ step ∷ [])) first =
+          by_steps ∙ ap (keyed_after_all now) (past_goes setup front goes) ∙ sym (joined (keyed_steps_of setup front) now first)
+          ∙ ap (λ (steps : List KeyedStep). keyed_after_all steps first) (sym (steps_grow setup front step)) in
+          let phased = ap (λ (k : Keyed). k.phased) all
+          ∙ phased_goes setup.link.role setup.link.max_rx (first_params setup.link.fields) (first_anchor setup) (keyed_steps_of setup (front ++ step ∷ [])) in
+          let made = after_all (controls_of (front ++ step ∷ [])) first_control_part in
+          record {
+            past = front ++ step ∷ [];
+            asks = asks;
+            is =
+                ap (λ (s : Phased). s.control) phased
+                ∙ but_end setup.link.role setup.link.max_rx (first_params setup.link.fields) (first_anchor setup) (steps_of (front ++ step ∷ []))
+                ∙ ap (λ (ends : Option ErrCode). with_end ends made) (sym (ap (λ (s : Phased). s.control.ends) phased));
+          }
+
+      by_end : (ends : Option ErrCode) → facts.control.ends ≡ ends → keyed_of later ≡ keyed_after_all now (keyed_of facts) → IsMade later.control
+      by_end None at by_steps = goes_further by_steps (ap (λ (e : Option ErrCode). is_none e) at)
+      by_end (Some code) at by_steps =
+          subst IsMade
+          (sym (ap (λ (k : Keyed). k.phased.control) by_steps ∙ ap (λ (s : Phased). s.control) (over now (keyed_of facts) code at).phased)) m
+
+      by : (forged : Bool) → is_forged_in_step setup facts step ≡ forged → IsMade later.control
+      by true is =
+          subst (λ (f : Facts). IsMade f.control) (sym (forged_ends setup facts step is)) (forged_made (is_none facts.control.ends) facts.control m)
+      by false is = by_end facts.control.ends refl (one_step setup facts step (past_in_phase setup front) is)
+
+  more_made : (front more : List Step) → AreAsksInRange front → AreAsksInRange more → IsMade (facts_of setup front).control
+      → IsMade (facts_of setup (front ++ more)).control
+  more_made front [] asks more_asks m = subst (λ (past : List Step). IsMade (facts_of setup past).control) (sym (append-nil front)) m
+  more_made front (step ∷ more) asks more_asks m =
+      let next = asks_more front step asks more_asks.0 in
+      subst (λ (past : List Step). IsMade (facts_of setup past).control) (append_assoc front (step ∷ []) more)
+      (more_made (front ++ step ∷ []) more next more_asks.1
+      (subst (λ (f : Facts). IsMade f.control) (sym (grows setup front step)) (step_made front step next m)))
+
+  first_made : IsMade (facts_of setup []).control
+  unfolding facts_of keyed_steps_of
+  first_made = record { past = []; asks = tt; is = refl }
+
+pub has_intervals : (setup : Setup) (past : List Step) → AreFieldsInRange setup.link.fields → AreAsksInRange past
+    → HasIntervals (facts_of setup past).control.track
+has_intervals setup past fields asks =
+    let m = more_made setup [] past tt asks (first_made setup) in
+    let role = setup.link.role in
+    let most = setup.link.max_rx in
+    let params = first_params setup.link.fields in
+    let anchor = first_anchor setup in
+    subst Spaced (sym m.is)
+    (all_spaced role most params anchor fields.parameters.latency_to [] (controls_of setup m.past) tt
+    (in_range (steps_of setup m.past) (first_part setup) (past_in_range setup m.past m.asks))
+    (all_well role most params anchor [] (steps_of setup m.past) (phased_well (keyed_steps_of setup m.past) (reads_of setup m.past)))
+    (record { now = fields.parameters.interval_from; waits = tt }))
+
+indicates_with : (ends : Option ErrCode) (c : Control) → Indicates c → Indicates (with_end ends c)
+indicates_with ends c i = record { role = i.role; wanted = i.wanted; drafts = i.drafts; so_far = i.so_far }
+
+pub past_indicates : (setup : Setup) (past : List Step) → AreFieldsInRange setup.link.fields → AreAsksInRange past
+    → role_of (facts_of setup past).control.table.progress ≡ Central → Indicates (facts_of setup past).control
+past_indicates setup past fields asks =
+    let m = more_made setup [] past tt asks (first_made setup) in
+    let c = (facts_of setup past).control in
+    let made = after_all (controls_of setup m.past) (first_control_part setup) in
+    subst (λ (d : Control). role_of d.table.progress ≡ Central → Indicates d) (sym m.is)
+    (λ central.
+    indicates_with c.ends made
+    (indicating setup.link.role setup.link.max_rx (first_params setup.link.fields) (first_anchor setup) fields.parameters.latency_to (controls_of setup m.past)
+    (in_range (steps_of setup m.past) (first_part setup) (past_in_range setup m.past m.asks)) central))

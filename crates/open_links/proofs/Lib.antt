@@ -14,9 +14,11 @@ pub mod Leaving
 pub mod Steps
 pub mod Handed
 pub mod PhasedSteps
+pub mod EndSteps
 pub mod Intervals
 pub mod Anchors
 pub mod OnTime
+pub mod KeyedLinks
 -- what the crates above use of those below
 pub use Rattle.link_end.proofs as link_end
 pub use Rattle.link_end.proofs.link_model as link_model

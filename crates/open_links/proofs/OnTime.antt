@@ -1,5 +1,5 @@
 -- The next anchor of a link that goes on is never in an earlier slot (Core 5.2, volume 6 part B, section 4.5.1).
-use Rattle.std.proofs.Common.{◌≡◌, ℕ, ◌+◌, ◌<◌, ◌≤◌, ◌&&◌, Bool, true, false, nat_lt, List, [], ◌∷◌, ◌++◌, length, Option, Some, None, is_none, refl, ap, sym, ◌∙◌, subst, arith, if◌then◌else◌}
+use Rattle.std.proofs.Common.{◌≡◌, ℕ, ◌+◌, ◌<◌, ◌≤◌, ◌&&◌, Bool, true, false, nat_lt, List, [], ◌∷◌, length, Option, Some, None, is_none, refl, ap, sym, ◌∙◌, subst, arith, if◌then◌else◌}
 use Rattle.std.proofs.lemmas.Bool.{and_parts, eqb-true, eqb-false}
 use Rattle.ble_base.specs.declared.error_codes.ErrCode.{ErrCode}
 use Rattle.adv_pdu.specs.Ranges.{IsInRange}
@@ -22,13 +22,12 @@ use Rattle.link_end.specs.link_model.Hosts.{asked_unless, is_to_come}
 use Rattle.link_end.specs.link_model.Sending.{control_gone_if, takes_leave}
 use Rattle.link_end.specs.link_model.Step.{Step, DataGiven, DataReported, Disconnected, EventEntered, PacketReceived, PacketSent, PduFixed, ProcedureAsked, RequestAnswered}
 use Rattle.link_end.proofs.link_model.Pasts.{grows}
-use Rattle.link_end.proofs.link_model.KeyedPasts.{past_in_phase}
 use Rattle.link_end.proofs.link_model.Views.{Owed, Owing, Same, entered_view}
 use Rattle.open_links.specs.OpenLinks.{OpenLink, facts_in, has_entered, link_after, new_link}
 use Rattle.open_links.specs.Slots.{Exchange, Given, Asked, Answered, Ended, Fixes, Sends, Hears, Reports, IsInReach, IsOnTime, MayExchange, MayGoThrough, link_exchanging, link_through, step_of}
 use Rattle.open_links.specs.Turns.{enters_in, entered_if, is_anchor, link_entered}
 use Rattle.open_links.proofs.Anchors.{IsInPlace, enters, moves_on, next_after_enter, one_more_entered, sent_later, stays_in_place, went_on}
-use Rattle.open_links.proofs.Intervals.{HasIntervals, has_intervals, past_indicates}
+use Rattle.open_links.proofs.Intervals.{HasIntervals, asks_more, has_intervals, past_indicates}
 
 -- ---- what holds of a link in each slot
 
@@ -37,12 +36,8 @@ record IsSound (link : OpenLink) : Type 0 where
   fields : IsInRange link.setup.link.fields
   asks : AreAsksInRange link.past
 
-intervals_in : (link : OpenLink) → IsSound link → goes_on (facts_in link) ≡ true → HasIntervals (facts_in link).control.track
-intervals_in link sound goes = has_intervals link.setup link.past sound.fields sound.asks goes
-
-asks_more : (past : List Step) (step : Step) → AreAsksInRange past → IsAskInRange step → AreAsksInRange (past ++ step ∷ [])
-asks_more [] step are is = (is, tt)
-asks_more (first ∷ past) step are is = (are.0, asks_more past step are.1 is)
+intervals_in : (link : OpenLink) → IsSound link → HasIntervals (facts_in link).control.track
+intervals_in link sound = has_intervals link.setup link.past sound.fields sound.asks
 
 sound_after : (step : Step) (link : OpenLink) → IsAskInRange step → IsSound link → IsSound (link_after step link)
 sound_after step link is sound = record { fields = sound.fields; asks = asks_more link.past step sound.asks is }
@@ -81,7 +76,7 @@ entry_on_time : (slot : ℕ) (link : OpenLink) → IsSound link → goes_on (fac
 entry_on_time slot link sound goes at =
     let track = (facts_in link).control.track in
     let here : next_anchor_of track ≡ slot = eqb-true (next_anchor_of track) slot at in
-    let later = next_after_enter track (intervals_in link sound goes) in
+    let later = next_after_enter track (intervals_in link sound) in
     record {
       next = λ still. subst (λ (t : TrackFacts). slot + 1 ≤ next_anchor_of t) (sym (track_after_entry slot link goes)) (omega (arith, here, later));
     }
@@ -119,11 +114,11 @@ place_after : (step : Step) (link : OpenLink) → enters step ≡ false
     → IsInPlace (facts_in link).control.track (facts_in (link_after step link)).control.track
 place_after step link none =
     subst (λ (facts : Facts). IsInPlace (facts_in link).control.track facts.control.track) (sym (grows link.setup link.past step))
-    (stays_in_place link.setup (facts_in link) step (past_in_phase link.setup link.past) none)
+    (stays_in_place link.setup (facts_in link) step none)
 
 went_on_before : (step : Step) (link : OpenLink) → goes_on (facts_in (link_after step link)) ≡ true → goes_on (facts_in link) ≡ true
 went_on_before step link goes =
-    went_on link.setup (facts_in link) step (past_in_phase link.setup link.past) (subst (λ (facts : Facts). goes_on facts ≡ true) (grows link.setup link.past step) goes)
+    went_on link.setup (facts_in link) step (subst (λ (facts : Facts). goes_on facts ≡ true) (grows link.setup link.past step) goes)
 
 -- the host leaves the track
 asked_track : (comes : Bool) (ask : Ask) (facts : Facts) → (asked_unless comes ask facts).control.track ≡ facts.control.track
@@ -152,11 +147,10 @@ gone_later false slot facts central = omega arith
 sends_on_time : (slot at : ℕ) (link : OpenLink) → IsSound link → IsOnTime slot link → IsOnTime slot (link_after (PacketSent at) link)
 sends_on_time slot at link sound on_time =
     let facts = facts_in link in
+    let later = gone_later (takes_leave facts) at facts (past_indicates link.setup link.past sound.fields sound.asks) in
     record {
       next = λ goes.
-          let before = went_on_before (PacketSent at) link goes in
-          let next = on_time.next before in
-          let later = gone_later (takes_leave facts) at facts (past_indicates link.setup link.past sound.fields sound.asks before) in
+          let next = on_time.next (went_on_before (PacketSent at) link goes) in
           subst (λ (facts : Facts). slot ≤ next_anchor_of facts.control.track) (sym (grows link.setup link.past (PacketSent at)))
           (omega (arith, next, later));
     }
@@ -167,7 +161,7 @@ reached_on_time : (slot : ℕ) (step : Step) (link : OpenLink) → IsSound (link
 reached_on_time slot step link sound none reach on_time =
     record {
       next = λ goes. moves_on (facts_in link).control.track (facts_in (link_after step link)).control.track slot (place_after step link none)
-          (intervals_in (link_after step link) sound goes) reach (on_time.next (went_on_before step link goes));
+          (intervals_in (link_after step link) sound) reach (on_time.next (went_on_before step link goes));
     }
 
 exchange_on_time : (slot : ℕ) (exchange : Exchange) (link : OpenLink) → IsSound link → IsSound (link_after (step_of slot exchange) link)

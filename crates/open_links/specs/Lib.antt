@@ -6,6 +6,7 @@ pub mod OpenLinks
 pub mod Data
 pub mod Turns
 pub mod Hosts
+pub mod Keys
 pub mod Hearing
 pub mod Knowing
 pub mod Sound

@@ -8,6 +8,7 @@ mod ending;
 mod entering;
 mod hosting;
 mod hosts;
+mod keys;
 mod laws;
 mod links;
 mod offers;

@@ -379,6 +379,7 @@ impl<const L: usize, const T: usize, const R: usize> OpenLinks<L, T, R> {
             → Knows self.old links received → result
             ≡ step_at slot.0 octets.now (nat_lt (length received) R) (link_at handle links) }
         ensures payloads { IfSome result (λ step. HasPayloadLengths step.effect) }
+        ensures kept_payloads { IfSome result (λ step. HasPayloadLengths step.kept_effect) }
         ensures few { array_vec_len out.new ≤ array_vec_len out.old + 5 }
         ensures counts { (self.new.heard_to ≡ slot.0 + 1)
             × (self.new.unreported ≡ self.old.unreported + 1) }

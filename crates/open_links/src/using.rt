@@ -216,6 +216,7 @@ pub(crate) fn hear_from<const T: usize, const R: usize>(
     ensures step { (links : Links) → KnowsPlaces places.old links → result
         ≡ step_at slot.0 octets.now (nat_lt (length rx.old) R) (link_from first handle links) }
     ensures payloads { IfSome result (λ step. HasPayloadLengths step.effect) }
+    ensures kept_payloads { IfSome result (λ step. HasPayloadLengths step.kept_effect) }
     ensures few { array_vec_len out.new ≤ array_vec_len out.old + 5 }
     ensures places { length places.new ≡ length places.old }
 {
@@ -252,6 +253,7 @@ fn hear<const T: usize, const R: usize>(
     ensures step { (link : Option OpenLink) → KnowsPlace place.old link
         → result ≡ step_at slot.0 octets.now (nat_lt (length rx.old) R) link }
     ensures payloads { IfSome result (λ step. HasPayloadLengths step.effect) }
+    ensures kept_payloads { IfSome result (λ step. HasPayloadLengths step.kept_effect) }
     ensures few { array_vec_len out.new ≤ array_vec_len out.old + 5 }
 {
     let Some(link) = place else {
@@ -327,6 +329,7 @@ impl OpenEnd {
         ensures step { (link : OpenLink) → KnowsLink self.old link
             → result ≡ step_at slot.0 octets.now (nat_lt (length rx.old) R) (Some link) }
         ensures payloads { IfSome result (λ step. HasPayloadLengths step.effect) }
+        ensures kept_payloads { IfSome result (λ step. HasPayloadLengths step.kept_effect) }
         ensures few { array_vec_len out.new ≤ array_vec_len out.old + 5 }
     {
         if !self.end.has_entered() {

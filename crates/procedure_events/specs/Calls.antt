@@ -10,6 +10,7 @@ use Rattle.hci_evt.specs.declared.event.Event.{Event}
 use Rattle.instants.specs.declared.indications.Params.{Params}
 use Rattle.procedure_stages.specs.declared.steps.Effect.{Effect}
 use Rattle.link_model.specs.declared.state.PeerFacts.{PeerFacts}
+use Rattle.procedure_events.specs.declared.calls.KeptEvents.{KeptEvents}
 use Rattle.procedure_events.specs.declared.calls.ReceptionEvents.{ReceptionEvents}
 use Rattle.procedure_events.specs.Events.{event_of_done, event_of_effect, event_of_refusal, features_event, update_event, version_event}
 
@@ -32,12 +33,20 @@ event_if_refused handle params (Some (kind, code)) = event_of_refusal handle par
 
 -- for what its acknowledgement completes, the effect of its PDU, what the PDU refuses, and what it completes
 abbrev pub events_of_reception :
-    ℕ → Params → PeerFacts → Option Kind → Effect → Option (Kind × ErrCode) → Option Kind → List Event
-events_of_reception handle params peer acked effect refused done =
-    option_to_list (event_if_done handle peer acked) ++ option_to_list (event_of_effect handle effect)
+    ℕ → Bool → Params → PeerFacts → Option Kind → Effect → Option (Kind × ErrCode) → Option Kind → List Event
+events_of_reception handle was_encrypted params peer acked effect refused done =
+    option_to_list (event_if_done handle peer acked) ++ option_to_list (event_of_effect handle was_encrypted effect)
     ++ option_to_list (event_if_refused handle params refused) ++ option_to_list (event_if_done handle peer done)
 
+-- and then for what a PDU did that was kept until that one
+abbrev pub events_of_kept : ℕ → Bool → PeerFacts → Effect → Option Kind → List Event
+events_of_kept handle was_encrypted peer effect done =
+    option_to_list (event_of_effect handle was_encrypted effect) ++ option_to_list (event_if_done handle peer done)
+
 -- the same, as the code gives them
+abbrev pub events_in_kept : KeptEvents → List Event
+events_in_kept events = option_to_list events.effect ++ option_to_list events.done
+
 abbrev pub events_in : ReceptionEvents → List Event
 events_in events =
     option_to_list events.acked ++ option_to_list events.effect ++ option_to_list events.refused

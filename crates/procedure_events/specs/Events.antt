@@ -1,15 +1,17 @@
 -- The event that the host of an end gets for one thing that a control procedure of a link did there (Core 5.2, volume 4
 -- part E, section 7.7; what makes one where the standard leaves it open is our choice). No mask withholds any here.
-use Rattle.std.specs.Prelude.{ℕ, Option, Some, None}
+use Rattle.std.specs.Prelude.{ℕ, Bool, Option, Some, None, if◌then◌else◌}
 use Rattle.ble_base.specs.ErrorCodes.{success}
 use Rattle.ble_base.specs.declared.error_codes.ErrCode.{ErrCode}
 use Rattle.ble_base.specs.declared.procedure_kinds.Kind.{Kind}
 use Rattle.ble_base.specs.declared.procedure_kinds.Kind.TheVariants.{Encrypt, Features, Phy, Request, Version}
+use Rattle.data_pdu.specs.declared.ctrl.Ctrl.{Ctrl}
+use Rattle.data_pdu.specs.declared.ctrl.Ctrl.TheVariants.{EncReq, StartEncRsp}
 use Rattle.hci_evt.specs.declared.event.Event.{Event}
-use Rattle.hci_evt.specs.declared.event.Event.TheVariants.{EncryptionChange, LengthChange, ParamRequest, PhyComplete, RemoteFeatures, RemoteVersion, UpdateComplete}
+use Rattle.hci_evt.specs.declared.event.Event.TheVariants.{EncryptionChange, KeyRefresh, KeyRequest, LengthChange, ParamRequest, PhyComplete, RemoteFeatures, RemoteVersion, UpdateComplete}
 use Rattle.instants.specs.declared.indications.Params.{Params}
 use Rattle.procedure_stages.specs.declared.steps.Effect.{Effect}
-use Rattle.procedure_stages.specs.declared.steps.Effect.TheVariants.{AskHost, Lengths}
+use Rattle.procedure_stages.specs.declared.steps.Effect.TheVariants.{AskHost, Cipher, Lengths}
 use Rattle.procedure_stages.specs.procedure_values.Drafts.{time_of}
 use Rattle.link_model.specs.declared.state.PeerFacts.{PeerFacts}
 use Rattle.link_model.specs.declared.state.PeerVersion.{PeerVersion}
@@ -46,6 +48,21 @@ le_1m = 1
 abbrev pub phy_event : ℕ → ℕ → Event
 phy_event handle status = PhyComplete status handle le_1m le_1m
 
+-- ---- encryption
+
+-- the link is encrypted from now on: Encryption Change, and where it was encrypted before Encryption Key Refresh Complete
+-- (sections 7.7.8 and 7.7.39)
+abbrev pub encryption_event : ℕ → Bool → Event
+encryption_event handle was_encrypted =
+    if was_encrypted then KeyRefresh success handle else EncryptionChange success handle 1
+
+-- a PDU of the encryption goes on with it: a peripheral that takes LL_ENC_REQ asks its host for the key, and an end that
+-- takes LL_START_ENC_RSP is encrypted (section 7.7.65.5; volume 6 part B, section 5.1.3.1)
+abbrev pub event_of_cipher : ℕ → Bool → Ctrl → Option Event
+event_of_cipher handle was_encrypted (EncReq rand ediv skd_m iv_m) = Some (KeyRequest handle rand ediv)
+event_of_cipher handle was_encrypted StartEncRsp = Some (encryption_event handle was_encrypted)
+event_of_cipher handle was_encrypted other = None
+
 -- ---- by what a procedure did
 
 -- a procedure of this end is done (sections 7.7.12, 7.7.65.4 and 7.7.65.12)
@@ -65,8 +82,10 @@ event_of_refusal handle params Version code = Some (RemoteVersion code.0 handle 
 event_of_refusal handle params Encrypt code = Some (EncryptionChange code.0 handle 0)
 event_of_refusal handle params other code = None
 
--- a control PDU has this effect (sections 7.7.65.6 and 7.7.65.7)
-abbrev pub event_of_effect : ℕ → Effect → Option Event
-event_of_effect handle (Lengths rx tx) = Some (length_event handle rx tx)
-event_of_effect handle (AskHost min max latency timeout) = Some (ParamRequest handle min max latency timeout)
-event_of_effect handle other = None
+-- a control PDU has this effect on a link that was encrypted before, or was not (sections 7.7.65.6 and 7.7.65.7)
+abbrev pub event_of_effect : ℕ → Bool → Effect → Option Event
+event_of_effect handle was_encrypted (Lengths rx tx) = Some (length_event handle rx tx)
+event_of_effect handle was_encrypted (AskHost min max latency timeout) =
+    Some (ParamRequest handle min max latency timeout)
+event_of_effect handle was_encrypted (Cipher ctrl) = event_of_cipher handle was_encrypted ctrl
+event_of_effect handle was_encrypted other = None

@@ -3,7 +3,8 @@ ghost use Rattle.std.specs.Prelude.{◌≡◌};
 ghost use Rattle.std.specs.Option.{option_to_list};
 ghost use Rattle.link_model.specs.Receiving.{HasPayloadLengths};
 ghost use Rattle.procedure_events.specs.Calls.{event_if_done, event_if_refused, events_in};
-ghost use Rattle.procedure_events.specs.Calls.{events_known, events_of_entry, events_of_reception};
+ghost use Rattle.procedure_events.specs.Calls.{events_in_kept, events_known, events_of_entry};
+ghost use Rattle.procedure_events.specs.Calls.{events_of_kept, events_of_reception};
 
 use crate::kinds::{
     event_of_done, event_of_effect, event_of_refusal, features_event, update_event, version_event,
@@ -24,6 +25,15 @@ pub struct ReceptionEvents {
     /// For the procedure that the PDU refuses.
     pub refused: Option<Event>,
     /// For the procedure that the PDU completes.
+    pub done: Option<Event>,
+}
+
+/// The events for a PDU that was kept until another was taken, in this order.
+#[derive(Debug, Drop)]
+pub struct KeptEvents {
+    /// For its effect.
+    pub effect: Option<Event>,
+    /// For the procedure that it completes.
     pub done: Option<Event>,
 }
 
@@ -55,10 +65,12 @@ fn event_if_refused(handle: u16, params: &Params, refused: Option<(Kind, ErrCode
 }
 
 /// The events for a packet that is received: for the procedure `acked` that its acknowledgement
-/// completes, and for what its PDU does. `params` has the parameters of now, and `peer` what is
-/// known of the peer after the PDU. Lengths in the effect are at most 251 octets.
+/// completes, and for what its PDU does. `was_encrypted` says whether encryption started on the link
+/// before, `params` has the parameters of now, and `peer` what is known of the peer after the PDU.
+/// Lengths in the effect are at most 251 octets.
 pub fn events_of_reception(
     handle: u16,
+    was_encrypted: bool,
     params: &Params,
     peer: &PeerFacts,
     acked: Option<Kind>,
@@ -68,12 +80,31 @@ pub fn events_of_reception(
 ) -> ReceptionEvents
     requires { HasPayloadLengths effect.now }
     ensures { events_in result
-        ≡ events_of_reception handle params.now peer.now acked effect.now refused done }
+        ≡ events_of_reception handle was_encrypted params.now peer.now acked effect.now refused
+        done }
 {
     ReceptionEvents {
         acked: event_if_done(handle, peer, acked),
-        effect: event_of_effect(handle, effect),
+        effect: event_of_effect(handle, was_encrypted, effect),
         refused: event_if_refused(handle, params, refused),
+        done: event_if_done(handle, peer, done),
+    }
+}
+
+/// The events for what a PDU did that was kept until then, as for a packet that is received.
+pub fn events_of_kept(
+    handle: u16,
+    was_encrypted: bool,
+    peer: &PeerFacts,
+    effect: &Effect,
+    done: Option<Kind>,
+) -> KeptEvents
+    requires { HasPayloadLengths effect.now }
+    ensures { events_in_kept result
+        ≡ events_of_kept handle was_encrypted peer.now effect.now done }
+{
+    KeptEvents {
+        effect: event_of_effect(handle, was_encrypted, effect),
         done: event_if_done(handle, peer, done),
     }
 }

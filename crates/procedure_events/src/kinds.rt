@@ -2,11 +2,13 @@
 ghost use Rattle.std.specs.Prelude.{◌≡◌, ◌≤◌};
 ghost use Rattle.procedure_stages.specs.procedure_values.Drafts.{time_of};
 ghost use Rattle.link_model.specs.Receiving.{HasPayloadLengths};
+ghost use Rattle.procedure_events.specs.Events.{encryption_event, event_of_cipher};
 ghost use Rattle.procedure_events.specs.Events.{event_of_done, event_of_effect};
 ghost use Rattle.procedure_events.specs.Events.{event_of_refusal, features_event, length_event};
 ghost use Rattle.procedure_events.specs.Events.{phy_event, update_event, version_event};
 
 use ble_base::{ErrCode, Kind};
+use data_pdu::Ctrl;
 use hci_evt::Event;
 use instants::Params;
 use link_model::{PeerFacts, PeerVersion};
@@ -134,10 +136,37 @@ pub fn event_of_refusal(handle: u16, params: &Params, kind: Kind, code: ErrCode)
     }
 }
 
-/// The event for the effect of a control PDU of the peer, whose lengths are at most 251 octets.
-pub fn event_of_effect(handle: u16, effect: &Effect) -> Option<Event>
+/// Encryption Change, or Encryption Key Refresh Complete where the link was encrypted before.
+fn encryption_event(handle: u16, was_encrypted: bool) -> Event
+    ensures { result ≡ encryption_event handle was_encrypted }
+{
+    if was_encrypted {
+        Event::KeyRefresh { status: 0, handle }
+    } else {
+        Event::EncryptionChange {
+            status: 0,
+            handle,
+            enabled: 1,
+        }
+    }
+}
+
+/// The event for a PDU with which the encryption of the link goes on.
+fn event_of_cipher(handle: u16, was_encrypted: bool, ctrl: &Ctrl) -> Option<Event>
+    ensures { result ≡ event_of_cipher handle was_encrypted ctrl.now }
+{
+    match *ctrl {
+        Ctrl::EncReq { rand, ediv, .. } => Some(Event::KeyRequest { handle, rand, ediv }),
+        Ctrl::StartEncRsp => Some(encryption_event(handle, was_encrypted)),
+        _ => None,
+    }
+}
+
+/// The event for the effect of a control PDU of the peer, whose lengths are at most 251 octets, on a
+/// link that was encrypted before, or was not.
+pub fn event_of_effect(handle: u16, was_encrypted: bool, effect: &Effect) -> Option<Event>
     requires { HasPayloadLengths effect.now }
-    ensures { result ≡ event_of_effect handle effect.now }
+    ensures { result ≡ event_of_effect handle was_encrypted effect.now }
 {
     match *effect {
         Effect::Lengths { rx, tx } => Some(length_event(handle, rx, tx)),
@@ -153,6 +182,7 @@ pub fn event_of_effect(handle: u16, effect: &Effect) -> Option<Event>
             latency,
             timeout,
         }),
+        Effect::Cipher(ctrl) => event_of_cipher(handle, was_encrypted, &ctrl),
         _ => None,
     }
 }

@@ -5,5 +5,7 @@
 mod calls;
 mod kinds;
 
-pub use crate::calls::{ReceptionEvents, event_known, event_of_entry, events_of_reception};
+pub use crate::calls::{
+    KeptEvents, ReceptionEvents, event_known, event_of_entry, events_of_kept, events_of_reception,
+};
 pub use crate::kinds::{event_of_done, event_of_effect, event_of_refusal};

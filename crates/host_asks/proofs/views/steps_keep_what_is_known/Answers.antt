@@ -1,7 +1,7 @@
 -- Proof of `views::steps_keep_what_is_known`.
 use Rattle.std.proofs.Common.{refl}
 use Rattle.open_links.specs.link_model.End.{facts_of}
-use Rattle.host_asks.proofs.EndsViewed.{none_reported, packet_known, request_refused_at_once, request_reported, step_known}
+use Rattle.host_asks.proofs.EndsViewed.{key_lacked_at_once, none_reported, packet_known, request_refused_at_once, request_reported, step_known}
 use Rattle.host_asks.proofs.views.steps_keep_what_is_known.Goals as goal
 
 pub returns-clause-step : goal.returns-clause-step
@@ -18,3 +18,6 @@ returns-clause-none c = none_reported
 
 pub returns-clause-refused : goal.returns-clause-refused
 returns-clause-refused c = request_refused_at_once
+
+pub returns-clause-keyless : goal.returns-clause-keyless
+returns-clause-keyless c = key_lacked_at_once

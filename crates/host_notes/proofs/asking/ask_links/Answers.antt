@@ -1,73 +1,26 @@
 -- Proof of `asking::ask_links`.
-use Rattle.std.proofs.Common.{refl, sym, subst}
-use Rattle.hci_cmd.specs.declared.command.Command.TheVariants.{Disconnect, LeParamNegative, LeParamReply, LeReadRemoteFeatures, LeSetChannels, LeSetDataLength, LeSetPhy, ReadRemoteVersion}
-use Rattle.open_links.specs.Hosts.{links_asked}
-use Rattle.open_links.specs.Knowing.{Knows as KnowsLinks}
-use Rattle.procedures.specs.procedure_values.declared.asks.Ask.TheVariants.{Length}
-use Rattle.controller_model.proofs.link_commands.OpenLinkCalls.{map_asked, one_change}
-use Rattle.host_notes.proofs.AskedLinks.{features_asked_if, knows_by, others_leave, version_asked_if}
+use Rattle.std.proofs.Common.{refl}
+use Rattle.hci_cmd.specs.declared.command.Command.TheVariants.{LeEnableEncryption, LeKeyNegative, LeKeyReply}
+use Rattle.controller_model.proofs.link_commands.OpenLinkCalls.{one_change}
+use Rattle.host_notes.proofs.AskedLinks.{knows_by}
 use Rattle.host_notes.proofs.asking.ask_links.Goals as goal
 
-pub returns-in-Disconnect-clause-knows : goal.returns-in-Disconnect-clause-knows
-returns-in-Disconnect-clause-knows g c = λ known received k.
-    let command = Disconnect c.in-Disconnect.handle c.in-Disconnect.reason in
-    knows_by _ c.args.slot.0 known received _ command _ c.in-Disconnect.is (one_change command c.args.slot.0 c.in-Disconnect.handle (λ h. refl) known)
-    (c.end.ensures.knows known received k)
+pub returns-in-LeEnableEncryption-clause-knows : goal.returns-in-LeEnableEncryption-clause-knows
+returns-in-LeEnableEncryption-clause-knows g c = λ known received k.
+    let of = c.in-LeEnableEncryption in
+    let command = LeEnableEncryption of.handle of.rand of.ediv of.key in
+    knows_by _ c.args.moment known received _ command _ of.is (one_change command c.args.moment of.handle (λ h. refl) known)
+    (c.ask_encryption.ensures.knows known received k)
 
-pub returns-in-ReadRemoteVersion-clause-knows : goal.returns-in-ReadRemoteVersion-clause-knows
-returns-in-ReadRemoteVersion-clause-knows g c = λ known received k.
-    let handle = c.in-ReadRemoteVersion.handle in
-    knows_by _ c.args.slot.0 known received _ (ReadRemoteVersion handle) _ c.in-ReadRemoteVersion.is (version_asked_if handle c.args.slot.0 known)
-    (c.ask_peer.ensures.knows known received k)
+pub returns-in-LeKeyReply-clause-knows : goal.returns-in-LeKeyReply-clause-knows
+returns-in-LeKeyReply-clause-knows g c = λ known received k.
+    let of = c.in-LeKeyReply in
+    let command = LeKeyReply of.handle of.key in
+    knows_by _ c.args.moment known received _ command _ of.is (one_change command c.args.moment of.handle (λ h. refl) known)
+    (c.give_key.ensures.knows known received k)
 
-pub returns-in-LeReadRemoteFeatures-clause-knows : goal.returns-in-LeReadRemoteFeatures-clause-knows
-returns-in-LeReadRemoteFeatures-clause-knows g c = λ known received k.
-    let handle = c.in-LeReadRemoteFeatures.handle in
-    knows_by _ c.args.slot.0 known received _ (LeReadRemoteFeatures handle) _ c.in-LeReadRemoteFeatures.is (features_asked_if handle c.args.slot.0 known)
-    (c.ask_peer-in-LeReadRemoteFeatures.ensures.knows known received k)
-
-pub returns-in-LeSetDataLength-clause-knows : goal.returns-in-LeSetDataLength-clause-knows
-returns-in-LeSetDataLength-clause-knows g c = λ known received k.
-    let of = c.in-LeSetDataLength in
-    let command = LeSetDataLength of.handle of.octets of.time in
-    knows_by _ c.args.slot.0 known received _ command _ of.is (one_change command c.args.slot.0 of.handle (λ h. refl) known)
-    (subst (λ tx. KnowsLinks c.ask.new.self (links_asked of.handle (Length tx) known) received) c.transmit_maximum-tx.ensures
-    (c.ask.ensures.knows known received k))
-
-pub returns-in-LeSetChannels-clause-knows : goal.returns-in-LeSetChannels-clause-knows
-returns-in-LeSetChannels-clause-knows g c = λ known received k.
-    let map = c.in-LeSetChannels.map in
-    knows_by _ c.args.slot.0 known received _ (LeSetChannels map) _ c.in-LeSetChannels.is (map_asked map c.args.slot.0 known)
-    (c.ask_map.ensures.knows known received k)
-
-pub returns-in-LeSetPhy-clause-knows : goal.returns-in-LeSetPhy-clause-knows
-returns-in-LeSetPhy-clause-knows g c = λ known received k.
-    let of = c.in-LeSetPhy in
-    let command = LeSetPhy of.handle of.all of.tx of.rx of.options in
-    knows_by _ c.args.slot.0 known received _ command _ of.is (one_change command c.args.slot.0 of.handle (λ h. refl) known)
-    (c.ask-in-LeSetPhy.ensures.knows known received k)
-
-pub returns-in-LeParamReply-clause-knows : goal.returns-in-LeParamReply-clause-knows
-returns-in-LeParamReply-clause-knows g c = λ known received k.
-    let of = c.in-LeParamReply in
-    let command = LeParamReply of.handle of.min of.max of.latency of.timeout of.lengths in
-    knows_by _ c.args.slot.0 known received _ command _ of.is (one_change command c.args.slot.0 of.handle (λ h. refl) known)
-    (c.grant.ensures.knows known received k)
-
-pub returns-in-LeParamNegative-clause-knows : goal.returns-in-LeParamNegative-clause-knows
-returns-in-LeParamNegative-clause-knows g c = λ known received k.
-    let of = c.in-LeParamNegative in
-    let command = LeParamNegative of.handle of.reason in
-    knows_by _ c.args.slot.0 known received _ command _ of.is (one_change command c.args.slot.0 of.handle (λ h. refl) known)
-    (c.refuse.ensures.knows known received k)
-
-pub returns-in_default : goal.returns-in_default
-returns-in_default g c =
-    let no = c.in_default in
-    record {
-      knows = λ known received k.
-          subst (λ links. KnowsLinks c.args.links.now links received)
-          (sym (others_leave c.args.command.now c.args.slot.0 known no.not-Disconnect no.not-ReadRemoteVersion no.not-LeReadRemoteFeatures
-          no.not-LeSetDataLength no.not-LeConnectionUpdate no.not-LeSetChannels no.not-LeSetPhy no.not-LeParamReply no.not-LeParamNegative)) k;
-      counts = (refl, refl);
-    }
+pub returns-in-LeKeyNegative-clause-knows : goal.returns-in-LeKeyNegative-clause-knows
+returns-in-LeKeyNegative-clause-knows g c = λ known received k.
+    let command = LeKeyNegative c.in-LeKeyNegative.handle in
+    knows_by _ c.args.moment known received _ command _ c.in-LeKeyNegative.is
+    (one_change command c.args.moment c.in-LeKeyNegative.handle (λ h. refl) known) (c.key.ensures.knows known received k)

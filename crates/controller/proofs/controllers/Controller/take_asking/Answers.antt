@@ -5,7 +5,7 @@ use Rattle.host_view.specs.View.{View}
 use Rattle.open_links.specs.Knowing.{Knows as KnowsLinks}
 use Rattle.controller_model.specs.Commands.{facts_accepted}
 use Rattle.controller_model.specs.Events.{notes_of_events}
-use Rattle.controller_model.specs.declared.doing.Turn.{Turn}
+use Rattle.controller_model.specs.link_commands.declared.moments.Moment.{Moment}
 use Rattle.controller_model.specs.link_commands.LinksCommanded.{events_commanded_on, links_commanded}
 use Rattle.controller.specs.Held.{Held}
 use Rattle.controller.specs.Knowing.{IsAt}
@@ -16,18 +16,17 @@ pub returns-clause-at : goal.returns-clause-at
 returns-clause-at g c = λ has facts k.
     let command = c.args.command.now in
     let asks = subst (λ (view : View). asks_links view command ≡ true) k.view c.requires.asks in
-    let before = subst (λ (held : Held). IsAt has held facts) (sym c.self.view_is) k in
-    let mid = subst (λ (held : Held). IsAt has held (facts_accepted has facts command)) (sym c.self-2.view_is) (c.take_accepted.ensures.at has facts k) in
+    let mid = subst (λ (held : Held). IsAt has held (facts_accepted has facts command)) (sym c.self.view_is) (c.take_accepted.ensures.at has facts k) in
     let knows = still_knows has _ facts command asks mid in
     asks_is has _ _ facts command _ asks mid (c.note_at_once.ensures facts.links facts.received knows)
-    (subst (λ (turn : Turn). KnowsLinks c.ask_links.new.links (links_commanded command turn.begun facts.links) facts.received) before.turn
-    (c.ask_links.ensures.knows facts.links facts.received knows)) refl
+    (subst (λ (moment : Moment). KnowsLinks c.ask_links.new.links (links_commanded command moment facts.links) facts.received)
+    (c.moment-moment.ensures.value has facts k) (c.ask_links.ensures.knows facts.links facts.received knows)) refl
 
 pub returns-clause-notes : goal.returns-clause-notes
 returns-clause-notes g c = λ has facts k.
     let command = c.args.command.now in
     let asks = subst (λ (view : View). asks_links view command ≡ true) k.view c.requires.asks in
-    let mid = subst (λ (held : Held). IsAt has held (facts_accepted has facts command)) (sym c.self-2.view_is) (c.take_accepted.ensures.at has facts k) in
+    let mid = subst (λ (held : Held). IsAt has held (facts_accepted has facts command)) (sym c.self.view_is) (c.take_accepted.ensures.at has facts k) in
     let told = ap (λ (view : View). notes_of_events view (events_commanded_on command facts.links)) mid.view ∙ told_is facts.view command facts.links in
     c.tell_at_once.ensures facts.links facts.received (still_knows has _ facts command asks mid)
     ∙ (λ i. c.take_accepted.ensures.notes has facts k i ++ told i)
