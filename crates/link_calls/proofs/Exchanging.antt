@@ -1,7 +1,7 @@
 -- A controller sends and listens on a link only in the slot of the anchor of its event, or in the next one where it
 -- received a good packet in the first.
 use Rattle.std.proofs.Common.{◌≡◌, ℕ, ◌+◌, ◌≤◌, ◌<◌, ◌==◌, ◌&&◌, ◌||◌, ◌⊎◌, inl, inr, Bool, true, false, not, Option, Some, None, List, ◌++◌, refl, sym, ap, subst, ◌∙◌, arith}
-use Rattle.std.specs.Prelude.{nat_le, nat_lt, if◌then◌else◌}
+use Rattle.std.specs.Prelude.{IfSome, nat_le, nat_lt, if◌then◌else◌}
 use Rattle.std.specs.List.{Contains}
 use Rattle.std.proofs.lemmas.Bool.{and_parts, eqb-true, leb-true, ltb-true}
 use Rattle.slot_plan.specs.declared.Activity.{Activity}
@@ -16,7 +16,7 @@ use Rattle.run_laws.specs.link_model.Facts.{Facts as EndFacts}
 use Rattle.run_laws.specs.link_model.Packets.{good_pdu, is_forged}
 use Rattle.run_laws.specs.link_model.Receiving.{facts_received}
 use Rattle.run_laws.specs.link_model.Setup.{Setup as EndSetup}
-use Rattle.run_laws.specs.link_model.Step.{EventEntered, PacketReceived, PacketSent, PduFixed, RequestAnswered}
+use Rattle.run_laws.specs.link_model.Step.{Step as EndStep, EventEntered, KeyAnswered, PacketReceived, PacketSent, PduFixed, RequestAnswered, WordsGiven}
 use Rattle.run_laws.specs.link_model.Times.{has_second_exchange}
 use Rattle.run_laws.specs.open_links.OpenLinks.{Links, OpenLink, facts_in, has_entered, in_event, link_after, link_at, new_link}
 use Rattle.run_laws.specs.open_links.Turns.{entered_if, enters_in, is_anchor, link_entered, wants_entering, wants_if}
@@ -40,17 +40,19 @@ use Rattle.run_laws.proofs.Agreed.{step_facts}
 use Rattle.run_laws.proofs.TurnPlaces.{Between, IsTurned, Stage, Within, stands_in_run, turned}
 use Rattle.run_laws.proofs.TurnSteps.{begins_slot, phase_turn}
 use Rattle.link_calls.specs.Exchanges.{HasExchange}
-use Rattle.link_calls.specs.Phases.{HasPassed, IsNew, Stays, Takes, link_receiving, refusal, refused_if, refuses_at}
+use Rattle.link_calls.specs.Phases.{HasPassed, IsNew, Stays, Takes, base_receiving, link_worded, refusal_at, refused_if}
 use Rattle.link_calls.specs.Turns.{fixed_if, sent_if}
 use Rattle.link_calls.specs.Uses.{listens_under, sends_under, uses_under}
+use Rattle.link_calls.proofs.AtOnce.{IsRefusal, refusal_is}
 use Rattle.link_calls.proofs.EnteredLinks.{continued, entered_is, open_in_event}
 use Rattle.link_calls.proofs.HeardSteps.{fixed_same, forged_event, received_same, sent_in}
 use Rattle.link_calls.proofs.HeldRadio.{Holds, IsBegunSo, Keeps, Stays as KeepsOn, begins_so, end_keeps, ending_keeps, octet_keeps, phase_keeps}
 use Rattle.link_calls.proofs.Lengths.{fixed_lengths, forged_lengths, is_lengthened, received_lengthened, sent_lengths}
-use Rattle.link_calls.proofs.LinkCalls.{HasBegun, begins_under, phase_under, receiving_event}
+use Rattle.link_calls.proofs.LinkCalls.{HasBegun, answered_same, begins_under, phase_under}
 use Rattle.link_calls.proofs.LinkPhases.{IsPhased, phased_first, phased_kept}
 use Rattle.link_calls.proofs.RadioUses.{Listening, Sending, Uses, advertises_off, exchange_uses, initiates_off, no_link, off_uses, rests_uses, scans_off, winner_wants}
 use Rattle.link_calls.proofs.UnderHandles.{WasAlike, end_under, octet_under}
+use Rattle.link_calls.proofs.Worded.{each_worded}
 
 -- ---- what an end has of its event
 
@@ -103,6 +105,13 @@ fixed_event true link =
     (ap (λ (f : EndFacts). f.event.slot) same ∙ ap (λ (e : ConnectionEvent). e.slot) event)
     (ap (λ (f : EndFacts). f.event.heard) same ∙ ap (λ (e : ConnectionEvent). e.heard) event)
     (ap (λ (f : EndFacts). f.lengths) same ∙ fixed_lengths (facts_in link))
+
+worded_event : (setup : Setup) (facts : Facts) (doing : Doing) (link : OpenLink) → IsSameEvent link (link_worded setup facts doing link)
+worded_event setup facts doing link =
+    each_worded (IsSameEvent link) setup facts doing link (event_same link)
+    (λ skd_s iv_s.
+    let same = step_facts link (WordsGiven skd_s iv_s) in
+    same_event link (link_after (WordsGiven skd_s iv_s) link) (ap (λ (f : EndFacts). f.event.slot) same) (ap (λ (f : EndFacts). f.event.heard) same) (ap (λ (f : EndFacts). f.lengths) same))
 
 -- but for when it had the radio last
 served_event : (one other : OpenLink) → other.setup ≡ one.setup → other.past ≡ one.past → IsSameEvent one other
@@ -400,13 +409,13 @@ module _ (setup : Setup) (slot : ℕ) (on : Bool) (facts : Facts) (are : AreExch
 
 -- ---- a phase
 
--- it receives a packet, and may refuse a request in it
+-- it receives a packet, a request in which may be answered at once
 module _ (handle : ℕ) (room : Bool) (octets : List ℕ) (facts : Facts) (link : OpenLink) where
   abbrev slot : ℕ
   slot = facts.turn.slot
 
   abbrev received : OpenLink
-  received = link_receiving handle room octets facts link
+  received = base_receiving handle room octets facts link
 
   abbrev found : Option (List ℕ)
   found = good_pdu link.setup (facts_in link) octets
@@ -433,14 +442,19 @@ module _ (handle : ℕ) (room : Bool) (octets : List ℕ) (facts : Facts) (link 
       ∙ forged_lengths (is_forged link.setup (facts_in link) octets) (facts_received link.setup.link.role slot room found (facts_in link))
 
   received_lengths : (facts_in received).lengths ≡ (facts_in (link_after (PacketReceived slot octets room) link)).lengths
-  received_lengths = by (refuses_at handle room octets facts)
+  received_lengths = by (refusal_at handle room octets facts link) (refusal_is handle room octets facts link)
     where
-      by : (refuses : Bool) → (facts_in (refused_if refuses (link_after (PacketReceived slot octets room) link))).lengths ≡ (facts_in (link_after (PacketReceived slot octets room) link)).lengths
-      by true = ap (λ (f : EndFacts). f.lengths) (step_facts (link_after (PacketReceived slot octets room) link) (RequestAnswered refusal))
-      by false = refl
+      heard : OpenLink
+      heard = link_after (PacketReceived slot octets room) link
+
+      by : (refusal : Option EndStep) → IfSome refusal IsRefusal → (facts_in (refused_if refusal heard)).lengths ≡ (facts_in heard).lengths
+      by None is = refl
+      by (Some (RequestAnswered answer)) is = ap (λ (f : EndFacts). f.lengths) (step_facts heard (RequestAnswered answer))
+      by (Some (KeyAnswered key at)) is = ap (λ (f : EndFacts). f.lengths) (step_facts heard (KeyAnswered key at))
+      by (Some step) is = absurd is
 
   event_now : (facts_in received).event ≡ (facts_received link.setup.link.role slot room found (facts_in link)).event
-  event_now = receiving_event handle room octets facts link ∙ taken_event
+  event_now = (answered_same handle room octets facts link).event ∙ taken_event
 
   received_slot : slot_of received ≡ slot_of link
   received_slot = ap (λ (e : ConnectionEvent). e.slot) event_now ∙ event_with found
@@ -481,7 +495,7 @@ new_unheard end = refl
 
 passed_well : (setup : Setup) (phases begun : ℕ) (received : Option (List ℕ)) (facts : Facts) → AreExchanging setup (Within phases) begun facts
     → (handle : ℕ) (link : OpenLink)
-    → HasPassed facts (has_room setup facts) received handle (facts_after setup facts (step_of received)).turn.doing link
+    → HasPassed setup facts (has_room setup facts) received handle (facts_after setup facts (step_of received)).turn.doing link
     → IsBegunWell (facts_after setup facts (step_of received)) begun handle link
 passed_well setup phases begun received facts are handle link (IsNew end made opened off) = record {
   held = λ heard. absurd (let h : false ≡ true = sym (ap heard_in made ∙ new_unheard end) ∙ heard in absurd cc);
@@ -501,15 +515,19 @@ passed_well setup phases begun received facts are handle link (Takes base octets
     let after = facts_after setup facts (step_of received) in
     let room = has_room setup facts in
     let sends = sends_under handle after.turn.doing in
-    let taken = link_receiving handle room octets facts base in
+    let worded = link_worded setup facts facts.turn.doing base in
+    let taken = base_receiving handle room octets facts worded in
     let keeps = phase_keeps setup facts received in
     let since = event_is taken (sent_if sends facts.turn.slot taken) link same (sent_event sends facts.turn.slot taken) in
-    let now = are.in_slot handle base was (Listening on) in
+    let given = worded_event setup facts facts.turn.doing base in
+    let first_radio : Keeps facts.radio facts.radio = (λ hold other is holder. record { hold_is = is; holder_is = holder }) in
+    let now = slot_later facts.radio facts.radio facts.turn.slot facts.turn.slot handle base worded first_radio refl given (are.in_slot handle base was (Listening on)) in
+    let held = held_later facts.radio facts.radio begun begun handle base worded first_radio (omega arith) given (are.held handle base was) in
     let same_radio : Keeps after.radio after.radio = (λ hold other is holder. record { hold_is = is; holder_is = holder }) in record {
       held = held_later after.radio after.radio begun begun handle taken link same_radio (omega arith) since
-          (received_held handle room octets facts base facts.radio after.radio begun keeps are.phased.uses.in_turn.slot_is (are.held handle base was) now);
+          (received_held handle room octets facts worded facts.radio after.radio begun keeps are.phased.uses.in_turn.slot_is held now);
       in_slot = λ uses. slot_later after.radio after.radio facts.turn.slot after.turn.slot handle taken link same_radio (phase_turn setup facts received).slot since
-          (received_in handle room octets facts base facts.radio after.radio keeps now);
+          (received_in handle room octets facts worded facts.radio after.radio keeps now);
     }
 
 -- ---- at any time of a controller

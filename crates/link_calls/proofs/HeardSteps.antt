@@ -88,3 +88,7 @@ received_same role slot room octets facts =
 pub forged_event : (forged : Bool) (facts : Facts) → (facts_forged_if forged facts).event ≡ facts.event
 forged_event true facts = refl
 forged_event false facts = refl
+
+pub forged_good : (forged : Bool) (facts : Facts) → (facts_forged_if forged facts).last_good ≡ facts.last_good
+forged_good true facts = refl
+forged_good false facts = refl

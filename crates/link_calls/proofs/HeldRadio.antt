@@ -74,14 +74,14 @@ known_keeps : (accepted : Bool) (setup : Setup) (facts : Facts) (command : Comma
 known_keeps true setup facts command = command_keeps command facts.radio
 known_keeps false setup facts command = keeps_same facts.radio
 
-asking_keeps : (asks : Bool) (facts : Facts) (command : Command) (known : Facts) → Keeps facts.radio known.radio
-    → Keeps facts.radio (facts_asking asks facts command known).radio
-asking_keeps true facts command known keeps = keeps
-asking_keeps false facts command known keeps = keeps
+asking_keeps : (asks : Bool) (setup : Setup) (facts : Facts) (command : Command) (known : Facts) → Keeps facts.radio known.radio
+    → Keeps facts.radio (facts_asking asks setup facts command known).radio
+asking_keeps true setup facts command known keeps = keeps
+asking_keeps false setup facts command known keeps = keeps
 
 read_keeps : (setup : Setup) (facts : Facts) (read : CmdRead) → Keeps facts.radio (facts_commanded setup facts read).radio
 read_keeps setup facts (Known command) =
-    asking_keeps (is_asking facts.view command) facts command (facts_known (status_of facts.view command == 0) setup facts command)
+    asking_keeps (is_asking facts.view command) setup facts command (facts_known (status_of facts.view command == 0) setup facts command)
     (known_keeps (status_of facts.view command == 0) setup facts command)
 read_keeps setup facts UnknownOpcode = keeps_same facts.radio
 read_keeps setup facts BadLength = keeps_same facts.radio
@@ -127,7 +127,9 @@ outcomes_keep setup facts = record {
 
 pub phase_keeps : (setup : Setup) (facts : Facts) (received : Option (List ℕ)) → Keeps facts.radio (facts_after setup facts (step_of received)).radio
 phase_keeps setup facts None = unheard_is setup facts _ (outcomes_keep setup facts) facts.turn.doing refl
-phase_keeps setup facts (Some octets) = heard_is setup facts _ (outcomes_keep setup facts) facts.turn.doing octets refl
+phase_keeps setup facts (Some octets) =
+    heard_is setup facts (λ outcome. Keeps facts.radio (facts_passed outcome).radio) (outcomes_keep setup facts) facts.turn.doing octets refl
+    (λ handle. keeps_same facts.radio)
 
 -- ---- links end
 

@@ -16,8 +16,9 @@ use Rattle.run_laws.specs.link_model.End.{facts_after as end_after}
 use Rattle.run_laws.specs.link_model.Facts.{Facts as EndFacts}
 use Rattle.run_laws.specs.link_model.Hosts.{asked_unless, is_to_come}
 use Rattle.run_laws.specs.link_model.Setup.{Setup as EndSetup}
-use Rattle.run_laws.specs.link_model.Step.{Step as EndStep, DataGiven, Disconnected, ProcedureAsked, RequestAnswered}
-use Rattle.run_laws.specs.controller_model.Facts.{Facts}
+use Rattle.run_laws.specs.link_model.Step.{Step as EndStep, DataGiven, Disconnected, KeyAnswered, ProcedureAsked, RequestAnswered}
+use Rattle.run_laws.specs.controller_model.Commands.{moment_of}
+use Rattle.run_laws.specs.controller_model.Facts.{Setup, Facts}
 use Rattle.run_laws.specs.controller_model.Host.{commands_accepted_after, commands_accepted_by, commands_accepted_in}
 use Rattle.run_laws.specs.controller_model.link_commands.Commands.{host_step_of, is_about, step_if_about, step_on}
 use Rattle.run_laws.specs.controller_model.Side.{result_of}
@@ -55,11 +56,12 @@ about_step : (about : Bool) (may : Option EndStep) (step : EndStep) → step_if_
 about_step true may step is = is
 about_step false may step is = absurd cc
 
-pub asked_is_well : (facts : Facts) (octet handle : ℕ) (command : Command) (role : Role) (peer : PeerFacts) (step : EndStep)
-    → commands_accepted_after facts (HostOctet octet) ≡ command ∷ [] → step_on handle command facts.turn.begun role peer ≡ Some step → IsAskedWell step
-asked_is_well facts octet handle command role peer step accepted is =
-    step_is_well command facts.turn.begun role peer step (accepted_in_range facts.view command (accepted_status facts octet command accepted))
-    (about_step (is_about handle command) (host_step_of command facts.turn.begun role peer) step is)
+pub asked_is_well : (setup : Setup) (facts : Facts) (octet handle : ℕ) (command : Command) (role : Role) (peer : PeerFacts) (step : EndStep)
+    → commands_accepted_after facts (HostOctet octet) ≡ command ∷ [] → step_on handle command (moment_of setup facts) role peer ≡ Some step → IsAskedWell step
+asked_is_well setup facts octet handle command role peer step accepted is =
+    let moment = moment_of setup facts in
+    step_is_well command moment role peer step (accepted_in_range facts.view command (accepted_status facts octet command accepted))
+    (about_step (is_about handle command) (host_step_of command moment role peer) step is)
 
 -- ---- what such a step leaves
 
@@ -76,6 +78,7 @@ asked_leaves setup facts (ProcedureAsked ask) by_host = by (is_to_come ask facts
     by true = record { event = refl; good = refl; lengthened = λ is. is }
     by false = record { event = refl; good = refl; lengthened = λ is. seen_lengthened facts.lengths.long facts.lengths.changed _ is }
 asked_leaves setup facts (RequestAnswered answer) by_host = record { event = refl; good = refl; lengthened = λ is. is }
+asked_leaves setup facts (KeyAnswered key slot) by_host = record { event = refl; good = refl; lengthened = λ is. is }
 asked_leaves setup facts (Disconnected reason slot) by_host = record { event = refl; good = refl; lengthened = λ is. is }
 asked_leaves setup facts (DataGiven start body) by_host = absurd by_host
 asked_leaves setup facts other by_host = absurd by_host

@@ -2,8 +2,10 @@
 pub mod CallNotes
 pub mod LinkUses
 pub mod LinkPhases
+pub mod AtOnce
 pub mod HeardSteps
 pub mod HostSteps
+pub mod Worded
 pub mod UnderHandles
 pub mod OffLinks
 pub mod LinkCalls

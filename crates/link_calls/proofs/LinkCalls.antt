@@ -1,6 +1,6 @@
 -- What each call on a controller does to the link under one handle, and that it opens no other one there.
 use Rattle.std.proofs.Common.{◌≡◌, ℕ, ◌==◌, ◌⊎◌, inl, inr, Bool, true, false, Option, Some, None, List, [], ◌∷◌, ◌++◌, refl, sym, ap, subst, ◌∙◌}
-use Rattle.std.specs.Prelude.{All}
+use Rattle.std.specs.Prelude.{All, IfSome}
 use Rattle.std.proofs.lemmas.Bool.{eqb-true, eq-eqb}
 use Rattle.std.proofs.lemmas.List.Elements.{All-append, All-cons, All-from_recursion, All-nil}
 use Rattle.ble_base.specs.declared.notes.Note.{Note}
@@ -8,6 +8,7 @@ use Rattle.ble_base.specs.declared.error_codes.ErrCode.{ErrCode}
 use Rattle.ble_base.specs.declared.notes.Note.TheVariants.{Done, Refused, Took}
 use Rattle.ble_base.specs.declared.procedure_kinds.Kind.{Kind}
 use Rattle.hci_evt.specs.declared.event.Event.{Event}
+use Rattle.run_laws.specs.host_view.Links.{was_encrypted}
 use Rattle.run_laws.specs.host_view.View.{View}
 use Rattle.run_laws.specs.link_model.declared.setup.LinkSetup.{LinkSetup}
 use Rattle.run_laws.specs.link_model.End.{facts_of as end_facts}
@@ -15,7 +16,7 @@ use Rattle.run_laws.specs.link_model.Facts.{Facts as EndFacts}
 use Rattle.run_laws.specs.link_model.Events.{no_event}
 use Rattle.run_laws.specs.link_model.Setup.{Setup as EndSetup}
 use Rattle.run_laws.specs.link_model.Packets.{good_pdu}
-use Rattle.run_laws.specs.link_model.Step.{Step as EndStep, EventEntered, PacketReceived, PacketSent, PduFixed, RequestAnswered}
+use Rattle.run_laws.specs.link_model.Step.{Step as EndStep, EventEntered, PacketReceived, PacketSent, PduFixed}
 use Rattle.run_laws.proofs.link_model.Agreeing.{others_leave}
 use Rattle.run_laws.specs.scan_init.Reports.{scan_answer}
 use Rattle.slot_plan.specs.declared.Activity.{Activity}
@@ -29,7 +30,7 @@ use Rattle.run_laws.specs.controller_model.declared.doing.Doing.TheVariants.{Adv
 use Rattle.run_laws.specs.controller_model.Step.{TurnBegins}
 use Rattle.run_laws.specs.controller_model.Facts.{Setup, Facts}
 use Rattle.run_laws.specs.controller_model.Events.{notes_of_events}
-use Rattle.run_laws.specs.controller_model.Heard.{events_received, events_reported, has_room, heard, link_heard, link_received, link_taken, notes_taken, opens, replies_in, reply_if, scanner_heard, unheard}
+use Rattle.run_laws.specs.controller_model.Heard.{events_received, events_reported, facts_with_words, has_room, heard, link_heard, link_received, link_taken, notes_taken, opens, refusal_in, replies_in, reply_if, scanner_heard, unheard}
 use Rattle.run_laws.specs.controller_model.Links.{events_opened, facts_ending}
 use Rattle.run_laws.specs.controller_model.Outcome.{Outcome, facts_passed, notes_passed}
 use Rattle.run_laws.specs.controller_model.Packets.{notes_doing}
@@ -38,17 +39,21 @@ use Rattle.run_laws.specs.controller_model.Side.{facts_after, notes_after}
 use Rattle.run_laws.proofs.controller_model.Always.{ending_is, links_won, opening_is, winning_is}
 use Rattle.run_laws.proofs.controller_model.EndNotes.{received_each}
 use Rattle.run_laws.proofs.controller_model.Phases.{EachOutcome, heard_is, unheard_is}
-use Rattle.run_laws.proofs.controller_model.Places.{receiving_is}
+use Rattle.run_laws.proofs.controller_model.Places.{link_receiving as place_receiving, receiving_is}
 use Rattle.run_laws.specs.run_model.Run.{step_of}
-use Rattle.run_laws.proofs.Agreed.{ack_answered, ack_fixed, ack_of, step_facts}
+use Rattle.run_laws.proofs.Agreed.{ack_asked, ack_fixed, ack_of, step_facts}
 use Rattle.run_laws.proofs.LinkPasses.{IsPassingOn, LeavesAll, OpensOne, ReceivesOn}
 use Rattle.run_laws.proofs.TurnSteps.{IsListening, begins_slot}
-use Rattle.link_calls.specs.Phases.{HasPassed, IsNew, Stays, Takes, link_receiving, refusal, refused_if, refuses_at}
+use Rattle.link_calls.specs.Phases.{HasPassed, IsNew, Stays, Takes, base_receiving, link_receiving, link_worded, refusal_at, refused_if}
 use Rattle.link_calls.specs.Turns.{HasBegunTurn, change_if, fixed_if, sent_if}
 use Rattle.link_calls.specs.Uses.{fixes_under, is_on_link, listens_under, sends_under}
+use Rattle.link_calls.proofs.AtOnce.{IsRefusal, refusal_asks, refusal_is}
 use Rattle.link_calls.proofs.CallNotes.{IsOfFeeds, OpensNone, SendsNone, doing_noted, events_noted, opening_none}
+use Rattle.link_calls.proofs.HeardSteps.{HasHeardSame}
+use Rattle.link_calls.proofs.HostSteps.{asked_leaves}
 use Rattle.link_calls.proofs.OffLinks.{off_phase}
 use Rattle.link_calls.proofs.UnderHandles.{IsOpenedIf, WasOpen, change_under, entered_under, fixing_under, opened_under, sending_under, staying_under}
+use Rattle.link_calls.proofs.Worded.{worded_heard, worded_same, worded_setup}
 
 -- ---- a turn begins
 
@@ -206,40 +211,59 @@ base_ack facts slot on handle doing after begun =
     ∙ (λ i. ack_of (record { setup = (begun.setup_is ∙ sym (entered_setup slot begun.link)) i; past = begun.past_is i; last_served = 0 }))
     ∙ entered_ack (enters_in slot begun.link) slot begun.link
 
--- ---- a link that receives a packet, and may refuse a request in it
+-- ---- a link that receives a packet, a request of which may be answered at once
 
-module _ (handle : ℕ) (room : Bool) (octets : List ℕ) (facts : Facts) (link : OpenLink) where
+module _ (handle : ℕ) (room : Bool) (octets : List ℕ) (facts : Facts) (base : OpenLink) where
+  abbrev base_taken : OpenLink
+  base_taken = link_after (PacketReceived facts.turn.slot octets room) base
+
+  -- to answer changes its procedures, and what follows of these, alone
+  pub answered_setup : (base_receiving handle room octets facts base).setup ≡ base.setup
+  answered_setup = by (refusal_at handle room octets facts base)
+    where
+      by : (refusal : Option EndStep) → (refused_if refusal base_taken).setup ≡ base.setup
+      by None = refl
+      by (Some step) = refl
+
+  pub answered_ack : ack_of (base_receiving handle room octets facts base) ≡ ack_of base_taken
+  answered_ack = by (refusal_at handle room octets facts base) (refusal_is handle room octets facts base)
+    where
+      by : (refusal : Option EndStep) → IfSome refusal IsRefusal → ack_of (refused_if refusal base_taken) ≡ ack_of base_taken
+      by None is = refl
+      by (Some step) is = ack_asked step base_taken (refusal_asks step is)
+
+  pub answered_same : HasHeardSame (facts_in (base_receiving handle room octets facts base)) (facts_in base_taken)
+  answered_same = by (refusal_at handle room octets facts base) (refusal_is handle room octets facts base)
+    where
+      by : (refusal : Option EndStep) → IfSome refusal IsRefusal → HasHeardSame (facts_in (refused_if refusal base_taken)) (facts_in base_taken)
+      by None is = record { event = refl; good = refl }
+      by (Some step) is =
+          let leaves = asked_leaves base_taken.setup (facts_in base_taken) step (refusal_asks step is) in
+          let same = step_facts base_taken step in
+          record { event = ap (λ (f : EndFacts). f.event) same ∙ leaves.event; good = ap (λ (f : EndFacts). f.last_good) same ∙ leaves.good }
+
+-- a peripheral has words then, which change nothing of that
+module _ (setup : Setup) (handle : ℕ) (room : Bool) (octets : List ℕ) (facts : Facts) (link : OpenLink) where
+  abbrev worded : OpenLink
+  worded = link_worded setup facts facts.turn.doing link
+
   abbrev taken : OpenLink
   taken = link_after (PacketReceived facts.turn.slot octets room) link
 
-  -- to refuse changes its procedures alone
-  pub receiving_setup : (link_receiving handle room octets facts link).setup ≡ link.setup
-  receiving_setup = by (refuses_at handle room octets facts)
-    where
-      by : (refuses : Bool) → (refused_if refuses taken).setup ≡ link.setup
-      by true = refl
-      by false = refl
+  pub receiving_setup : (link_receiving setup handle room octets facts link).setup ≡ link.setup
+  receiving_setup = answered_setup handle room octets facts worded ∙ worded_setup setup facts facts.turn.doing link
 
-  pub receiving_ack : ack_of (link_receiving handle room octets facts link) ≡ ack_of taken
-  receiving_ack = by (refuses_at handle room octets facts)
-    where
-      by : (refuses : Bool) → ack_of (refused_if refuses taken) ≡ ack_of taken
-      by true = ack_answered refusal taken
-      by false = refl
+  pub receiving_ack : ack_of (link_receiving setup handle room octets facts link) ≡ ack_of taken
+  receiving_ack =
+      answered_ack handle room octets facts worded ∙ worded_heard setup facts facts.turn.doing link facts.turn.slot octets room
 
-  pub receiving_event : (facts_in (link_receiving handle room octets facts link)).event ≡ (facts_in taken).event
-  receiving_event = by (refuses_at handle room octets facts)
-    where
-      by : (refuses : Bool) → (facts_in (refused_if refuses taken)).event ≡ (facts_in taken).event
-      by true = ap (λ (f : EndFacts). f.event) (step_facts taken (RequestAnswered refusal))
-      by false = refl
+  pub receiving_event : (facts_in (link_receiving setup handle room octets facts link)).event ≡ (facts_in taken).event
+  receiving_event =
+      (answered_same handle room octets facts worded).event ∙ (worded_same setup facts facts.turn.doing link facts.turn.slot octets room).event
 
-  pub receiving_good : (facts_in (link_receiving handle room octets facts link)).last_good ≡ (facts_in taken).last_good
-  receiving_good = by (refuses_at handle room octets facts)
-    where
-      by : (refuses : Bool) → (facts_in (refused_if refuses taken)).last_good ≡ (facts_in taken).last_good
-      by true = ap (λ (f : EndFacts). f.last_good) (step_facts taken (RequestAnswered refusal))
-      by false = refl
+  pub receiving_good : (facts_in (link_receiving setup handle room octets facts link)).last_good ≡ (facts_in taken).last_good
+  receiving_good =
+      (answered_same handle room octets facts worded).good ∙ (worded_same setup facts facts.turn.doing link facts.turn.slot octets room).good
 
 -- ---- a phase passes
 
@@ -267,24 +291,24 @@ off_after : (facts after : Facts) (received : Option (List ℕ)) → is_on_link 
 off_after facts after received off on true is = absurd (let h : true ≡ false = sym (on is) ∙ off in absurd cc)
 off_after facts after received off on false is = is
 
-opened_passes : (facts after : Facts) (room : Bool) (received : Option (List ℕ)) (handle : ℕ) (end : EndSetup) (link : OpenLink) → is_on_link facts.turn.doing ≡ false → is_on_link after.turn.doing ≡ false
+opened_passes : (setup : Setup) (facts after : Facts) (room : Bool) (received : Option (List ℕ)) (handle : ℕ) (end : EndSetup) (link : OpenLink) → is_on_link facts.turn.doing ≡ false → is_on_link after.turn.doing ≡ false
     → end.opened ≡ facts.turn.slot → (same : Bool) → IsOpenedIf same end (link_at handle facts.links) link
-    → HasPassed facts room received handle after.turn.doing link
-opened_passes facts after room received handle end link off none now true is = IsNew end is now none
-opened_passes facts after room received handle end link off none now false is =
+    → HasPassed setup facts room received handle after.turn.doing link
+opened_passes setup facts after room received handle end link off none now true is = IsNew end is now none
+opened_passes setup facts after room received handle end link off none now false is =
     Stays is (off_sends handle after.turn.doing none) (deaf handle facts.turn.doing received (off_listens handle facts.turn.doing off)) (hears_none handle after.turn.doing facts.turn.doing (off_listens handle after.turn.doing none))
 
-off_passes : (facts after : Facts) (room : Bool) (received : Option (List ℕ)) (handle : ℕ) (link : OpenLink) → is_on_link facts.turn.doing ≡ false → IsPassingOn facts received after
-    → link_at handle after.links ≡ Some link → HasPassed facts room received handle after.turn.doing link
-off_passes facts after room received handle link off (LeavesAll same on) is =
+off_passes : (setup : Setup) (facts after : Facts) (room : Bool) (received : Option (List ℕ)) (handle : ℕ) (link : OpenLink) → is_on_link facts.turn.doing ≡ false → IsPassingOn facts received after
+    → link_at handle after.links ≡ Some link → HasPassed setup facts room received handle after.turn.doing link
+off_passes setup facts after room received handle link off (LeavesAll same on) is =
     let none = off_after facts after received off on (is_on_link after.turn.doing) refl in
     Stays (ap (link_at handle) (sym same) ∙ is) (off_sends handle after.turn.doing none) (deaf handle facts.turn.doing received (off_listens handle facts.turn.doing off))
     (hears_none handle after.turn.doing facts.turn.doing (off_listens handle after.turn.doing none))
-off_passes facts after room received handle link off (OpensOne made made_is none) is =
+off_passes setup facts after room received handle link off (OpensOne made made_is none) is =
     let end : EndSetup = record { link = made; opened = facts.turn.slot } in
-    opened_passes facts after room received handle end link off none refl (made.handle == handle)
+    opened_passes setup facts after room received handle end link off none refl (made.handle == handle)
     (opened_under end handle facts.links link (ap (link_at handle) (sym made_is) ∙ is) (made.handle == handle) refl)
-off_passes facts after room received handle link off (ReceivesOn other octets was wanted listens on roomy refuses replies refused links_are) is = absurd (let h : true ≡ false = sym on ∙ off in absurd cc)
+off_passes setup facts after room received handle link off (ReceivesOn other octets was wanted listens on roomy words answer replies well links_are) is = absurd (let h : true ≡ false = sym on ∙ off in absurd cc)
 
 reply_none : (replies : Bool) (handle other : ℕ) → (other == handle) ≡ false → sends_under handle (reply_if replies other) ≡ false
 reply_none true handle other differs = differs
@@ -294,38 +318,74 @@ reply_deaf : (replies : Bool) (handle other : ℕ) → listens_under handle (rep
 reply_deaf true handle other = refl
 reply_deaf false handle other = refl
 
--- it takes a packet on the link under some handle
-taken_by : (facts : Facts) (octets : List ℕ) (room : Bool) (handle other : ℕ) (after : OpenLink) (replies : Bool) → listens_under handle facts.turn.doing ≡ (other == handle)
-    → WasOpen (sent_if (sends_under handle (reply_if replies other)) facts.turn.slot) (link_at handle (with_change other (link_receiving other room octets facts) facts.links)) after
-    → (same : Bool) → (other == handle) ≡ same → HasPassed facts room (Some octets) handle (reply_if replies other) after
-taken_by facts octets room handle other after replies listens sent true one =
-    let change = link_receiving other room octets facts in
-    let was = change_under other handle change facts.links sent.link sent.was in
-    Takes was.link octets was.was refl (listens ∙ one)
-    (sent.is ∙ ap (sent_if (sends_under handle (reply_if replies other)) facts.turn.slot)
-    (was.is ∙ ap (λ (b : Bool). change_if b change was.link) one ∙ ap (λ n. link_receiving n room octets facts was.link) (eqb-true other handle one)))
-taken_by facts octets room handle other after replies listens sent false differs =
-    let none = reply_none replies handle other differs in
-    let change = link_receiving other room octets facts in
-    let was = change_under other handle change facts.links sent.link sent.was in
-    let same : after ≡ was.link = sent.is ∙ ap (λ (b : Bool). sent_if b facts.turn.slot sent.link) none
-    ∙ was.is ∙ ap (λ (b : Bool). change_if b change was.link) differs in
-    Stays (was.was ∙ ap Some (sym same)) none (deaf handle facts.turn.doing (Some octets) (listens ∙ differs)) (hears_none handle (reply_if replies other) facts.turn.doing (reply_deaf replies handle other))
+-- it takes a packet on the link under some handle, with these links: its own one may have been given words
+module _ (setup : Setup) (facts : Facts) (links : Links) (octets : List ℕ) (handle other : ℕ)
+    (given : (base : OpenLink) → link_at handle links ≡ Some base
+    → WasOpen (change_if (other == handle) (link_worded setup facts facts.turn.doing)) (link_at handle facts.links) base) where
+  abbrev heard_with : Facts
+  heard_with = record facts { links = links }
 
-takes_on : (setup : Setup) (facts : Facts) (octets : List ℕ) (handle other : ℕ) (after : OpenLink) → listens_under handle facts.turn.doing ≡ (other == handle)
-    → link_at handle (facts_passed (link_heard setup other octets facts)).links ≡ Some after
-    → HasPassed facts (has_room setup facts) (Some octets) handle (facts_passed (link_heard setup other octets facts)).turn.doing after
-takes_on setup facts octets handle other after listens is =
-    let room = has_room setup facts in
-    let replies = replies_in facts.turn.slot room (link_at other facts.links) octets in
-    let sent = sending_under facts.turn.slot handle (reply_if replies other) (link_received other room octets facts).links after is in
-    taken_by facts octets room handle other after replies listens
-    (subst (λ (links : Links). WasOpen (sent_if (sends_under handle (reply_if replies other)) facts.turn.slot) (link_at handle links) after) (receiving_is other room octets facts) sent)
-    (other == handle) refl
+  abbrev room_now : Bool
+  room_now = has_room setup facts
+
+  abbrev change : OpenLink → OpenLink
+  change = place_receiving other room_now octets heard_with
+
+  -- it is answered at once as the request in the packet says
+  change_is : (base : OpenLink) → (other == handle) ≡ true → link_at handle links ≡ Some base → change base ≡ base_receiving handle room_now octets facts base
+  change_is base same at =
+      ap (λ n. refused_if (refusal_in facts.view n facts.turn.slot room_now (link_at n links) octets) (link_after (PacketReceived facts.turn.slot octets room_now) base)) (eqb-true other handle same)
+      ∙ ap (λ place. refused_if (refusal_in facts.view handle facts.turn.slot room_now place octets) (link_after (PacketReceived facts.turn.slot octets room_now) base)) at
+
+  taken_by : (after : OpenLink) (replies : Bool) → listens_under handle facts.turn.doing ≡ (other == handle)
+      → WasOpen (sent_if (sends_under handle (reply_if replies other)) facts.turn.slot) (link_at handle (with_change other change links)) after
+      → (same : Bool) → (other == handle) ≡ same → HasPassed setup facts room_now (Some octets) handle (reply_if replies other) after
+  taken_by after replies listens sent true one =
+      let was = change_under other handle change links sent.link sent.was in
+      let origin = given was.link was.was in
+      Takes origin.link octets origin.was refl (listens ∙ one)
+      (sent.is ∙ ap (sent_if (sends_under handle (reply_if replies other)) facts.turn.slot)
+      (was.is ∙ ap (λ (b : Bool). change_if b change was.link) one ∙ change_is was.link one was.was
+      ∙ ap (base_receiving handle room_now octets facts) (origin.is ∙ ap (λ (b : Bool). change_if b (link_worded setup facts facts.turn.doing) origin.link) one)))
+  taken_by after replies listens sent false differs =
+      let none = reply_none replies handle other differs in
+      let was = change_under other handle change links sent.link sent.was in
+      let origin = given was.link was.was in
+      let same : after ≡ origin.link = sent.is ∙ ap (λ (b : Bool). sent_if b facts.turn.slot sent.link) none
+      ∙ was.is ∙ ap (λ (b : Bool). change_if b change was.link) differs
+      ∙ origin.is ∙ ap (λ (b : Bool). change_if b (link_worded setup facts facts.turn.doing) origin.link) differs in
+      Stays (origin.was ∙ ap Some (sym same)) none (deaf handle facts.turn.doing (Some octets) (listens ∙ differs)) (hears_none handle (reply_if replies other) facts.turn.doing (reply_deaf replies handle other))
+
+  takes_on : (after : OpenLink) → listens_under handle facts.turn.doing ≡ (other == handle)
+      → link_at handle (facts_passed (link_heard setup other octets heard_with)).links ≡ Some after
+      → HasPassed setup facts room_now (Some octets) handle (facts_passed (link_heard setup other octets heard_with)).turn.doing after
+  takes_on after listens is =
+      let replies = replies_in facts.turn.slot room_now (link_at other links) octets in
+      let sent = sending_under facts.turn.slot handle (reply_if replies other) (link_received other room_now octets heard_with).links after is in
+      taken_by after replies listens
+      (subst (λ (found : Links). WasOpen (sent_if (sends_under handle (reply_if replies other)) facts.turn.slot) (link_at handle found) after) (receiving_is other room_now octets heard_with) sent)
+      (other == handle) refl
+
+-- a central hears without words
+unworded : (setup : Setup) (facts : Facts) (handle other : ℕ) → facts.turn.doing ≡ CentralListens other → (base : OpenLink) → link_at handle facts.links ≡ Some base
+    → WasOpen (change_if (other == handle) (link_worded setup facts facts.turn.doing)) (link_at handle facts.links) base
+unworded setup facts handle other doing base is = record { link = base; was = is; is = by (other == handle) }
+  where
+    by : (same : Bool) → base ≡ change_if same (link_worded setup facts facts.turn.doing) base
+    by true = ap (λ (d : Doing). link_worded setup facts d base) (sym doing)
+    by false = refl
+
+-- and a peripheral with those that it is given
+given_words : (setup : Setup) (facts : Facts) (handle other : ℕ) → facts.turn.doing ≡ PeripheralListens other → (base : OpenLink)
+    → link_at handle (facts_with_words setup other facts).links ≡ Some base
+    → WasOpen (change_if (other == handle) (link_worded setup facts facts.turn.doing)) (link_at handle facts.links) base
+given_words setup facts handle other doing base is =
+    let was = change_under other handle (link_worded setup facts (PeripheralListens other)) facts.links base is in
+    record { link = was.link; was = was.was; is = was.is ∙ ap (λ (d : Doing). change_if (other == handle) (link_worded setup facts d) was.link) (sym doing) }
 
 passes_by : (setup : Setup) (facts : Facts) (received : Option (List ℕ)) (handle : ℕ) (after : OpenLink) (doing : Doing) → facts.turn.doing ≡ doing
     → link_at handle (facts_after setup facts (step_of received)).links ≡ Some after
-    → HasPassed facts (has_room setup facts) received handle (facts_after setup facts (step_of received)).turn.doing after
+    → HasPassed setup facts (has_room setup facts) received handle (facts_after setup facts (step_of received)).turn.doing after
 passes_by setup facts None handle after (CentralSends other) doing is =
     let next = ap (λ (d : Doing). (unheard d facts)) doing in
     Stays (ap (λ (o : Outcome). link_at handle (facts_passed o).links) (sym next) ∙ is) (ap (λ (o : Outcome). sends_under handle o.next) next)
@@ -350,30 +410,32 @@ passes_by setup facts None handle after (CentralListens other) doing is =
     (hears_none handle (unheard facts.turn.doing facts).next facts.turn.doing (ap (λ (o : Outcome). listens_under handle o.next) next))
 passes_by setup facts (Some octets) handle after (CentralListens other) doing is =
     let next = ap (λ (d : Doing). (heard setup d octets facts)) doing in
-    subst (λ (o : Outcome). HasPassed facts (has_room setup facts) (Some octets) handle o.next after) (sym next)
-    (takes_on setup facts octets handle other after (ap (listens_under handle) doing) (ap (λ (o : Outcome). link_at handle (facts_passed o).links) (sym next) ∙ is))
+    subst (λ (o : Outcome). HasPassed setup facts (has_room setup facts) (Some octets) handle o.next after) (sym next)
+    (takes_on setup facts facts.links octets handle other (unworded setup facts handle other doing) after (ap (listens_under handle) doing)
+    (ap (λ (o : Outcome). link_at handle (facts_passed o).links) (sym next) ∙ is))
 passes_by setup facts None handle after (PeripheralListens other) doing is =
     let next = ap (λ (d : Doing). (unheard d facts)) doing in
     Stays (ap (λ (o : Outcome). link_at handle (facts_passed o).links) (sym next) ∙ is) (ap (λ (o : Outcome). sends_under handle o.next) next) (λ listens. refl)
     (hears_none handle (unheard facts.turn.doing facts).next facts.turn.doing (ap (λ (o : Outcome). listens_under handle o.next) next))
 passes_by setup facts (Some octets) handle after (PeripheralListens other) doing is =
     let next = ap (λ (d : Doing). (heard setup d octets facts)) doing in
-    subst (λ (o : Outcome). HasPassed facts (has_room setup facts) (Some octets) handle o.next after) (sym next)
-    (takes_on setup facts octets handle other after (ap (listens_under handle) doing) (ap (λ (o : Outcome). link_at handle (facts_passed o).links) (sym next) ∙ is))
+    subst (λ (o : Outcome). HasPassed setup facts (has_room setup facts) (Some octets) handle o.next after) (sym next)
+    (takes_on setup facts (facts_with_words setup other facts).links octets handle other (given_words setup facts handle other doing) after (ap (listens_under handle) doing)
+    (ap (λ (o : Outcome). link_at handle (facts_passed o).links) (sym next) ∙ is))
 passes_by setup facts received handle after (Advertises channel) doing is =
-    off_passes facts _ (has_room setup facts) received handle after (ap is_on_link doing) (off_phase setup facts received (Advertises channel) doing refl) is
+    off_passes setup facts _ (has_room setup facts) received handle after (ap is_on_link doing) (off_phase setup facts received (Advertises channel) doing refl) is
 passes_by setup facts received handle after other doing is =
-    off_passes facts _ (has_room setup facts) received handle after (ap is_on_link doing) (off_phase setup facts received other doing refl) is
+    off_passes setup facts _ (has_room setup facts) received handle after (ap is_on_link doing) (off_phase setup facts received other doing refl) is
 
 pub phase_under : (setup : Setup) (facts : Facts) (received : Option (List ℕ)) (handle : ℕ) (after : OpenLink)
     → link_at handle (facts_after setup facts (step_of received)).links ≡ Some after
-    → HasPassed facts (has_room setup facts) received handle (facts_after setup facts (step_of received)).turn.doing after
+    → HasPassed setup facts (has_room setup facts) received handle (facts_after setup facts (step_of received)).turn.doing after
 phase_under setup facts received handle after is = passes_by setup facts received handle after facts.turn.doing refl is
 
 -- where it is known what it listens for
 pub passes_under : (setup : Setup) (facts : Facts) (received : Option (List ℕ)) (handle : ℕ) (after : OpenLink) → IsListening facts facts.turn.doing
     → link_at handle (facts_after setup facts (step_of received)).links ≡ Some after
-    → HasPassed facts (has_room setup facts) received handle (facts_after setup facts (step_of received)).turn.doing after
+    → HasPassed setup facts (has_room setup facts) received handle (facts_after setup facts (step_of received)).turn.doing after
 passes_under setup facts received handle after listens is = phase_under setup facts received handle after is
 
 -- ---- what is noted of links that are opened
@@ -450,7 +512,7 @@ module _ (P : Note → Type 0) (of : IsOfTakes P) where
       let room = has_room setup facts in
       let found = link_at other facts.links in
       All-append P (notes_taken slot room found octets) _ (taken_noted slot room found octets)
-      (events_noted P of.feeds facts.view (events_received other slot room found octets))
+      (events_noted P of.feeds facts.view (events_received (was_encrypted other facts.view.links) other slot room found octets))
 
 -- none says that a link is opened, or that a PDU is sent
 pub taking_opens : (handle : ℕ) → IsOfTakes (OpensNone handle)
@@ -500,4 +562,6 @@ pub phase_quiet : (setup : Setup) (facts : Facts) (received : Option (List ℕ))
     ⊎ ((after : OpenLink) → link_at handle (facts_after setup facts (step_of received)).links ≡ Some after → IsOpenedNow facts.turn.slot after)
 unfolding IsQuiet
 phase_quiet setup facts None handle = unheard_is setup facts (IsQuiet handle facts) (each_quiet handle setup facts) facts.turn.doing refl
-phase_quiet setup facts (Some octets) handle = heard_is setup facts (IsQuiet handle facts) (each_quiet handle setup facts) facts.turn.doing octets refl
+phase_quiet setup facts (Some octets) handle =
+    heard_is setup facts (IsQuiet handle facts) (each_quiet handle setup facts) facts.turn.doing octets refl
+    (λ other. inl (received_quiet handle setup other octets (facts_with_words setup other facts)))

@@ -29,9 +29,10 @@ use Rattle.run_laws.specs.controller_model.declared.doing.Doing.{Doing}
 use Rattle.run_laws.specs.controller_model.declared.doing.Doing.TheVariants.{Advertises, CentralSends, PeripheralListens, PeripheralSends}
 use Rattle.run_laws.specs.controller_model.Step.{HostOctet, TurnEnds}
 use Rattle.run_laws.specs.controller_model.Facts.{Setup, Facts}
-use Rattle.run_laws.specs.controller_model.Commands.{facts_asking, facts_commanded, facts_known, links_after}
+use Rattle.run_laws.specs.controller_model.Commands.{facts_asking, facts_commanded, facts_known, links_after, moment_of}
 use Rattle.run_laws.specs.controller_model.Entering.{all_entered}
 use Rattle.run_laws.specs.controller_model.Host.{commands_accepted_after, commands_accepted_by, commands_accepted_in}
+use Rattle.run_laws.specs.controller_model.link_commands.declared.moments.Moment.{Moment}
 use Rattle.run_laws.specs.controller_model.link_commands.Commands.{host_step_of, is_about, step_if_about}
 use Rattle.run_laws.specs.controller_model.link_commands.LinksCommanded.{link_after_if, links_commanded, place_commanded}
 use Rattle.run_laws.specs.controller_model.Data.{facts_handed, facts_offered, offer_of}
@@ -180,13 +181,16 @@ fixing_under handle doing links after is = nothing_fixed (link_at handle links) 
 
 -- ---- an octet of the host
 
-module _ (facts : Facts) (octet handle : ℕ) (after : OpenLink) where
+module _ (setup : Setup) (facts : Facts) (octet handle : ℕ) (after : OpenLink) where
+  abbrev moment : Moment
+  moment = moment_of setup facts
+
   given_under : (start : Bool) (body : List ℕ) (other : ℕ) → link_at handle (links_given other start body facts.links) ≡ Some after
-      → HasHeardHost facts octet handle after
+      → HasHeardHost setup facts octet handle after
   given_under start body other is =
       by (other == handle) (change_under other handle (link_after (DataGiven start body)) facts.links after is)
     where
-      by : (same : Bool) → WasOpen (change_if same (link_after (DataGiven start body))) (link_at handle facts.links) after → HasHeardHost facts octet handle after
+      by : (same : Bool) → WasOpen (change_if same (link_after (DataGiven start body))) (link_at handle facts.links) after → HasHeardHost setup facts octet handle after
       by true was = GetsData was.link start body was.was was.is
       by false was = Unchanged (was.was ∙ ap Some (sym was.is))
 
@@ -195,61 +199,61 @@ module _ (facts : Facts) (octet handle : ℕ) (after : OpenLink) where
       absurd (let h : None ≡ Some after = sym (map_under (λ place. None) refl 0 handle facts.links) ∙ is in absurd cc)
   command_under other is = is
 
-  known_under : (accepted : Bool) (setup : Setup) (command : Command) → link_at handle (facts_known accepted setup facts command).links ≡ Some after
-      → HasHeardHost facts octet handle after
-  known_under true setup command is = Unchanged (command_under command is)
-  known_under false setup command is = Unchanged is
+  known_under : (accepted : Bool) (command : Command) → link_at handle (facts_known accepted setup facts command).links ≡ Some after
+      → HasHeardHost setup facts octet handle after
+  known_under true command is = Unchanged (command_under command is)
+  known_under false command is = Unchanged is
 
   -- a command that asks something of links is accepted
   asked_under : (command : Command) → commands_accepted_after facts (HostOctet octet) ≡ command ∷ []
-      → link_at handle (links_commanded command facts.turn.begun facts.links) ≡ Some after → HasHeardHost facts octet handle after
+      → link_at handle (links_commanded command moment facts.links) ≡ Some after → HasHeardHost setup facts octet handle after
   asked_under command accepted is =
-      at (is_about handle command) refl (link_at handle facts.links) refl (sym (asked_at command facts.turn.begun handle facts.links) ∙ is)
+      at (is_about handle command) refl (link_at handle facts.links) refl (sym (asked_at command moment handle facts.links) ∙ is)
     where
       made : (link : OpenLink) → link_at handle facts.links ≡ Some link → is_about handle command ≡ true → (step : Option EndStep)
-          → host_step_of command facts.turn.begun link.setup.link.role (facts_in link).peer ≡ step → Some (link_after_if step link) ≡ Some after
-          → HasHeardHost facts octet handle after
+          → host_step_of command moment link.setup.link.role (facts_in link).peer ≡ step → Some (link_after_if step link) ≡ Some after
+          → HasHeardHost setup facts octet handle after
       made link was about None none same = Unchanged (was ∙ same)
       made link was about (Some step) some same =
           let equal : link_after step link ≡ after = cc in
           IsAsked link command step was accepted
-          (ap (λ b. step_if_about b (host_step_of command facts.turn.begun link.setup.link.role (facts_in link).peer)) about ∙ some) (sym equal)
+          (ap (λ b. step_if_about b (host_step_of command moment link.setup.link.role (facts_in link).peer)) about ∙ some) (sym equal)
 
       at : (about : Bool) → is_about handle command ≡ about → (place : Option OpenLink) → link_at handle facts.links ≡ place
-          → place_commanded about command facts.turn.begun place ≡ Some after → HasHeardHost facts octet handle after
+          → place_commanded about command moment place ≡ Some after → HasHeardHost setup facts octet handle after
       at false other place was same = Unchanged (was ∙ same)
       at true about None was same = absurd cc
-      at true about (Some link) was same = made link was about (host_step_of command facts.turn.begun link.setup.link.role (facts_in link).peer) refl same
+      at true about (Some link) was same = made link was about (host_step_of command moment link.setup.link.role (facts_in link).peer) refl same
 
-  read_under : (setup : Setup) (read : CmdRead) → commands_accepted_after facts (HostOctet octet) ≡ commands_accepted_by facts read
-      → link_at handle (facts_commanded setup facts read).links ≡ Some after → HasHeardHost facts octet handle after
-  read_under setup (Known command) accepted is = by (status_of facts.view command == 0) (asks_links facts.view command) refl is
+  read_under : (read : CmdRead) → commands_accepted_after facts (HostOctet octet) ≡ commands_accepted_by facts read
+      → link_at handle (facts_commanded setup facts read).links ≡ Some after → HasHeardHost setup facts octet handle after
+  read_under (Known command) accepted is = by (status_of facts.view command == 0) (asks_links facts.view command) refl is
     where
       by : (ok asks : Bool) → (status_of facts.view command == 0) ≡ ok
-          → link_at handle (facts_asking (ok && asks) facts command (facts_known ok setup facts command)).links ≡ Some after → HasHeardHost facts octet handle after
+          → link_at handle (facts_asking (ok && asks) setup facts command (facts_known ok setup facts command)).links ≡ Some after → HasHeardHost setup facts octet handle after
       by true true ok found = asked_under command (accepted ∙ ap (λ b. if b then command ∷ [] else []) ok) found
-      by true false ok found = known_under true setup command found
-      by false asks ok found = known_under false setup command found
-  read_under setup UnknownOpcode accepted is = Unchanged is
-  read_under setup BadLength accepted is = Unchanged is
+      by true false ok found = known_under true command found
+      by false asks ok found = known_under false command found
+  read_under UnknownOpcode accepted is = Unchanged is
+  read_under BadLength accepted is = Unchanged is
 
   offered_under : (offer : Offer) (other : ℕ) (start : Bool) (body : List ℕ) → link_at handle (facts_offered offer other start body facts).links ≡ Some after
-      → HasHeardHost facts octet handle after
+      → HasHeardHost setup facts octet handle after
   offered_under Kept other start body is = given_under start body other is
   offered_under NoLink other start body is = Unchanged is
   offered_under Empty other start body is = Unchanged is
   offered_under Overflow other start body is = Unchanged is
 
-  fed_under : (setup : Setup) (fed : Fed) → result_of facts.octets octet ≡ fed → link_at handle (facts_fed setup facts fed).links ≡ Some after
-      → HasHeardHost facts octet handle after
-  fed_under setup (Packet (HostCommand opcode body)) fed is = read_under setup (command_of opcode body.items) (ap (commands_accepted_in facts) fed) is
-  fed_under setup (Packet (Acl other start count body)) fed is = offered_under (offer_of setup facts other count) other start body.items is
-  fed_under setup LostSync fed is = Unchanged is
-  fed_under setup More fed is = Unchanged is
+  fed_under : (fed : Fed) → result_of facts.octets octet ≡ fed → link_at handle (facts_fed setup facts fed).links ≡ Some after
+      → HasHeardHost setup facts octet handle after
+  fed_under (Packet (HostCommand opcode body)) fed is = read_under (command_of opcode body.items) (ap (commands_accepted_in facts) fed) is
+  fed_under (Packet (Acl other start count body)) fed is = offered_under (offer_of setup facts other count) other start body.items is
+  fed_under LostSync fed is = Unchanged is
+  fed_under More fed is = Unchanged is
 
 pub host_under : (setup : Setup) (facts : Facts) (octet handle : ℕ) (after : OpenLink)
-    → link_at handle (facts_after setup facts (HostOctet octet)).links ≡ Some after → HasHeardHost facts octet handle after
-host_under setup facts octet handle after is = fed_under facts octet handle after setup (result_of facts.octets octet) refl is
+    → link_at handle (facts_after setup facts (HostOctet octet)).links ≡ Some after → HasHeardHost setup facts octet handle after
+host_under setup facts octet handle after is = fed_under setup facts octet handle after (result_of facts.octets octet) refl is
 
 -- ---- a turn ends
 
@@ -350,19 +354,19 @@ asked_alike place step link is by_host =
       past = refl;
     }
 
-host_alike : (facts : Facts) (octet handle : ℕ) (after : OpenLink) → HasHeardHost facts octet handle after → WasAlike (link_at handle facts.links) after
-host_alike facts octet handle after (Unchanged was) = alike_same (link_at handle facts.links) after was
-host_alike facts octet handle after (GetsData link start body was is) =
+host_alike : (setup : Setup) (facts : Facts) (octet handle : ℕ) (after : OpenLink) → HasHeardHost setup facts octet handle after → WasAlike (link_at handle facts.links) after
+host_alike setup facts octet handle after (Unchanged was) = alike_same (link_at handle facts.links) after was
+host_alike setup facts octet handle after (GetsData link start body was is) =
     let place = link_at handle facts.links in
     alike_is place (link_after (DataGiven start body) link) after is (given_alike place start body link was)
-host_alike facts octet handle after (IsAsked link command step was accepted asks is) =
+host_alike setup facts octet handle after (IsAsked link command step was accepted asks is) =
     let place = link_at handle facts.links in
-    let well = asked_is_well facts octet handle command link.setup.link.role (facts_in link).peer step accepted asks in
+    let well = asked_is_well setup facts octet handle command link.setup.link.role (facts_in link).peer step accepted asks in
     alike_is place (link_after step link) after is (asked_alike place step link was well.by_host)
 
 pub octet_under : (setup : Setup) (facts : Facts) (octet handle : ℕ) (after : OpenLink)
     → link_at handle (facts_after setup facts (HostOctet octet)).links ≡ Some after → WasAlike (link_at handle facts.links) after
-octet_under setup facts octet handle after is = host_alike facts octet handle after (host_under setup facts octet handle after is)
+octet_under setup facts octet handle after is = host_alike setup facts octet handle after (host_under setup facts octet handle after is)
 
 pub end_under : (setup : Setup) (facts : Facts) (handle : ℕ) (after : OpenLink)
     → link_at handle (facts_after setup facts TurnEnds).links ≡ Some after → WasAlike (link_at handle facts.links) after

@@ -1,8 +1,11 @@
 //! The link under one handle after each call on a controller. The bodies are empty: the contracts
 //! are the laws.
-ghost use Rattle.std.specs.Prelude.{◌≡◌, ℕ, Bool, true, List, Option, Some};
+ghost use Rattle.std.specs.Prelude.{◌≡◌, ℕ, Bool, true, List, Option, Some, Result};
 ghost use Rattle.std.specs.Option.{option_map};
 ghost use Rattle.ble_base.specs.declared.roles.Role.TheVariants.{Central};
+ghost use Rattle.ble_base.specs.declared.error_codes.ErrCode.{ErrCode};
+ghost use Rattle.run_laws.specs.run_model.procedure_values.declared.asks.Ask.{Ask};
+ghost use Rattle.run_laws.specs.link_model.Step.{RequestAnswered};
 ghost use Rattle.run_laws.specs.link_model.Times.{ending_of};
 ghost use Rattle.run_laws.specs.open_links.Data.{link_reported};
 ghost use Rattle.run_laws.specs.open_links.OpenLinks.{OpenLink, facts_in, link_at};
@@ -13,7 +16,7 @@ ghost use Rattle.run_laws.specs.controller_model.Heard.{has_room};
 ghost use Rattle.run_laws.specs.controller_model.Side.{facts_after};
 ghost use Rattle.run_laws.specs.controller_model.Step.{HostOctet, TurnBegins, TurnEnds};
 ghost use Rattle.link_calls.specs.Hosts.{HasHeardHost};
-ghost use Rattle.link_calls.specs.Phases.{HasPassed, refuses_at};
+ghost use Rattle.link_calls.specs.Phases.{HasPassed, refusal_at};
 ghost use Rattle.link_calls.specs.Turns.{HasBegunTurn, HasEndedTurn};
 
 /// A link that is open after a turn began was open before it and had no reason to end. It entered
@@ -29,13 +32,13 @@ pub fn a_turn_begins_on_links()
 {}
 
 /// A link that is open after a phase is new, or nothing happened to it, or it received the packet
-/// of the phase. Then it may have refused a request of the peer, and it sent its packet if it is to
-/// answer (Core 5.2, volume 6 part B, sections 4.5.1, 4.5.9 and 5.1.7).
+/// of the phase. Then it may have answered a request of the peer at once, and it sent its packet if
+/// it is to answer (Core 5.2, volume 6 part B, sections 4.5.1, 4.5.9, 5.1.3.1 and 5.1.7).
 pub fn a_link_receives_answers_and_sends()
     ensures { (setup : Setup) (facts : Facts) (received : Option (List ℕ)) (handle : ℕ)
         (after : OpenLink)
         → link_at handle (facts_after setup facts (step_of received)).links ≡ Some after
-        → HasPassed facts (has_room setup facts) received handle
+        → HasPassed setup facts (has_room setup facts) received handle
         (facts_after setup facts (step_of received)).turn.doing after }
 {}
 
@@ -43,7 +46,8 @@ pub fn a_link_receives_answers_and_sends()
 /// host withholds from it (Core 5.2, volume 6 part B, section 5.1.7).
 pub fn only_a_central_refuses()
     ensures { (facts : Facts) (handle : ℕ) (room : Bool) (octets : List ℕ) (link : OpenLink)
-        → link_at handle facts.links ≡ Some link → refuses_at handle room octets facts ≡ true
+        (answer : Result Ask ErrCode)
+        → refusal_at handle room octets facts link ≡ Some (RequestAnswered answer)
         → link.setup.link.role ≡ Central }
 {}
 
@@ -53,7 +57,7 @@ pub fn only_a_central_refuses()
 pub fn a_host_gives_data_or_asks()
     ensures { (setup : Setup) (facts : Facts) (octet handle : ℕ) (after : OpenLink)
         → link_at handle (facts_after setup facts (HostOctet octet)).links ≡ Some after
-        → HasHeardHost facts octet handle after }
+        → HasHeardHost setup facts octet handle after }
 {}
 
 /// As a turn ends, the complete packets of each link are reported, and then a link is shut exactly

@@ -1,6 +1,8 @@
 -- A packet of one station on its way to the other, and what the history is after it.
-use Rattle.std.proofs.Common.{◌≡◌, ℕ, ◌+◌, ◌-◌, ◌==◌, ◌&&◌, ◌||◌, Bool, true, false, List, [], ◌∷◌, ◌++◌, length, drop, Option, Some, None, if◌then◌else◌, refl, sym, ap, subst, ◌∙◌, append-nil, arith}
+use Rattle.std.proofs.Common.{◌≡◌, ℕ, ◌+◌, ◌-◌, ◌==◌, ◌&&◌, ◌||◌, Bool, true, false, not, List, [], ◌∷◌, ◌++◌, length, drop, Option, Some, None, if◌then◌else◌, refl, sym, ap, subst, ◌∙◌, append-nil, arith}
+use Rattle.std.specs.Str.{bytes_eq}
 use Rattle.std.proofs.lemmas.Bool.{true≢false}
+use Rattle.std.proofs.lemmas.Slice.Eq.{bytes_eq-Decides}
 use Rattle.ble_base.specs.declared.roles.Side.{Side}
 use Rattle.ble_base.specs.declared.roles.Side.TheVariants.{A, B}
 use Rattle.ble_base.specs.declared.verdicts.Verdict.{Verdict}
@@ -14,10 +16,11 @@ use Rattle.controller_model.specs.Facts.{Use, Sends, Listens, Idle}
 use Rattle.controller_model.specs.Packets.{use_of}
 use Rattle.controller_model.specs.Side.{facts_of}
 use Rattle.controller.specs.Knowing.{Knows}
-use Rattle.journal_pdus.specs.run_model.History.{Event, Transmitted, Hearing, fates_used, fed_to, has_received, is_good, packet_received, packets_on_air, past_of, turns_begun}
+use Rattle.journal_pdus.specs.run_model.History.{Event, Transmitted, Hearing, fates_used, fed_to, has_received, is_good, is_handed, packet_received, packets_on_air, past_of, turns_begun}
 use Rattle.journal_pdus.specs.run_model.Journal.{journal_of, mark_of, side_of}
 use Rattle.journal_pdus.specs.run_model.Links.{Links, begins_link, links_of, with_link}
 use Rattle.journal_pdus.specs.run_model.Run.{Given, GoesOn, after_packet, fate_at, hearing_at, hearings_of, is_unseen, packet_outcome, packet_with, setup_at, unseen_in, use_at}
+use Rattle.journal_pdus.proofs.run_model.Handed.{handed_is_good}
 use Rattle.pair_world.specs.declared.stops.Stop.{Stop}
 use Rattle.pair_world.specs.declared.stops.Stop.TheVariants.{Unseen, Memory}
 use Rattle.pair_world.specs.Air.{HasFlown, InAir, IsSent, IsUnseenOr, goes_unseen, verdict_by, with_last}
@@ -105,7 +108,7 @@ module _ (station channel : ℕ) (octets : List ℕ) (hearing : Hearing) (histor
   journal_sent = journal_more history (Transmitted station channel octets (hearing ∷ []) ∷ [])
 
   received_sent : (other : ℕ) → packet_received other (sent_history station channel octets hearing history)
-      ≡ (if ((other == hearing.listener) && is_good hearing.verdict) || false then Some octets else packet_received other history)
+      ≡ (if (other == hearing.listener) && is_handed hearing.verdict then Some (damaged_packet hearing.fate octets) else packet_received other history)
   received_sent other = received_more other history (Transmitted station channel octets (hearing ∷ []) ∷ [])
 
 -- ---- the numbers of links after a packet
@@ -204,6 +207,18 @@ heard_sent false wanted channel octets is = refl
 received_here : (station : ℕ) (verdict : Verdict) (good : Bool) → good ≡ is_good verdict → (((station == station) && is_good verdict) || false) ≡ good
 received_here station verdict good is = (λ i. (same_number station i && is_good verdict) || false) ∙ or_false (is_good verdict) ∙ sym is
 
+-- as long as no link encrypts, it is handed to it just there, and as it was sent
+handed_here : (station : ℕ) (verdict : Verdict) (good : Bool) → is_handed verdict ≡ is_good verdict → good ≡ is_good verdict
+    → ((station == station) && is_handed verdict) ≡ good
+handed_here station verdict good handed is = (λ i. same_number station i && is_handed verdict) ∙ handed ∙ sym is
+
+handed_seen : (good judged equal : Bool) (heard octets : List ℕ) (before : Option (List ℕ)) → good ≡ judged → (equal ≡ true → heard ≡ octets)
+    → (judged && not equal) ≡ false → before ≡ None → (if good then Some heard else before) ≡ (if good then Some octets else None)
+handed_seen true true true heard octets before is same seen none = ap Some (same refl)
+handed_seen true true false heard octets before is same seen none = absurd (true≢false seen)
+handed_seen true false equal heard octets before is same seen none = absurd (true≢false is)
+handed_seen false judged equal heard octets before is same seen none = none
+
 same_use : (given : Given) (station : ℕ) (before after : List Event) → past_of station after ≡ past_of station before
     → use_at given station after ≡ use_at given station before
 same_use given station before after past =
@@ -250,11 +265,13 @@ sent_flies given fates slot history side sender listener new_sender new_listener
         packets_are = packets_sent s channel octets hearing history ∙ ap (λ (n : ℕ). n + 1) air.packets_are ∙ sym count;
       };
       own = received_sent s channel octets hearing history s
-          ∙ ap (λ (test : Bool). if (test && is_good hearing.verdict) || false then Some octets else packet_received s history) (not_other side);
+          ∙ ap (λ (test : Bool). if test && is_handed hearing.verdict then Some (damaged_packet hearing.fate octets) else packet_received s history) (not_other side);
       other = λ none.
           received_sent s channel octets hearing history t
-          ∙ ap (λ (test : Bool). if test then Some octets else packet_received t history) received
-          ∙ ap (λ (before : Option (List ℕ)). if good then Some octets else before) none
+          ∙ ap (λ (test : Bool). if test then Some (damaged_packet hearing.fate octets) else packet_received t history)
+          (handed_here t hearing.verdict good (handed_is_good given (fate_at fates (fates_used history)) channel octets history t) sent.good_is)
+          ∙ handed_seen good (is_good hearing.verdict) (bytes_eq (damaged_packet hearing.fate octets) octets) (damaged_packet hearing.fate octets) octets
+          (packet_received t history) sent.good_is (bytes_eq-Decides (damaged_packet hearing.fate octets) octets).0 sent.is_seen none
           ∙ heard_sent good wanted channel octets wants;
     }
 

@@ -24,13 +24,14 @@ use Rattle.run_pairs.specs.link_calls.link_model.Setup.{Setup as EndSetup}
 use Rattle.run_pairs.specs.link_calls.open_links.OpenLinks.{OpenLink, facts_in, link_at}
 use Rattle.run_pairs.specs.link_calls.run_model.History.{Called, Event, past_of}
 use Rattle.run_pairs.specs.link_calls.run_model.Run.{Given, facts_at, setup_at}
-use Rattle.run_pairs.specs.link_calls.Phases.{HasPassed, IsNew, Stays, Takes, refusal, refuses_at}
+use Rattle.run_pairs.specs.link_calls.Phases.{HasPassed, IsNew, Stays, Takes, link_worded, refusal}
 use Rattle.run_pairs.specs.link_calls.Uses.{listens_under, sends_under}
 use Rattle.run_pairs.proofs.link_calls.LinkCalls.{passes_under}
 use Rattle.run_pairs.proofs.link_calls.run_laws.TurnSteps.{IsListening}
 use Rattle.run_pairs.proofs.link_calls.run_model.Calls.{past_own}
 use Rattle.link_runs.specs.link_pairs.Hearing.{received}
 use Rattle.link_runs.specs.link_pairs.Turns.{sent_if}
+use Rattle.run_pairs.proofs.AtOnce.{refuses_at}
 use Rattle.run_pairs.proofs.EndCalls.{central_silent, refused_facts, taking_facts}
 use Rattle.run_pairs.proofs.LinkSteps.{replies_under}
 use Rattle.run_collisions.specs.Prevailing.{Prevails}
@@ -58,7 +59,7 @@ refused_same false setup facts is = refl
 
 module _ (setup : Setup) (facts : Facts) (octets : List ℕ) (handle : ℕ) (one next : OpenLink) (at : link_at handle facts.links ≡ Some one)
     (on : listens_under handle facts.turn.doing ≡ true) (old : one.setup.opened < facts.turn.slot) (same : next.setup ≡ one.setup)
-    (role : one.setup.link.role ≡ Central) where
+    (role : one.setup.link.role ≡ Central) (unworded : link_worded setup facts facts.turn.doing one ≡ one) where
   abbrev room : Bool
   room = has_room setup facts
 
@@ -66,7 +67,7 @@ module _ (setup : Setup) (facts : Facts) (octets : List ℕ) (handle : ℕ) (one
   received_here = received one.setup facts.turn.slot octets room (facts_in one)
 
   abbrev IsHere : EndFacts → Type 0
-  IsHere held = held ≡ refused_facts (refuses_at handle room octets facts) one.setup received_here
+  IsHere held = held ≡ refused_facts (refuses_at handle room octets facts one) one.setup received_here
 
   abbrev sends : Bool
   sends = sends_under handle (facts_after setup facts (PacketHeard octets)).turn.doing
@@ -74,7 +75,8 @@ module _ (setup : Setup) (facts : Facts) (octets : List ℕ) (handle : ℕ) (one
   silent : sends ≡ false
   silent =
       replies_under setup facts (Some octets) octets handle one refl on at
-      ∙ central_silent one.setup facts.turn.slot octets room (facts_in one) role
+      ∙ central_silent (link_worded setup facts facts.turn.doing one).setup facts.turn.slot octets room (facts_in (link_worded setup facts facts.turn.doing one))
+      (ap (λ (l : OpenLink). l.setup.link.role) unworded ∙ role)
 
   same_link : (a b : OpenLink) → Some a ≡ Some b → a ≡ b
   same_link a b is = cc
@@ -82,16 +84,19 @@ module _ (setup : Setup) (facts : Facts) (octets : List ℕ) (handle : ℕ) (one
   same_octets : (a b : List ℕ) → Some a ≡ Some b → a ≡ b
   same_octets a b is = cc
 
-  here : HasPassed facts room (Some octets) handle (facts_after setup facts (PacketHeard octets)).turn.doing next → IsHere (facts_in next)
+  -- it is given no words
+  same_base : (link : OpenLink) → Some link ≡ Some one → link_worded setup facts facts.turn.doing link ≡ one
+  same_base link is = ap (link_worded setup facts facts.turn.doing) (same_link link one is) ∙ unworded
+
+  here : HasPassed setup facts room (Some octets) handle (facts_after setup facts (PacketHeard octets)).turn.doing next → IsHere (facts_in next)
   here (IsNew end made opened off) =
       let now = ap (λ (s : EndSetup). s.opened) (sym same) ∙ ap (λ (l : OpenLink). l.setup.opened) made ∙ opened in absurd (omega (arith, old, now))
   here (Stays was none nothing listened) = absurd (let no = nothing on in cc)
   here (Takes link others was got listened is) =
-      ap facts_in is ∙ taking_facts sends handle room others facts link
-      ∙ (λ i. sent_if (silent i) (same_link link one (sym was ∙ at) i).setup facts.turn.slot
-      (refused_facts (refuses_at handle room (same_octets others octets (sym got) i) facts) (same_link link one (sym was ∙ at) i).setup
-      (received (same_link link one (sym was ∙ at) i).setup facts.turn.slot (same_octets others octets (sym got) i) room (facts_in (same_link link one (sym
-      was ∙ at) i)))))
+      ap facts_in is ∙ taking_facts sends handle room others facts (link_worded setup facts facts.turn.doing link)
+      ∙ (λ i. sent_if (silent i) (same_base link (sym was ∙ at) i).setup facts.turn.slot
+      (refused_facts (refuses_at handle room (same_octets others octets (sym got) i) facts (same_base link (sym was ∙ at) i)) (same_base link (sym was ∙ at) i).setup
+      (received (same_base link (sym was ∙ at) i).setup facts.turn.slot (same_octets others octets (sym got) i) room (facts_in (same_base link (sym was ∙ at) i)))))
 
   pub held_here : IsListening facts facts.turn.doing → link_at handle (facts_after setup facts (PacketHeard octets)).links ≡ Some next → IsHere (facts_in next)
   held_here listening is = here (passes_under setup facts (Some octets) handle next listening is)
@@ -101,7 +106,7 @@ module _ (setup : Setup) (facts : Facts) (octets : List ℕ) (handle : ℕ) (one
       → Prevails before (facts_in next) own other
   prevails_held before own other listening is prevails =
       subst (λ (held : EndFacts). Prevails before held own other)
-      (sym (held_here listening is ∙ refused_same (refuses_at handle room octets facts) one.setup received_here prevails.peer)) prevails
+      (sym (held_here listening is ∙ refused_same (refuses_at handle room octets facts one) one.setup received_here prevails.peer)) prevails
 
 -- the facts of the station after the call
 pub called_facts : (given : Given) (station : ℕ) (step : Step) (before : List Event)

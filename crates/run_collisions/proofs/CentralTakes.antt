@@ -48,17 +48,19 @@ use Rattle.link_pairs.proofs.link_model.Hearing.{IsHeardWhole}
 use Rattle.link_pairs.proofs.link_model.Received.{facts_heard, header_read, heard_good, notes_heard}
 use Rattle.link_pairs.proofs.Counts.{Says, acknowledged_by, is_fresh, says_right, turned}
 use Rattle.link_pairs.proofs.Ending.{central_lasts, run_on}
+use Rattle.link_pairs.proofs.HasSent.{HasSent, sent_packet}
 use Rattle.link_pairs.proofs.JointRuns.{HasRun, has_run}
 use Rattle.link_pairs.proofs.LastPdus.{last_reached}
 use Rattle.link_pairs.proofs.PeripheralSteps.{may_parts, one_step}
 use Rattle.link_pairs.proofs.PhasedEnds.{acked_if, acked_phased, drawn_alike, takes_phased}
 use Rattle.link_pairs.proofs.PhasedKept.{acked_keeps_if, fits_of}
 use Rattle.link_pairs.proofs.Reaching.{IsReached, comes}
-use Rattle.link_pairs.proofs.Reading.{HasSent, IsRead, are_heard, has_sent, understood}
+use Rattle.link_pairs.proofs.Reading.{IsRead}
 use Rattle.link_pairs.proofs.SeenAcknowledged.{control_seen}
 use Rattle.link_pairs.proofs.Sounding.{link_now, reached_now, runs}
 use Rattle.link_pairs.proofs.Ways.{arrives}
 use Rattle.link_answers.specs.Owing.{Owes}
+use Rattle.link_runs.proofs.AsSent.{IsAsSent, as_sent_up, ends_as_sent, understood_up}
 use Rattle.run_collisions.specs.Prevailing.{Prevails, first_of, seen, seen_by}
 use Rattle.run_collisions.specs.Refused.{is_refusing}
 use Rattle.run_collisions.specs.Taking.{TakesControl}
@@ -108,12 +110,13 @@ module _ (whole : IsHeardWhole) (central peripheral : Setup) (slot : ℕ) (c p :
   has_room = room || not (is_data last)
 
   und : IsUnderstood peripheral packet.before central c
-  und =
-      understood peripheral central slot (slot + 1) p c channel octets (sym ends.one_link.fields) s.peripheral_fits s.peripheral_rests packet same
-      s.central_rests.plain
+  und = understood_up whole central peripheral ends (slot + 1) slot true c p channel octets linked c_lasts p_lasts packet same
+
+  as_sent : IsAsSent central c slot octets p.acknowledgement
+  as_sent = as_sent_up whole central peripheral ends (slot + 1) slot true c p channel octets linked c_lasts p_lasts packet same
 
   sent : HasSent packet.before p
-  sent = subst (HasSent packet.before) (sym packet.sent) (has_sent slot packet.before)
+  sent = sent_packet peripheral slot p channel octets packet
 
   pdu_is : pdu_sent packet.before ≡ last
   pdu_is = sym sent.last
@@ -329,7 +332,8 @@ module _ (whole : IsHeardWhole) (central peripheral : Setup) (slot : ℕ) (c p :
     j_runs =
         running_from j (ap (λ (x : Joint). x.stopped) j_is ∙ terminates_none other ctrl opens)
         (ap (λ (k : Control). k.ends) j_control
-        ∙ central_lasts (are_heard whole) central peripheral slot c p channel octets room ends linked c_lasts p_lasts past entered packet same)
+        ∙ ends_as_sent central c slot octets p.acknowledgement as_sent now.control.ends _
+        (central_lasts whole central peripheral slot c p channel octets room ends linked c_lasts p_lasts past entered packet same as_sent.so.pure))
         (ap (λ (x : Joint). x.peripheral.control.ends) j_is ∙ ap (λ (x : Joint). x.peripheral.control.ends) s1_is ∙ (goes_on l.joint running).peripheral)
 
     prevails_joint : CentralPrevails s1 own other way.outgoing ctrl collides

@@ -31,16 +31,16 @@ use Rattle.run_pairs.proofs.link_calls.run_laws.TurnPlaces.{Within, at_stage, st
 use Rattle.link_runs.specs.link_pairs.Ends.{AreEnds, is_lasting}
 use Rattle.link_runs.specs.link_pairs.Hearing.{IsPacketOf, received}
 use Rattle.link_pairs.specs.link_model.Controls.{is_procedure_pdu}
-use Rattle.link_runs.proofs.link_pairs.SenderHears.{hears_the_end}
 use Rattle.run_pairs.specs.InTurns.{HasSentNow, HearEachInTurn}
 use Rattle.run_pairs.specs.Stages.{AreAnsweredEnds, AreBegunEnds, CentralTook, IsLate, IsOver, Lasts, PeripheralTook}
 use Rattle.run_pairs.proofs.BothEnds.{ByStanding, at_standing, kept_to, packet_now}
 use Rattle.run_pairs.proofs.CallPlaces.{StandsInPhase, stands_called}
 use Rattle.run_pairs.proofs.Conclusions.{listens_by, not_new, on_link, pair_ends, phase_of}
-use Rattle.run_pairs.proofs.EndCalls.{central_takes_in, peripheral_takes_in}
+use Rattle.run_pairs.proofs.EndCalls.{central_takes_in, central_unworded, peripheral_takes_in}
 use Rattle.run_pairs.proofs.LinkSteps.{AsksMayCome}
 use Rattle.run_pairs.proofs.OneSide.{StationAt, station_first, station_kept}
 use Rattle.run_pairs.proofs.PairSteps.{AreBothBegun, InTurn, IsPeripheralDone, NewOr}
+use Rattle.run_pairs.proofs.Stages.{hears_its_end}
 use Rattle.run_collisions.specs.Prevailing.{Prevails, TakesColliding, seen}
 use Rattle.run_collisions.specs.Refused.{IsRefused, TakesRejection, is_refusing}
 use Rattle.run_collisions.proofs.AfterCalls.{called_facts, prevails_held}
@@ -74,7 +74,7 @@ module _ (whole : IsHeardWhole) (central peripheral : EndSetup) (ends : AreEnds 
   answered_prevails (PeripheralTook parting) =
       absurd (none_there colliding.earlier colliding.later central.link.handle colliding.number 3 colliding.body
       (ap (filter is_took_note) (sym colliding.notes)
-      ∙ (hears_the_end whole peripheral central (sym ends.one_link.fields) ends.central_max.to p c parting slot channel octets packet same room).takes_none))
+      ∙ (hears_its_end whole peripheral central (sym ends.one_link.fields) ends.central_max.to p c parting slot channel octets packet same room).takes_none))
   answered_prevails (CentralTook parting none) = absurd (cc)
   answered_prevails (IsLate link none) = absurd (cc)
   answered_prevails (IsOver link none) = absurd (cc)
@@ -98,7 +98,7 @@ module _ (whole : IsHeardWhole) (central peripheral : EndSetup) (ends : AreEnds 
   answered_alone (PeripheralTook parting) =
       absurd (none_there taking.earlier taking.later central.link.handle taking.number 3 taking.body
       (ap (filter is_took_note) (sym taking.notes)
-      ∙ (hears_the_end whole peripheral central (sym ends.one_link.fields) ends.central_max.to p c parting slot channel octets packet same room).takes_none))
+      ∙ (hears_its_end whole peripheral central (sym ends.one_link.fields) ends.central_max.to p c parting slot channel octets packet same room).takes_none))
   answered_alone (CentralTook parting none) = absurd (cc)
   answered_alone (IsLate link none) = absurd (cc)
   answered_alone (IsOver link none) = absurd (cc)
@@ -116,7 +116,7 @@ module _ (whole : IsHeardWhole) (central peripheral : EndSetup) (ends : AreEnds 
   begun_refuses (inr parting) =
       absurd (none_there taking.earlier taking.later peripheral.link.handle taking.number 3 taking.body
       (ap (filter is_took_note) (sym taking.notes)
-      ∙ (hears_the_end whole central peripheral ends.one_link.fields ends.peripheral_max.to c p parting slot channel octets packet same room).takes_none))
+      ∙ (hears_its_end whole central peripheral ends.one_link.fields ends.peripheral_max.to c p parting slot channel octets packet same room).takes_none))
 
 module _ (whole : IsHeardWhole) (central peripheral : EndSetup) (ends : AreEnds central peripheral) (slot : ℕ) (c p : EndFacts) (channel : ℕ) (octets : List ℕ)
     (room : Bool) (packet : IsPacketOf central slot c channel octets) (same : channel ≡ p.event.channel)
@@ -129,7 +129,7 @@ module _ (whole : IsHeardWhole) (central peripheral : EndSetup) (ends : AreEnds 
   begun_taken (inr parting) =
       absurd (none_there taking.earlier taking.later peripheral.link.handle taking.number 3 taking.body
       (ap (filter is_took_note) (sym taking.notes)
-      ∙ (hears_the_end whole central peripheral ends.one_link.fields ends.peripheral_max.to c p parting slot channel octets packet same room).takes_none))
+      ∙ (hears_its_end whole central peripheral ends.one_link.fields ends.peripheral_max.to c p parting slot channel octets packet same room).takes_none))
 
   -- the link lasts there
   begun_lasts : AreBegunEnds central peripheral slot true true c p → is_lasting p ≡ true
@@ -137,7 +137,7 @@ module _ (whole : IsHeardWhole) (central peripheral : EndSetup) (ends : AreEnds 
   begun_lasts (inr parting) =
       absurd (none_there taking.earlier taking.later peripheral.link.handle taking.number 3 taking.body
       (ap (filter is_took_note) (sym taking.notes)
-      ∙ (hears_the_end whole central peripheral ends.one_link.fields ends.peripheral_max.to c p parting slot channel octets packet same room).takes_none))
+      ∙ (hears_its_end whole central peripheral ends.one_link.fields ends.peripheral_max.to c p parting slot channel octets packet same room).takes_none))
 
 -- ---- in a run
 
@@ -248,6 +248,9 @@ module _ (whole : IsHeardWhole) (understood : IsUnderstood) (taken : AreTaken) (
       (side.station.old (on_link central.handle facts_c.turn.doing listens)) is_open in
       prevails_held setup facts_c octets central.handle central.link next is_open
       (listens_by central.handle facts_c.turn.doing listens) old same of_one.is_central
+      (central_unworded facts_c.links central.handle central.link is_open setup facts_c stands.phases facts_c.turn.doing
+      (in_phase setup (past_of central.station before) stands.phases stands.turns stands.stand.own) (listens_by central.handle facts_c.turn.doing listens)
+      of_one.is_central)
       (seen c_here slot octets (facts_in central.link)) own other side.holds.phased.uses.in_turn.listens
       (ap (λ (f : Facts). link_at central.handle f.links) (sym (called_facts given central.station (PacketHeard octets) before)) ∙ opened)
       (prevails_in_run (has_room setup facts_c) own other colliding)

@@ -35,7 +35,7 @@ said_as pdu one ctrl read said = by (reading_view pdu)
 
 module _ (way : Way) (p c : Acknowledgement) (ctrl : Ctrl) (said : ctrl_of p.last.body ≡ Known ctrl) (procedure : is_procedure_pdu p.last ≡ true) where
   pub came : (takes accepted : Bool) → Arrival way p c takes accepted → accepted ≡ true → IsOnWay way takes p.last ctrl
-  came takes accepted (NothingTaken is none no_data free shown) now = absurd
+  came takes accepted (NothingTaken is none no_data uncounted free shown) now = absurd
       (let no : true ≡ false = sym procedure ∙ (λ i. sym now i && is_procedure_pdu p.last) ∙ none in cc)
   came takes accepted (ItemTaken data_item sealed on is taken item shown) now = absurd
       (let no : true ≡ false = sym procedure ∙ data_is_no_procedure p.last item in cc)

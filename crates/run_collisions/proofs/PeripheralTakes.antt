@@ -66,16 +66,17 @@ use Rattle.link_pairs.proofs.Answering.{gone, seen as seen_end}
 use Rattle.link_pairs.proofs.Counts.{Says, acknowledged_by, is_fresh, says_right, turned}
 use Rattle.link_pairs.proofs.Ending.{run_on}
 use Rattle.link_pairs.proofs.FixingNext.{FixesNext, fixing_of, may_fix_after}
+use Rattle.link_pairs.proofs.HasSent.{HasSent, sent_packet}
 use Rattle.link_pairs.proofs.JointRuns.{HasRun, has_run}
 use Rattle.link_pairs.proofs.LastPdus.{last_reached}
 use Rattle.link_pairs.proofs.PeripheralHears.{Meets, fixes, reaches}
 use Rattle.link_pairs.proofs.PeripheralSteps.{may_parts, one_step, seen_after, with_end}
 use Rattle.link_pairs.proofs.PhasedEnds.{acked_phased}
 use Rattle.link_pairs.proofs.Reaching.{IsReached, comes}
-use Rattle.link_pairs.proofs.Reading.{HasSent, has_sent, understood}
 use Rattle.link_pairs.proofs.SeenAcknowledged.{cleared, control_seen}
 use Rattle.link_pairs.proofs.Sounding.{link_now, reached_now, runs}
 use Rattle.link_pairs.proofs.Ways.{arrives}
+use Rattle.link_runs.proofs.AsSent.{understood_down}
 use Rattle.run_collisions.specs.Prevailing.{seen, seen_by}
 use Rattle.run_collisions.specs.Refused.{IsRefused}
 use Rattle.run_collisions.specs.Taking.{TakesControl}
@@ -96,7 +97,7 @@ module _ (whole : IsHeardWhole) (central peripheral : Setup) (slot : ℕ) (c p :
   running : is_running l.joint ≡ true
   running = runs central peripheral ends (slot + 1) false c p begun.linked c_lasts p_lasts
 
-  reached : IsReached central peripheral l
+  abbrev reached : IsReached central peripheral l
   reached = reached_now central peripheral ends (slot + 1) false c p begun.linked c_lasts p_lasts
 
   s : Shows central peripheral (slot + 1) false l c p
@@ -118,13 +119,13 @@ module _ (whole : IsHeardWhole) (central peripheral : Setup) (slot : ℕ) (c p :
 
   -- it encrypts nothing
   plain : IsPlain peripheral.link.role p
-  plain = s.peripheral_rests.plain
+  plain = begun.linked.plain.1.plain
 
   und : IsUnderstood central packet.before peripheral p
-  und = understood central peripheral slot (slot + 1) c p channel octets ends.one_link.fields s.central_fits s.central_rests packet same plain
+  und = understood_down whole central peripheral ends (slot + 1) slot false c p channel octets begun.linked c_lasts p_lasts packet same
 
   sent : HasSent packet.before c
-  sent = subst (HasSent packet.before) (sym packet.sent) (has_sent slot packet.before)
+  sent = sent_packet central slot c channel octets packet
 
   pdu_is : pdu_sent packet.before ≡ last
   pdu_is = sym sent.last
@@ -151,6 +152,8 @@ module _ (whole : IsHeardWhole) (central peripheral : Setup) (slot : ℕ) (c p :
         reached = reached;
         running = running;
         shows = s;
+        keys = begun.linked.keys running;
+        plain = plain;
         out_last = ap (λ (x : Phased). x.control.table.out) (sym s.peripheral_part) ∙ (last_reached central peripheral ends l reached).peripheral;
         bits = (ap is_odd (sym sent.acked), ap (λ (pdus : List Pdu). is_odd (length pdus)) (sym sent.accepted));
         out = sent.out;

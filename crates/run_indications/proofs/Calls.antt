@@ -37,7 +37,6 @@ use Rattle.run_pairs.proofs.link_calls.run_model.Stations.{is_in}
 use Rattle.link_runs.specs.joint_controls.Joint.{last_change}
 use Rattle.link_runs.specs.link_pairs.Ends.{AreEnds}
 use Rattle.link_runs.specs.link_pairs.Hearing.{IsPacketOf}
-use Rattle.link_runs.proofs.link_pairs.SenderHears.{hears_the_end}
 use Rattle.run_pairs.specs.InTurns.{HasSentNow, HearEachInTurn, HearsInTurn}
 use Rattle.run_pairs.specs.Stages.{AreBegunEnds}
 use Rattle.run_pairs.proofs.BothEnds.{at_standing, kept_to, packet_now}
@@ -47,6 +46,7 @@ use Rattle.run_pairs.proofs.EndCalls.{peripheral_takes_in}
 use Rattle.run_pairs.proofs.LinkSteps.{AsksMayCome}
 use Rattle.run_pairs.proofs.OneSide.{StationAt, station_first, station_kept}
 use Rattle.run_pairs.proofs.PairSteps.{AreBothBegun, InTurn, IsPacketNow, NewOr}
+use Rattle.run_pairs.proofs.Stages.{hears_its_end}
 use Rattle.run_indications.proofs.LastSent.{last_read}
 use Rattle.run_indications.proofs.TookNotes.{none_in, took_good}
 
@@ -63,7 +63,7 @@ module _ (whole : IsHeardWhole) (central peripheral : EndSetup) (ends : AreEnds 
       last_read whole central peripheral slot c p channel octets room ends link.begun link.central_lasts link.peripheral_lasts packet on_channel
       link.supervised before later handle number llid body indication noted says in_time
   begun_reads (inr parting) =
-      let over = hears_the_end whole central peripheral ends.one_link.fields ends.peripheral_max.to c p parting slot channel octets packet on_channel room in
+      let over = hears_its_end whole central peripheral ends.one_link.fields ends.peripheral_max.to c p parting slot channel octets packet on_channel room in
       none_in (last_change c.control.sent ≡ Some (change_of (event_of p.control.track) indication)) (filter is_took_note before) (filter is_took_note later)
       (Took handle number llid body)
       (sym over.takes_none ∙ ap (filter is_took_note) noted ∙ filter-append is_took_note before (Took handle number llid body ∷ later))

@@ -42,13 +42,15 @@ use Rattle.link_runs.specs.link_pairs.Ways.{IsControlPdu, IsUntaken, ShowsWay}
 use Rattle.link_runs.proofs.link_pairs.link_model.Received.{notes_heard}
 use Rattle.link_runs.proofs.link_pairs.Counts.{HasBitsOf, says_right, turned, unseen_is_taken}
 use Rattle.link_runs.proofs.link_pairs.Ending.{run_at}
+use Rattle.link_runs.proofs.link_pairs.HasSent.{HasSent, sent_packet}
 use Rattle.link_runs.proofs.link_pairs.Items.{data_is_no_control}
 use Rattle.link_runs.proofs.link_pairs.JointRuns.{HasRun, has_run}
-use Rattle.link_runs.proofs.link_pairs.PeripheralHears.{TakesAt, takes_now}
+use Rattle.link_runs.proofs.link_pairs.PeripheralHeard.{takes_now}
+use Rattle.link_runs.proofs.link_pairs.PeripheralHears.{TakesAt}
 use Rattle.link_runs.proofs.link_pairs.PeripheralSteps.{one_step}
 use Rattle.link_runs.proofs.link_pairs.Reaching.{IsReached}
-use Rattle.link_runs.proofs.link_pairs.Reading.{HasSent, are_heard, has_sent, understood}
 use Rattle.link_runs.proofs.link_pairs.Sounding.{link_now, reached_now, runs}
+use Rattle.link_runs.proofs.AsSent.{IsAsSent, as_sent_down, understood_down}
 use Rattle.run_indications.proofs.TookNotes.{took_new}
 
 -- ---- a control PDU, as notes and joint runs have its indication
@@ -198,7 +200,7 @@ module _ (whole : IsHeardWhole) (central peripheral : Setup) (slot : ℕ) (c p :
   abbrev l : Link
   l = link_now central peripheral ends (slot + 1) false c p begun.linked c_lasts p_lasts
 
-  reached : IsReached central peripheral l
+  abbrev reached : IsReached central peripheral l
   reached = reached_now central peripheral ends (slot + 1) false c p begun.linked c_lasts p_lasts
 
   shows : Shows central peripheral (slot + 1) false l c p
@@ -211,12 +213,13 @@ module _ (whole : IsHeardWhole) (central peripheral : Setup) (slot : ℕ) (c p :
   header = header_sent packet.before
 
   sent : HasSent packet.before c
-  sent = subst (HasSent packet.before) (sym packet.sent) (has_sent slot packet.before)
+  sent = sent_packet central slot c channel octets packet
 
   und : IsUnderstood central packet.before peripheral p
-  und =
-      understood central peripheral slot (slot + 1) c p channel octets ends.one_link.fields shows.central_fits shows.central_rests packet on_channel
-      shows.peripheral_rests.plain
+  und = understood_down whole central peripheral ends (slot + 1) slot false c p channel octets begun.linked c_lasts p_lasts packet on_channel
+
+  as_sent : IsAsSent peripheral p slot octets c.acknowledgement
+  as_sent = as_sent_down whole central peripheral ends (slot + 1) slot false c p channel octets begun.linked c_lasts p_lasts packet on_channel
 
   notes_are : notes_after peripheral p (PacketReceived slot octets room) ≡ notes_hearing peripheral slot room header last p
   notes_are =
@@ -237,6 +240,6 @@ module _ (whole : IsHeardWhole) (central peripheral : Setup) (slot : ℕ) (c p :
   last_read =
       last_taken central peripheral ends (slot + 1) slot (drawn p.encryption.response) false (takes_item (room || not (is_data c.acknowledgement.last)) (item_on_air l.joint.down)) c p
       (received peripheral slot octets room p).control l reached running shows
-      (takes_now (are_heard whole) central peripheral slot c p channel octets room ends begun packet on_channel supervised (begun.ready running) l
-      reached running shows)
+      (takes_now whole central peripheral slot c p channel octets room ends begun packet on_channel supervised as_sent.so.pure (begun.ready running) l
+      reached running shows (begun.linked.keys running) as_sent.read)
       (ap (λ (way : Way). takes_item (room || not (is_data c.acknowledgement.last)) (item_on_air way)) coming.on_air) indication coming in_time

@@ -19,7 +19,7 @@ use Rattle.run_model.specs.link_model.End.{facts_after, facts_of}
 use Rattle.run_model.specs.link_model.Facts.{Facts, first_facts}
 use Rattle.run_model.specs.link_model.Hearing.{is_on_air}
 use Rattle.run_model.specs.link_model.Packets.{more_sent, packet_sent, payload_sent, pdu_sent}
-use Rattle.run_model.specs.link_model.Step.{Step, DataGiven, DataReported, Disconnected, EventEntered, PacketReceived, PacketSent, PduFixed, ProcedureAsked, RequestAnswered}
+use Rattle.run_model.specs.link_model.Step.{Step, DataGiven, DataReported, Disconnected, EventEntered, KeyAnswered, PacketReceived, PacketSent, PduFixed, ProcedureAsked, RequestAnswered, WordsGiven}
 use Rattle.run_model.proofs.link_model.Acknowledging.{ack_sent as end_sent}
 use Rattle.run_model.proofs.link_model.Agreeing.{heard_agrees, others_leave}
 use Rattle.run_model.specs.open_links.OpenLinks.{OpenLink, facts_in, link_after, link_served, new_link}
@@ -65,6 +65,7 @@ ack_answered answer link = ack_kept (RequestAnswered answer) link refl
 asked_off_air : (step : Step) → IsAskedStep step → is_on_air step ≡ false
 asked_off_air (ProcedureAsked ask) by_host = refl
 asked_off_air (RequestAnswered answer) by_host = refl
+asked_off_air (KeyAnswered key slot) by_host = refl
 asked_off_air (Disconnected reason slot) by_host = refl
 asked_off_air (DataGiven start body) by_host = absurd by_host
 asked_off_air other by_host = absurd by_host
@@ -86,8 +87,12 @@ agree_reported one other agree = agree_by one (link_after DataReported one) othe
 pub agree_fixed : (one other : OpenLink) → Agree one other → Agree (link_after PduFixed one) other
 agree_fixed one other agree = agree_by one (link_after PduFixed one) other refl (ack_fixed one) agree
 
-pub agree_answered : (answer : Result Ask ErrCode) (one other : OpenLink) → Agree one other → Agree (link_after (RequestAnswered answer) one) other
-agree_answered answer one other agree = agree_by one (link_after (RequestAnswered answer) one) other refl (ack_answered answer one) agree
+-- nor as it is given words
+pub ack_worded : (skd_s iv_s : ℕ) (link : OpenLink) → ack_of (link_after (WordsGiven skd_s iv_s) link) ≡ ack_of link
+ack_worded skd_s iv_s link = ack_kept (WordsGiven skd_s iv_s) link refl
+
+pub agree_worded : (skd_s iv_s : ℕ) (one other : OpenLink) → Agree one other → Agree (link_after (WordsGiven skd_s iv_s) one) other
+agree_worded skd_s iv_s one other agree = agree_by one (link_after (WordsGiven skd_s iv_s) one) other refl (ack_worded skd_s iv_s one) agree
 
 pub agree_asked : (step : Step) (one other : OpenLink) → IsAskedStep step → Agree one other → Agree (link_after step one) other
 agree_asked step one other by_host agree = agree_by one (link_after step one) other refl (ack_asked step one by_host) agree

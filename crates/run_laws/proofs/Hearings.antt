@@ -22,9 +22,9 @@ use Rattle.radio_replay.specs.declared.fates.Fate.{Fate}
 use Rattle.run_model.specs.Feeding.{AreDistinct}
 use Rattle.run_model.specs.History.{Event, TurnBegan, HostFed, Transmitted, has_received, past_of, packet_received, turns_begun}
 use Rattle.run_model.specs.LinkEnds.{HaveAddresses}
-use Rattle.run_model.specs.Run.{Given, setup_at, facts_at, use_at, octets_left, after_call, after_octets, after_feed, hearings_of, step_of}
+use Rattle.run_model.specs.Run.{Given, setup_at, facts_at, use_at, octets_left, after_call, after_octets, after_feed, hearings_of, step_of, unseen_in}
 use Rattle.run_model.proofs.Calls.{past_other, past_own}
-use Rattle.run_model.proofs.LinkEnds.{is_listener, received_by, received_event}
+use Rattle.run_model.proofs.LinkEnds.{is_listener, received_by, received_event, received_packet}
 use Rattle.run_model.proofs.Stations.{is_in, among, in_more_other, in_more_same, not_before}
 use Rattle.run_model.proofs.Walk.{Place, AtPackets, AtListening, IsKept}
 use Rattle.run_laws.proofs.LinkPhases.{IsInPhase, SendsAs, in_phase, sends_as}
@@ -176,14 +176,15 @@ on_air_same false phases given history after sender channel octets same sent = u
 
 -- a packet on the air
 packet_heard : (given : Given) (phases : ℕ) (fates : List Fate) (station channel : ℕ) (octets : List ℕ) (history : List Event) (other : ℕ) → is_in station given.stations ≡ true
-    → use_at given station history ≡ Sends channel octets → (received : Bool) → has_received other (hearings_of given fates station channel octets history) ≡ received
+    → use_at given station history ≡ Sends channel octets → unseen_in octets (hearings_of given fates station channel octets history) ≡ None
+    → (received : Bool) → has_received other (hearings_of given fates station channel octets history) ≡ received
     → Hears given phases [] history other → Hears given phases [] (history ++ Transmitted station channel octets (hearings_of given fates station channel octets history) ∷ []) other
-packet_heard given phases fates station channel octets history other is_one wanted true is hears = λ sent same.
+packet_heard given phases fates station channel octets history other is_one wanted seen true is hears = λ sent same.
     let hearings = hearings_of given fates station channel octets history in
     let event = Transmitted station channel octets hearings in
     let after = history ++ event ∷ [] in
     let listener = is_listener given fates channel octets history station other is in
-    let told : Some octets ≡ Some sent = sym (received_event other history event ∙ ap (λ b. if b then Some octets else packet_received other history) is) ∙ same in
+    let told : Some octets ≡ Some sent = sym (received_packet given fates other station channel octets history seen ∙ ap (λ b. if b then Some octets else packet_received other history) is) ∙ same in
     let equal : octets ≡ sent = cc in record {
       sender = station;
       channel = channel;
@@ -192,11 +193,11 @@ packet_heard given phases fates station channel octets history other is_one want
       listens = use_same given other history after (event_past other history event refl) ∙ listener.listens;
       sent = use_same given station history after (event_past station history event refl) ∙ wanted ∙ ap (Sends channel) equal;
     }
-packet_heard given phases fates station channel octets history other is_one wanted false is hears = λ sent same.
+packet_heard given phases fates station channel octets history other is_one wanted seen false is hears = λ sent same.
     let hearings = hearings_of given fates station channel octets history in
     let event = Transmitted station channel octets hearings in
     let after = history ++ event ∷ [] in
-    let heard = hears sent (sym (received_event other history event ∙ ap (λ b. if b then Some octets else packet_received other history) is) ∙ same) in record {
+    let heard = hears sent (sym (received_packet given fates other station channel octets history seen ∙ ap (λ b. if b then Some octets else packet_received other history) is) ∙ same) in record {
       sender = heard.sender;
       channel = heard.channel;
       is_one = heard.is_one;
@@ -330,7 +331,7 @@ hearing_kept given six distinct = let kept = stands_kept given distinct in recor
       record { stand = kept.on_silence phases done left station history are none hearing.stand; hears = hearing.hears };
   on_packet = λ phases plan done left station channel octets history are some due hearing. record {
     stand = kept.on_packet phases plan done left station channel octets history are some due hearing.stand;
-    hears = λ other is. packet_heard given phases plan.fates station channel octets history other (among given.stations done left station are) due.is_wanted
+    hears = λ other is. packet_heard given phases plan.fates station channel octets history other (among given.stations done left station are) due.is_wanted due.is_seen
         (has_received other (hearings_of given plan.fates station channel octets history)) refl (hearing.hears other is);
   };
   on_air = λ phases history hearing. record { stand = kept.on_air phases history hearing.stand; hears = hearing.hears };

@@ -1,13 +1,14 @@
 -- What each call keeps of the links of one station, and how a call on one of two stations keeps what relates their links.
 use Rattle.std.proofs.Common.{◌≡◌, ℕ, ◌+◌, ◌<◌, ◌≤◌, ◌==◌, Bool, true, false, Option, Some, None, List, [], ◌∷◌, refl, sym, subst, ◌∙◌, arith}
-use Rattle.std.specs.Prelude.{Err}
+use Rattle.std.specs.Prelude.{IfSome}
+use Rattle.std.specs.Option.{option_map}
 use Rattle.std.proofs.lemmas.Bool.{eqb-true}
 use Rattle.run_model.specs.link_model.Setup.{Setup as EndSetup}
 use Rattle.run_model.specs.link_model.Acknowledgement.{first_acknowledgement}
-use Rattle.ble_base.specs.declared.error_codes.ErrCode.{ErrCode}
-use Rattle.run_model.specs.link_model.Step.{Step as EndStep, DataGiven, PduFixed, PacketSent, PacketReceived, RequestAnswered, DataReported}
-use Rattle.run_model.specs.open_links.OpenLinks.{Links, OpenLink, link_after, link_at, link_served, new_link}
+use Rattle.run_model.specs.link_model.Step.{Step as EndStep, DataGiven, PduFixed, PacketSent, PacketReceived, DataReported, WordsGiven}
+use Rattle.run_model.specs.open_links.OpenLinks.{Links, OpenLink, link_after, link_at, link_served, new_link, with_change}
 use Rattle.run_model.specs.open_links.Turns.{link_entered}
+use Rattle.run_model.proofs.open_links.Handles.{changed_is}
 use Rattle.run_model.proofs.open_links.Unmoved.{entered_setup}
 use Rattle.run_model.specs.controller_model.declared.doing.Turn.{Turn}
 use Rattle.run_model.specs.controller_model.Step.{Step, HostOctet, TurnBegins, TurnEnds}
@@ -20,10 +21,10 @@ use Rattle.run_model.proofs.controller_model.Handles.{HaveOwnHandles, handles_ke
 use Rattle.run_model.specs.Run.{Given, setup_at, step_of}
 use Rattle.run_model.proofs.Stations.{is_in}
 use Rattle.run_laws.specs.Ends.{link_listened}
-use Rattle.run_laws.proofs.Agreed.{Agree, ack_asked, ack_given, ack_of, ack_reported, agree_answered, agree_asked, agree_entered, agree_fixed, agree_given, agree_new, agree_reported, agree_sent, agree_served, first_ack}
+use Rattle.run_laws.proofs.Agreed.{Agree, ack_asked, ack_given, ack_of, ack_reported, agree_asked, agree_entered, agree_fixed, agree_given, agree_new, agree_reported, agree_sent, agree_served, agree_worded, first_ack}
 use Rattle.run_laws.proofs.ByCalls.{IsCalled, IsKeptByCalls}
 use Rattle.run_laws.proofs.Entering.{IsInTurn}
-use Rattle.run_laws.proofs.LinkPasses.{IsPassingOn, LeavesAll, OpensOne, ReceivesOn, is_on_link, links_receiving, phase_passes_on}
+use Rattle.run_laws.proofs.LinkPasses.{IsPassingOn, LeavesAll, OpensOne, ReceivesOn, is_on_link, links_receiving, links_worded, phase_passes_on}
 use Rattle.run_laws.proofs.OpenSteps.{EachOpen, IsAskedWell, IsKeptByHosts, IsKeptOpen, IsKeptServed, KeepsAsked, MayOpen, begin_open, changed, changed_at, end_open, none_open, octet_open, phase_open, open_more, opened, refuses as refusing, sends}
 use Rattle.run_laws.proofs.TurnPlaces.{Within}
 use Rattle.run_laws.proofs.TurnSteps.{MakesWell, begins_begun, begins_slot, ends_turn, octet_turn, phase_turn}
@@ -85,7 +86,7 @@ short_asked : KeepsAsked TakesShort
 short_asked step link well is = is
 
 short_open : IsKeptOpen TakesShort
-short_open = record { serving = short_served; received = λ now octets room link is. is; answered = λ code link is. is }
+short_open = record { serving = short_served; worded = λ skd_s iv_s link is. is; received = λ now octets room link is. is; answered = short_asked }
 
 short_entered : (now : ℕ) (link : OpenLink) → TakesShort link → TakesShort (link_entered now link)
 short_entered now link is = subst (λ (s : EndSetup). 27 ≤ s.link.max_rx) (sym (entered_setup now link)) is
@@ -149,12 +150,17 @@ station_ends setup facts is =
     }
 
 -- what receives, and may send after that, was opened before
-received_before : (slot handle : ℕ) (octets : List ℕ) (room refuses replies : Bool) (facts : Facts) → EachOpen (OpenedBefore slot) facts.links
-    → EachOpen (OpenedBefore slot) (links_receiving handle octets room refuses replies facts)
-received_before slot handle octets room refuses replies facts each =
+received_before : (slot handle : ℕ) (octets : List ℕ) (room : Bool) (words : Option (ℕ × ℕ)) (refusal : Option EndStep) (replies : Bool) (facts : Facts)
+    → IfSome refusal IsAskedWell → EachOpen (OpenedBefore slot) facts.links
+    → EachOpen (OpenedBefore slot) (links_receiving handle octets room words refusal replies facts)
+received_before slot handle octets room words refusal replies facts well each =
     sends (OpenedBefore slot) (before_served slot) facts.turn.slot (reply_if replies handle) _
-    (refusing (OpenedBefore slot) (λ code link is. is) refuses handle _
-    (changed (OpenedBefore slot) handle (link_after (PacketReceived facts.turn.slot octets room)) facts.links (λ link is. is) each))
+    (refusing (OpenedBefore slot) (before_asked slot) refusal well handle _
+    (changed (OpenedBefore slot) handle (link_after (PacketReceived facts.turn.slot octets room)) _ (λ link is. is) (given words)))
+  where
+    given : (words : Option (ℕ × ℕ)) → EachOpen (OpenedBefore slot) (links_worded words handle facts.links)
+    given None = each
+    given (Some (skd_s, iv_s)) = changed (OpenedBefore slot) handle (link_after (WordsGiven skd_s iv_s)) facts.links (λ link is. is) each
 
 now_before : (slot begun : ℕ) → slot + 1 ≡ begun → slot < begun
 now_before slot begun is = omega (arith, is)
@@ -168,8 +174,8 @@ passing_before facts after received begun now (LeavesAll same on) each = subst (
 passing_before facts after received begun now (OpensOne link is none) each =
     subst (EachOpen (OpenedBefore begun)) (sym is)
     (opened (OpenedBefore begun) (record { link = link; opened = facts.turn.slot }) facts.links (now_before facts.turn.slot begun now) each)
-passing_before facts after received begun now (ReceivesOn handle octets is wanted listens on room refuses replies refused links_are) each =
-    subst (EachOpen (OpenedBefore begun)) (sym links_are) (received_before begun handle octets room refuses replies facts each)
+passing_before facts after received begun now (ReceivesOn handle octets is wanted listens on room words refusal replies well links_are) each =
+    subst (EachOpen (OpenedBefore begun)) (sym links_are) (received_before begun handle octets room words refusal replies facts well each)
 
 passing_fresh : (setup : Setup) (facts after : Facts) (received : Option (List ℕ)) → IsStation setup facts → IsPassingOn facts received after
     → EachOpen (IsFresh facts.turn.slot) after.links
@@ -178,18 +184,18 @@ passing_fresh setup facts after received station (OpensOne link is none) =
     subst (EachOpen (IsFresh facts.turn.slot)) (sym is)
     (opened (IsFresh facts.turn.slot) (record { link = link; opened = facts.turn.slot }) facts.links
     (λ same. first_ack (record { link = link; opened = facts.turn.slot })) station.fresh)
-passing_fresh setup facts after received station (ReceivesOn handle octets is wanted listens on room refuses replies refused links_are) =
+passing_fresh setup facts after received station (ReceivesOn handle octets is wanted listens on room words refusal replies well links_are) =
     let slot = facts.turn.slot in
     subst (EachOpen (IsFresh slot)) (sym links_are)
-    (open_more (OpenedBefore slot) (IsFresh slot) _ (before_fresh slot) (received_before slot handle octets room refuses replies facts (station.old on)))
+    (open_more (OpenedBefore slot) (IsFresh slot) _ (before_fresh slot) (received_before slot handle octets room words refusal replies facts well (station.old on)))
 
 passing_old : (setup : Setup) (facts after : Facts) (received : Option (List ℕ)) → IsStation setup facts → IsPassingOn facts received after
     → is_on_link after.turn.doing ≡ true → EachOpen (OpenedBefore facts.turn.slot) after.links
 passing_old setup facts after received station (LeavesAll same on) does = subst (EachOpen (OpenedBefore facts.turn.slot)) (sym same) (station.old (on does))
 passing_old setup facts after received station (OpensOne link is none) does = no_link _ (is_on_link after.turn.doing) none does
-passing_old setup facts after received station (ReceivesOn handle octets is wanted listens on room refuses replies refused links_are) does =
+passing_old setup facts after received station (ReceivesOn handle octets is wanted listens on room words refusal replies well links_are) does =
     subst (EachOpen (OpenedBefore facts.turn.slot)) (sym links_are)
-    (received_before facts.turn.slot handle octets room refuses replies facts (station.old on))
+    (received_before facts.turn.slot handle octets room words refusal replies facts well (station.old on))
 
 pub station_passes : (setup : Setup) (facts : Facts) (phases turns : ℕ) (received : Option (List ℕ)) → IsInTurn setup (Within phases) turns facts → IsStation setup facts
     → IsStation setup (facts_after setup facts (step_of received))
@@ -234,7 +240,7 @@ pub record IsKeptByFirst (R : OpenLink → OpenLink → Type 0) : Type 0 where
   pub served : (slot : ℕ) (one other : OpenLink) → R one other → R (link_served slot one) other
   pub sent : (slot : ℕ) (one other : OpenLink) → R one other → R (link_after (PacketSent slot) one) other
   pub entered : (slot : ℕ) (one other : OpenLink) → R one other → R (link_entered slot one) other
-  pub answered : (code : ErrCode) (one other : OpenLink) → R one other → R (link_after (RequestAnswered (Err code)) one) other
+  pub worded : (skd_s iv_s : ℕ) (one other : OpenLink) → R one other → R (link_after (WordsGiven skd_s iv_s) one) other
   pub asked : (step : EndStep) (one other : OpenLink) → IsAskedWell step → R one other → R (link_after step one) other
 
 pub agree_kept : IsKeptByFirst Agree
@@ -245,7 +251,7 @@ agree_kept = record {
   served = agree_served;
   sent = agree_sent;
   entered = agree_entered;
-  answered = λ code one other agree. agree_answered (Err code) one other agree;
+  worded = agree_worded;
   asked = λ step one other well agree. agree_asked step one other well.by_host agree;
 }
 
@@ -270,24 +276,57 @@ module _ (R : OpenLink → OpenLink → Type 0) (kept : IsKeptByFirst R) (others
     sent = λ slot one all. open_more (R one) (R (link_after (PacketSent slot) one)) others (λ other is. kept.sent slot one other is) all;
   }
 
+-- as it receives, it may have been given words
+abbrev pub link_worded : Option (ℕ × ℕ) → OpenLink → OpenLink
+link_worded None link = link
+link_worded (Some words) link = link_after (WordsGiven words.0 words.1) link
+
+record WasChanged (change : OpenLink → OpenLink) (place : Option OpenLink) (after : OpenLink) : Type 0 where
+  link : OpenLink
+  was : place ≡ Some link
+  is : after ≡ change link
+
+was_changed : (change : OpenLink → OpenLink) (place : Option OpenLink) (after : OpenLink) → option_map change place ≡ Some after → WasChanged change place after
+was_changed change None after is = absurd cc
+was_changed change (Some link) after is = record { link = link; was = refl; is = cc }
+
 -- a phase of the first station keeps a relation that a new link has, and one that receives keeps
 pub passing_keeps : (R : OpenLink → OpenLink → Type 0) → IsKeptByFirst R → (others : Links) (facts after : Facts) (received : Option (List ℕ))
     → ((end : EndSetup) → end.opened ≡ facts.turn.slot → EachOpen (R (new_link end)) others)
-    → ((handle : ℕ) (octets : List ℕ) (room : Bool) (one : OpenLink) → received ≡ Some octets → link_listened facts.turn.doing ≡ Some handle
-    → facts.wanted ≡ listens_on (link_at handle facts.links) → link_at handle facts.links ≡ Some one → EachOpen (R one) others
-    → EachOpen (R (link_after (PacketReceived facts.turn.slot octets room) one)) others)
+    → ((handle : ℕ) (octets : List ℕ) (room : Bool) (words : Option (ℕ × ℕ)) (one : OpenLink) → received ≡ Some octets
+    → link_listened facts.turn.doing ≡ Some handle → facts.wanted ≡ listens_on (link_at handle facts.links) → link_at handle facts.links ≡ Some one
+    → EachOpen (R (link_worded words one)) others
+    → EachOpen (R (link_after (PacketReceived facts.turn.slot octets room) (link_worded words one))) others)
     → IsPassingOn facts received after → AllPairs R facts.links others → AllPairs R after.links others
 passing_keeps R kept others facts after received new heard (LeavesAll same on) all = subst (λ links. AllPairs R links others) (sym same) all
 passing_keeps R kept others facts after received new heard (OpensOne link is none) all =
     let end : EndSetup = record { link = link; opened = facts.turn.slot } in
     subst (λ links. AllPairs R links others) (sym is) (opened (λ one. EachOpen (R one) others) end facts.links (new end refl) all)
-passing_keeps R kept others facts after received new heard (ReceivesOn handle octets is wanted listens on room refuses replies refused links_are) all =
+passing_keeps R kept others facts after received new heard (ReceivesOn handle octets is wanted listens on room words refusal replies well links_are) all =
     subst (λ links. AllPairs R links others) (sym links_are)
     (sends (λ one. EachOpen (R one) others) (all_served R kept others) facts.turn.slot (reply_if replies handle) _
-    (refusing (λ one. EachOpen (R one) others)
-    (λ code one each. open_more (R one) (R (link_after (RequestAnswered (Err code)) one)) others (λ other is. kept.answered code one other is) each) refuses handle _
-    (changed_at (λ one. EachOpen (R one) others) 0 handle (link_after (PacketReceived facts.turn.slot octets room)) facts.links
-    (λ one at each. heard handle octets room one is listens wanted at each) all)))
+    (refusing (λ one. EachOpen (R one) others) (all_asked R kept others) refusal well handle _ (takes words (heard handle octets room))))
+  where
+    step : EndStep
+    step = PacketReceived facts.turn.slot octets room
+
+    takes : (words : Option (ℕ × ℕ))
+        → ((words : Option (ℕ × ℕ)) (one : OpenLink) → received ≡ Some octets → link_listened facts.turn.doing ≡ Some handle
+        → facts.wanted ≡ listens_on (link_at handle facts.links) → link_at handle facts.links ≡ Some one
+        → EachOpen (R (link_worded words one)) others → EachOpen (R (link_after step (link_worded words one))) others)
+        → AllPairs R (with_change handle (link_after step) (links_worded words handle facts.links)) others
+    takes None hears =
+        changed_at (λ one. EachOpen (R one) others) 0 handle (link_after step) facts.links
+        (λ one at each. hears None one is listens wanted at each) all
+    takes (Some (skd_s, iv_s)) hears =
+        let given = link_after (WordsGiven skd_s iv_s) in
+        changed_at (λ one. EachOpen (R one) others) 0 handle (link_after step) (with_change handle given facts.links)
+        (λ one at each.
+        let before = was_changed given (link_at handle facts.links) one (sym (changed_is (option_map given) 0 handle facts.links refl) ∙ at) in
+        subst (λ (now : OpenLink). EachOpen (R (link_after step now)) others) (sym before.is)
+        (hears (Some (skd_s, iv_s)) before.link is listens wanted before.was (subst (λ (now : OpenLink). EachOpen (R now) others) before.is each)))
+        (changed (λ one. EachOpen (R one) others) handle given facts.links
+        (λ one each. open_more (R one) (R (given one)) others (λ other is. kept.worded skd_s iv_s one other is) each) all)
 
 -- a link that opens while those of the other station that have its slot are fresh
 pub new_agree : (slot : ℕ) (others : Links) → EachOpen (IsFresh slot) others → (end : EndSetup) → end.opened ≡ slot → WithAll others (new_link end)

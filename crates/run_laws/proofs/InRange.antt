@@ -1,19 +1,19 @@
 -- In every run, what the host of each open end asked and answered is in range, and each end receives payloads of any
 -- length.
 use Rattle.std.proofs.Common.{◌≡◌, ℕ, Bool, true, false, Option, Some, None, List, [], ◌∷◌, ◌++◌, refl, sym, subst}
-use Rattle.std.specs.Prelude.{⊤, ◌&&◌, Err, if◌then◌else◌}
+use Rattle.std.specs.Prelude.{⊤, ◌&&◌, if◌then◌else◌}
 use Rattle.std.specs.List.{Contains}
 use Rattle.ble_base.specs.Limits.{payload_octets}
 use Rattle.adv_pdu.specs.declared.pdu.AdvPdu.{AdvPdu}
 use Rattle.scan_init.specs.Reports.{does_ask, scan_answer}
 use Rattle.run_model.specs.link_model.ControlSteps.{AreAsksInRange, IsAskInRange}
-use Rattle.run_model.specs.link_model.Step.{Step as EndStep, DataGiven, DataReported, EventEntered, PacketReceived, PacketSent, PduFixed, RequestAnswered}
+use Rattle.run_model.specs.link_model.Step.{Step as EndStep, DataGiven, DataReported, EventEntered, PacketReceived, PacketSent, PduFixed, WordsGiven}
 use Rattle.run_model.specs.open_links.OpenLinks.{OpenLink, link_after, link_at}
 use Rattle.run_model.specs.open_links.Turns.{entered_if, enters_in, link_entered}
 use Rattle.run_model.specs.controller_model.declared.doing.Doing.{Doing}
 use Rattle.run_model.specs.controller_model.declared.doing.Doing.TheVariants.{Advertises, Connects}
 use Rattle.run_model.specs.controller_model.Facts.{Facts, Setup, first_facts}
-use Rattle.run_model.specs.controller_model.Heard.{asks_if, has_room, replies_in, reply_if}
+use Rattle.run_model.specs.controller_model.Heard.{asks_if, facts_with_words, has_room, replies_in, reply_if}
 use Rattle.run_model.specs.controller_model.Outcome.{facts_passed}
 use Rattle.run_model.specs.controller_model.Side.{facts_after, facts_of}
 use Rattle.run_model.proofs.controller_model.Always.{MayBegin}
@@ -64,7 +64,9 @@ outcomes_max setup facts = record {
 
 phase_max : (setup : Setup) (facts : Facts) (received : Option (List ℕ)) → MakesMax (facts_after setup facts (step_of received)).turn.doing
 phase_max setup facts None = unheard_is setup facts _ (outcomes_max setup facts) facts.turn.doing refl
-phase_max setup facts (Some octets) = heard_is setup facts _ (outcomes_max setup facts) facts.turn.doing octets refl
+phase_max setup facts (Some octets) =
+    heard_is setup facts (λ outcome. MakesMax (facts_passed outcome).turn.doing) (outcomes_max setup facts) facts.turn.doing octets refl
+    (λ handle. (outcomes_max setup (facts_with_words setup handle facts)).received handle octets)
 
 -- ---- a step of a link
 
@@ -76,7 +78,7 @@ front_asks : (past more : List EndStep) → AreAsksInRange (past ++ more) → Ar
 front_asks [] more are = tt
 front_asks (step ∷ past) more are = (are.0, front_asks past more are.1)
 
-ranges_after : (step : EndStep) (link : OpenLink) → IsAskInRange step → HasRanges link → HasRanges (link_after step link)
+pub ranges_after : (step : EndStep) (link : OpenLink) → IsAskInRange step → HasRanges link → HasRanges (link_after step link)
 ranges_after step link is has = record { max_rx = has.max_rx; asks = one_more link.past step has.asks is }
 
 -- so it was before the step
@@ -113,12 +115,12 @@ ranges_served = record {
   sent = λ slot link has. ranges_after (PacketSent slot) link tt has;
 }
 
--- the refusal of a request has no value
 ranges_open : IsKeptOpen HasRanges
 ranges_open = record {
   serving = ranges_served;
   received = λ slot octets room link has. ranges_after (PacketReceived slot octets room) link tt has;
-  answered = λ code link has. ranges_after (RequestAnswered (Err code)) link tt has;
+  worded = λ skd_s iv_s link has. ranges_after (WordsGiven skd_s iv_s) link tt has;
+  answered = ranges_asked;
 }
 
 -- ---- at any time of a controller

@@ -14,7 +14,6 @@ pub mod ByCalls
 pub mod ChSel
 pub mod LinkPasses
 pub mod InRange
-pub mod ReadRanges
 pub mod EndLengths
 pub mod Pieces
 pub mod Agreed

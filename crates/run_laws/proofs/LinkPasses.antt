@@ -1,6 +1,6 @@
 -- What a phase does to the links of a controller: nothing; it opens one; or one receives, and may send after that.
 use Rattle.std.proofs.Common.{◌≡◌, ℕ, Bool, true, false, Option, Some, None, List, refl, ap}
-use Rattle.std.specs.Prelude.{◌&&◌}
+use Rattle.std.specs.Prelude.{IfSome, ◌&&◌}
 use Rattle.ble_base.specs.declared.addresses.Address.{Address}
 use Rattle.adv_pdu.specs.declared.pdu.AdvPdu.{AdvPdu}
 use Rattle.adv_pdu.specs.declared.pdu.ConnectFields.{ConnectFields}
@@ -8,21 +8,24 @@ use Rattle.advertise.specs.declared.answers.AdvAnswer.{AdvAnswer}
 use Rattle.advertise.specs.declared.answers.AdvAnswer.TheVariants.{Ignore, Respond, Connect as Takes}
 use Rattle.advertise.specs.Advertising.{AdvertiserFacts}
 use Rattle.advertise.specs.Answers.{advertiser_answer}
-use Rattle.run_model.specs.link_model.Step.{PacketReceived}
+use Rattle.run_model.specs.link_model.Step.{Step as EndStep, PacketReceived}
 use Rattle.run_model.specs.link_model.declared.setup.LinkSetup.{LinkSetup}
 use Rattle.scan_init.specs.Initiating.{InitiatorFacts}
 use Rattle.scan_init.specs.Reports.{ScannerFacts, does_ask, scan_answer}
 use Rattle.run_model.specs.open_links.OpenLinks.{Links, free_from, link_after, link_at, with_change, with_link}
+use Rattle.run_model.specs.open_links.Keys.{links_with_words}
 use Rattle.run_model.specs.controller_model.declared.doing.Doing.{Doing}
 use Rattle.run_model.specs.controller_model.declared.doing.Doing.TheVariants.{Advertises, AwaitsRequest, Scans, Requests, AwaitsResponse, Initiates, Connects, CentralSends, CentralListens, PeripheralListens, PeripheralSends}
 use Rattle.run_model.specs.controller_model.Facts.{Setup, Facts}
-use Rattle.run_model.specs.controller_model.Heard.{advertiser_answers, advertiser_heard, asks_if, connects, effect_in, has_room, heard, if_pdu, initiator_heard, is_refused, link_taken, link_to, links_refusing, opens, reply_if, scanner_after, scanner_heard, taken_if, taken_under, unheard, with_scanner}
+use Rattle.run_model.specs.controller_model.Heard.{advertiser_answers, advertiser_heard, asks_if, connects, facts_with_words, has_room, heard, if_pdu, initiator_heard, link_taken, link_to, links_refusing, opens, reply_if, scanner_after, scanner_heard, taken_if, taken_under, unheard, with_scanner}
 use Rattle.run_model.specs.controller_model.Outcome.{Outcome, facts_passed}
 use Rattle.run_model.specs.controller_model.Packets.{facts_doing, links_sending, listens_on, pdu_heard}
 use Rattle.run_model.specs.controller_model.Side.{facts_after}
 use Rattle.run_model.proofs.controller_model.Always.{opening_is}
+use Rattle.run_model.proofs.controller_model.Places.{refusal_at}
 use Rattle.run_model.specs.Run.{step_of}
 use Rattle.run_laws.specs.Ends.{link_listened}
+use Rattle.run_laws.proofs.OpenSteps.{IsAskedWell, refusal_is_well}
 use Rattle.run_laws.proofs.TurnSteps.{IsListening}
 
 -- it sends or listens on a link
@@ -33,20 +36,26 @@ is_on_link (PeripheralListens handle) = true
 is_on_link (PeripheralSends handle) = true
 is_on_link other = false
 
--- a link receives: it may refuse a request of the peer at once
-abbrev pub links_receiving : ℕ → List ℕ → Bool → Bool → Bool → Facts → Links
-links_receiving handle octets room refuses replies facts =
+-- a link may be given words before it receives
+abbrev pub links_worded : Option (ℕ × ℕ) → ℕ → Links → Links
+links_worded None handle links = links
+links_worded (Some words) handle links = links_with_words handle words.0 words.1 links
+
+-- a link receives: it may answer a request of the peer at once
+abbrev pub links_receiving : ℕ → List ℕ → Bool → Option (ℕ × ℕ) → Option EndStep → Bool → Facts → Links
+links_receiving handle octets room words refusal replies facts =
     links_sending facts.turn.slot (reply_if replies handle)
-    (links_refusing refuses handle (with_change handle (link_after (PacketReceived facts.turn.slot octets room)) facts.links))
+    (links_refusing refusal handle
+    (with_change handle (link_after (PacketReceived facts.turn.slot octets room)) (links_worded words handle facts.links)))
 
 pub data IsPassingOn (facts : Facts) (received : Option (List ℕ)) (after : Facts) : Type 0 where
   LeavesAll : after.links ≡ facts.links → (is_on_link after.turn.doing ≡ true → is_on_link facts.turn.doing ≡ true) → IsPassingOn facts received after
   OpensOne : (link : LinkSetup) → after.links ≡ with_link (record { link = link; opened = facts.turn.slot }) facts.links
       → is_on_link after.turn.doing ≡ false → IsPassingOn facts received after
   ReceivesOn : (handle : ℕ) (octets : List ℕ) → received ≡ Some octets → facts.wanted ≡ listens_on (link_at handle facts.links)
-      → link_listened facts.turn.doing ≡ Some handle → is_on_link facts.turn.doing ≡ true → (room refuses replies : Bool)
-      → refuses ≡ is_refused facts.view handle (effect_in facts.turn.slot room (link_at handle facts.links) octets)
-      → after.links ≡ links_receiving handle octets room refuses replies facts → IsPassingOn facts received after
+      → link_listened facts.turn.doing ≡ Some handle → is_on_link facts.turn.doing ≡ true → (room : Bool) (words : Option (ℕ × ℕ))
+      (refusal : Option EndStep) (replies : Bool) → IfSome refusal IsAskedWell
+      → after.links ≡ links_receiving handle octets room words refusal replies facts → IsPassingOn facts received after
 
 module _ (facts : Facts) (received : Option (List ℕ)) where
   abbrev Passing : Outcome → Type 0
@@ -114,9 +123,14 @@ heard_passes setup facts octets (AwaitsResponse channel) is listens =
 heard_passes setup facts octets (Initiates channel) is listens =
     pdu_passes facts (Some octets) (pdu_heard channel octets) _ (λ pdu. initiator_passes facts (Some octets) facts.initiator setup channel pdu)
 heard_passes setup facts octets (CentralListens handle) is listens =
-    ReceivesOn handle octets refl listens (ap link_listened is) (ap is_on_link is) (has_room setup facts) _ _ refl refl
+    let room = has_room setup facts in
+    ReceivesOn handle octets refl listens (ap link_listened is) (ap is_on_link is) room None (refusal_at handle room octets facts) _
+    (refusal_is_well handle room octets facts) refl
 heard_passes setup facts octets (PeripheralListens handle) is listens =
-    ReceivesOn handle octets refl listens (ap link_listened is) (ap is_on_link is) (has_room setup facts) _ _ refl refl
+    let room = has_room setup facts in
+    let worded = facts_with_words setup handle facts in
+    ReceivesOn handle octets refl listens (ap link_listened is) (ap is_on_link is) room (Some (_, _)) (refusal_at handle room octets worded) _
+    (refusal_is_well handle room octets worded) refl
 heard_passes setup facts octets (Advertises channel) is listens = unheard_passes facts (Some octets) (Advertises channel) is
 heard_passes setup facts octets doing is listens = unheard_passes facts (Some octets) doing is
 

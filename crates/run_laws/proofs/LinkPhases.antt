@@ -9,7 +9,7 @@ use Rattle.advertise.specs.Advertising.{AdvertiserFacts}
 use Rattle.run_model.specs.link_model.Receiving.{facts_received, has_ended, replies_by, replies_of}
 use Rattle.run_model.specs.link_model.Packets.{good_pdu}
 use Rattle.run_model.specs.link_model.Setup.{Setup as EndSetup}
-use Rattle.run_model.specs.link_model.Step.{PduFixed, PacketSent, PacketReceived}
+use Rattle.run_model.specs.link_model.Step.{Step as EndStep, PduFixed, PacketSent, PacketReceived, WordsGiven}
 use Rattle.run_model.specs.link_model.Times.{has_second_exchange}
 use Rattle.run_model.specs.open_links.OpenLinks.{Links, OpenLink, facts_in, has_entered, in_event, link_after, link_at, link_served, with_change}
 use Rattle.run_model.proofs.open_links.Handles.{changed_is}
@@ -20,7 +20,7 @@ use Rattle.run_model.specs.controller_model.declared.doing.Doing.{Doing}
 use Rattle.run_model.specs.controller_model.declared.doing.Doing.TheVariants.{Advertises, CentralSends, CentralListens, PeripheralListens, PeripheralSends, Rests}
 use Rattle.run_model.specs.controller_model.Step.{Step, TurnBegins}
 use Rattle.run_model.specs.controller_model.Facts.{Setup, Facts}
-use Rattle.run_model.specs.controller_model.Heard.{has_room, link_heard, links_refusing, replies_in, reply_if, heard, unheard}
+use Rattle.run_model.specs.controller_model.Heard.{facts_with_words, has_room, link_heard, links_refusing, replies_in, reply_if, heard, unheard}
 use Rattle.run_model.specs.controller_model.Links.{facts_ending}
 use Rattle.run_model.specs.controller_model.Outcome.{Outcome, facts_passed}
 use Rattle.run_model.specs.controller_model.Packets.{facts_doing}
@@ -220,11 +220,11 @@ reply_in role slot handle room links after octets (Some link) phases is has seco
 next_phase : (phases first : ℕ) → phases ≡ first → suc phases ≡ first + 1
 next_phase phases first is = omega (arith, is)
 
--- what receives, and refuses a request of the peer at once, keeps its role
-role_refusing : (role : Role) (does : Bool) (handle : ℕ) (links : Links) → HasRole role (link_at handle links)
-    → HasRole role (link_at handle (links_refusing does handle links))
-role_refusing role true handle links has = role_changed role handle _ links (λ link. refl) has
-role_refusing role false handle links has = has
+-- what receives, and answers a request of the peer at once, keeps its role
+role_refusing : (role : Role) (refusal : Option EndStep) (handle : ℕ) (links : Links) → HasRole role (link_at handle links)
+    → HasRole role (link_at handle (links_refusing refusal handle links))
+role_refusing role (Some step) handle links has = role_changed role handle (link_after step) links (λ link. refl) has
+role_refusing role None handle links has = has
 
 heard_in : (role : Role) (setup : Setup) (facts : Facts) (phases handle : ℕ) (octets : List ℕ) → HasRole role (link_at handle facts.links) → (role ≡ Peripheral → suc phases ≡ 1)
     → IsInPhase (suc phases) (facts_passed (link_heard setup handle octets facts)).links (link_heard setup handle octets facts).next
@@ -243,7 +243,7 @@ off_passing : (facts after : Facts) (received : Option (List ℕ)) (phases : ℕ
 off_passing facts after received phases off (LeavesAll same on) =
     off_link phases after.links after.turn.doing (false_from_ne_true (is_on_link after.turn.doing) (λ does. let h : true ≡ false = sym (on does) ∙ off in absurd cc))
 off_passing facts after received phases off (OpensOne link is none) = off_link phases after.links after.turn.doing none
-off_passing facts after received phases off (ReceivesOn handle octets is wanted listens on room refuses replies refused links_are) = absurd (let h : true ≡ false = sym on ∙ off in absurd cc)
+off_passing facts after received phases off (ReceivesOn handle octets is wanted listens on room words refusal replies well links_are) = absurd (let h : true ≡ false = sym on ∙ off in absurd cc)
 
 pub passes_in : (setup : Setup) (facts : Facts) (received : Option (List ℕ)) (phases : ℕ) (doing : Doing) → facts.turn.doing ≡ doing → IsInPhase phases facts.links doing
     → IsPassingOn facts received (facts_after setup facts (step_of received)) → DoesIn (suc phases) (facts_after setup facts (step_of received))
@@ -260,7 +260,8 @@ passes_in setup facts None phases (PeripheralListens handle) doing is passing =
     subst (λ (d : Doing). IsInPhase (suc phases) (facts_passed (unheard d facts)).links (unheard d facts).next) (sym doing) tt
 passes_in setup facts (Some octets) phases (PeripheralListens handle) doing is passing =
     subst (λ (d : Doing). IsInPhase (suc phases) (facts_passed (heard setup d octets facts)).links (heard setup d octets facts).next) (sym doing)
-    (heard_in Peripheral setup facts phases handle octets is.1 (λ same. next_phase phases 0 is.0))
+    (heard_in Peripheral setup (facts_with_words setup handle facts) phases handle octets
+    (role_changed Peripheral handle (link_after (WordsGiven _ _)) facts.links (λ link. refl) is.1) (λ same. next_phase phases 0 is.0))
 passes_in setup facts None phases (PeripheralSends handle) doing is passing =
     subst (λ (d : Doing). IsInPhase (suc phases) (facts_passed (unheard d facts)).links (unheard d facts).next) (sym doing) tt
 passes_in setup facts (Some octets) phases (PeripheralSends handle) doing is passing =

@@ -1,7 +1,7 @@
 -- The open links of a controller after each call on it.
-use Rattle.std.proofs.Common.{◌≡◌, ℕ, zero, suc, ◌+◌, ◌%◌, ◌≤◌, ◌==◌, Bool, true, false, Option, Some, None, List, [], ◌∷◌, replicate, refl, sym, subst, ◌∙◌, arith}
+use Rattle.std.proofs.Common.{◌≡◌, ℕ, zero, suc, ◌+◌, ◌%◌, ◌≤◌, ◌==◌, Bool, true, false, Option, Some, None, List, [], ◌∷◌, replicate, reverse, refl, sym, subst, ◌∙◌, arith}
 use Rattle.std.proofs.lemmas.Bool.{eqb-true}
-use Rattle.std.specs.Prelude.{⊤, nat_lt, if◌then◌else◌, ◌&&◌, Ok, Err, is_some}
+use Rattle.std.specs.Prelude.{IfSome, ⊤, nat_lt, if◌then◌else◌, ◌&&◌, Ok, Err, is_some}
 use Rattle.std.specs.Option.{option_map}
 use Rattle.adv_pdu.specs.declared.pdu.AdvPdu.{AdvPdu}
 use Rattle.adv_pdu.specs.declared.pdu.ConnectFields.{ConnectFields}
@@ -12,7 +12,7 @@ use Rattle.h4_frames.specs.declared.packet.HostPacket.TheVariants.{Command as Ho
 use Rattle.h4_frames.specs.declared.packet.Fed.{Fed}
 use Rattle.h4_frames.specs.declared.packet.Fed.TheVariants.{More, Packet, LostSync}
 use Rattle.hci_cmd.specs.declared.command.Command.{Command}
-use Rattle.hci_cmd.specs.declared.command.Command.TheVariants.{Disconnect, LeConnectionUpdate, LeParamNegative, LeParamReply, LeReadRemoteFeatures, LeSetChannels, LeSetDataLength, LeSetPhy, ReadRemoteVersion, Reset}
+use Rattle.hci_cmd.specs.declared.command.Command.TheVariants.{Disconnect, LeConnectionUpdate, LeEnableEncryption, LeKeyNegative, LeKeyReply, LeParamNegative, LeParamReply, LeReadRemoteFeatures, LeSetChannels, LeSetDataLength, LeSetPhy, ReadRemoteVersion, Reset}
 use Rattle.hci_cmd.specs.declared.command.CmdRead.{CmdRead}
 use Rattle.hci_cmd.specs.declared.command.CmdRead.TheVariants.{Known, UnknownOpcode, BadLength}
 use Rattle.hci_cmd.specs.Command.{command_of}
@@ -20,15 +20,19 @@ use Rattle.host_view.specs.View.{View}
 use Rattle.host_view.specs.OnLinks.{asks_links}
 use Rattle.host_view.specs.Unbuilt.{status_of}
 use Rattle.ble_base.specs.ChannelMap.{IsMap}
-use Rattle.ble_base.specs.declared.error_codes.ErrCode.{ErrCode}
+use Rattle.ble_base.specs.ErrorCodes.{unsupported_remote_feature}
 use Rattle.ble_base.specs.declared.roles.Role.{Role}
 use Rattle.ble_base.specs.declared.roles.Role.TheVariants.{Central, Peripheral}
+use Rattle.data_pdu.specs.declared.ctrl.Ctrl.{Ctrl}
+use Rattle.data_pdu.specs.declared.ctrl.Ctrl.TheVariants.{EncReq}
+use Rattle.run_model.specs.procedure_stages.declared.steps.Effect.{Effect}
+use Rattle.run_model.specs.procedure_stages.declared.steps.Effect.TheVariants.{AskHost, Cipher}
 use Rattle.run_model.specs.link_model.Setup.{Setup as EndSetup}
 use Rattle.run_model.specs.link_model.ControlSteps.{IsAskInRange}
-use Rattle.run_model.specs.link_model.Step.{Step as EndStep, DataGiven, DataReported, Disconnected, PacketReceived, PacketSent, PduFixed, ProcedureAsked, RequestAnswered}
+use Rattle.run_model.specs.link_model.Step.{Step as EndStep, DataGiven, DataReported, Disconnected, KeyAnswered, PacketReceived, PacketSent, PduFixed, ProcedureAsked, RequestAnswered, WordsGiven}
 use Rattle.run_model.specs.link_model.declared.state.PeerFacts.{PeerFacts}
 use Rattle.run_model.specs.procedure_values.declared.asks.Ask.{Ask}
-use Rattle.run_model.specs.procedure_values.declared.asks.Ask.TheVariants.{Features, Length, Map, Phy, Request, Update, Version}
+use Rattle.run_model.specs.procedure_values.declared.asks.Ask.TheVariants.{Encrypt, Features, Length, Map, Phy, Request, Update, Version}
 use Rattle.run_model.specs.procedure_values.Wants.{IsAsk}
 use Rattle.run_model.specs.link_model.declared.setup.LinkSetup.{LinkSetup}
 use Rattle.slot_plan.specs.declared.Activity.{Activity}
@@ -43,13 +47,14 @@ use Rattle.run_model.specs.controller_model.declared.doing.Doing.{Doing}
 use Rattle.run_model.specs.controller_model.declared.doing.Doing.TheVariants.{Advertises, Connects, CentralSends, PeripheralListens, PeripheralSends, Rests}
 use Rattle.run_model.specs.controller_model.Step.{HostOctet, TurnBegins, TurnEnds}
 use Rattle.run_model.specs.controller_model.Facts.{Setup, Facts}
-use Rattle.run_model.specs.controller_model.Commands.{facts_asking, facts_commanded, facts_known, links_after}
+use Rattle.run_model.specs.controller_model.Commands.{facts_asking, facts_commanded, facts_known, links_after, moment_of}
 use Rattle.run_model.specs.controller_model.link_commands.Commands.{AsksInRange, ask_unless, host_step_of, is_about, map_by, transmit_maximum, update_by}
+use Rattle.run_model.specs.controller_model.link_commands.declared.moments.Moment.{Moment}
 use Rattle.run_model.specs.controller_model.link_commands.LinksCommanded.{link_after_if, links_commanded_from, place_commanded}
 use Rattle.run_model.specs.open_links.declared.offers.Offer.{Offer}
 use Rattle.run_model.specs.open_links.declared.offers.Offer.TheVariants.{NoLink, Empty, Overflow, Kept}
 use Rattle.run_model.specs.controller_model.Data.{facts_handed, facts_offered, offer_of}
-use Rattle.run_model.specs.controller_model.Heard.{asks_if, effect_in, has_room, is_refused, link_taken, links_refusing, opens, replies_in, reply_if}
+use Rattle.run_model.specs.controller_model.Heard.{answer_unless, asks_if, effect_in, facts_with_words, has_room, kept_effect_in, key_refusal, link_heard, link_taken, links_refusing, opens, or_refusal, refusal_of, replies_in, reply_if}
 use Rattle.run_model.specs.controller_model.Links.{facts_ending}
 use Rattle.run_model.specs.controller_model.Outcome.{Outcome, facts_passed}
 use Rattle.run_model.specs.controller_model.Packets.{links_sending}
@@ -61,6 +66,7 @@ use Rattle.run_model.specs.Run.{step_of}
 use Rattle.run_model.specs.controller_model.Entering.{all_entered}
 use Rattle.run_model.proofs.controller_model.Accepted.{table_accepts}
 use Rattle.run_model.proofs.controller_model.Asked.{IsAskedStep}
+use Rattle.run_model.proofs.controller_model.Places.{refusal_at}
 use Rattle.run_model.proofs.controller_model.link_commands.Ranges.{asked_in_range}
 
 -- ---- a fact of each open link
@@ -181,27 +187,59 @@ update_well Central min max latency timeout step ranged is = asked_well (Update 
 update_well Peripheral min max latency timeout step ranged is = asked_well (Request min max latency timeout) step ranged tt is
 
 -- an accepted command asks for what is in range
-pub step_is_well : (command : Command) (slot : ℕ) (role : Role) (peer : PeerFacts) (step : EndStep) → AsksInRange command
-    → host_step_of command slot role peer ≡ Some step → IsAskedWell step
-step_is_well (Disconnect handle reason) slot role peer step ranged is =
-    one_well (Disconnected (record { 0 = reason }) slot) step (record { by_host = tt; in_range = tt; map = tt }) is
-step_is_well (ReadRemoteVersion handle) slot role peer step ranged is = unless_well (is_some peer.version) Version step tt tt is
-step_is_well (LeReadRemoteFeatures handle) slot role peer step ranged is = unless_well (is_some peer.features) Features step tt tt is
-step_is_well (LeSetDataLength handle octets time) slot role peer step ranged is =
+pub step_is_well : (command : Command) (moment : Moment) (role : Role) (peer : PeerFacts) (step : EndStep) → AsksInRange command
+    → host_step_of command moment role peer ≡ Some step → IsAskedWell step
+step_is_well (Disconnect handle reason) moment role peer step ranged is =
+    one_well (Disconnected (record { 0 = reason }) moment.slot) step (record { by_host = tt; in_range = tt; map = tt }) is
+step_is_well (ReadRemoteVersion handle) moment role peer step ranged is = unless_well (is_some peer.version) Version step tt tt is
+step_is_well (LeReadRemoteFeatures handle) moment role peer step ranged is = unless_well (is_some peer.features) Features step tt tt is
+step_is_well (LeSetDataLength handle octets time) moment role peer step ranged is =
     asked_well (Length (transmit_maximum octets time)) step ranged tt is
-step_is_well (LeConnectionUpdate handle min max latency timeout lengths) slot role peer step ranged is =
+step_is_well (LeConnectionUpdate handle min max latency timeout lengths) moment role peer step ranged is =
     update_well role min max latency timeout step (ranged role) is
-step_is_well (LeSetChannels map) slot role peer step ranged is = map_well role map step ranged is
-step_is_well (LeSetPhy handle all tx rx options) slot role peer step ranged is = asked_well Phy step tt tt is
-step_is_well (LeParamReply handle min max latency timeout lengths) slot role peer step ranged is =
+step_is_well (LeSetChannels map) moment role peer step ranged is = map_well role map step ranged is
+step_is_well (LeSetPhy handle all tx rx options) moment role peer step ranged is = asked_well Phy step tt tt is
+step_is_well (LeParamReply handle min max latency timeout lengths) moment role peer step ranged is =
     one_well (RequestAnswered (Ok (Update max latency timeout))) step (record { by_host = tt; in_range = ranged; map = tt }) is
-step_is_well (LeParamNegative handle reason) slot role peer step ranged is =
+step_is_well (LeParamNegative handle reason) moment role peer step ranged is =
     one_well (RequestAnswered (Err (record { 0 = reason % 256 }))) step (record { by_host = tt; in_range = tt; map = tt }) is
-step_is_well other slot role peer step ranged is = absurd cc
+step_is_well (LeEnableEncryption handle rand ediv key) moment role peer step ranged is =
+    asked_well (Encrypt rand ediv (reverse key) moment.skd_m moment.iv_m) step tt tt is
+step_is_well (LeKeyReply handle key) moment role peer step ranged is =
+    one_well (KeyAnswered (Some (reverse key)) moment.slot) step (record { by_host = tt; in_range = tt; map = tt }) is
+step_is_well (LeKeyNegative handle) moment role peer step ranged is =
+    one_well (KeyAnswered None moment.slot) step (record { by_host = tt; in_range = tt; map = tt }) is
+step_is_well other moment role peer step ranged is = absurd cc
 
 pub accepted_in_range : (view : View) (command : Command) → status_of view command ≡ 0 → AsksInRange command
 unfolding status_of
 accepted_in_range view command accepted = asked_in_range view command (table_accepts _ _ accepted)
+
+-- ---- what a controller answers at once to a request that the mask withholds from its host
+
+answer_well : (passes : Bool) (step : EndStep) → IsAskedWell step → IfSome (answer_unless passes step) IsAskedWell
+answer_well true step well = tt
+answer_well false step well = well
+
+key_well : (view : View) (handle slot : ℕ) (ctrl : Ctrl) → IfSome (key_refusal view handle slot ctrl) IsAskedWell
+key_well view handle slot (EncReq rand ediv skd_m iv_m) = answer_well _ (KeyAnswered None slot) (record { by_host = tt; in_range = tt; map = tt })
+key_well view handle slot other = tt
+
+effect_well : (view : View) (handle slot : ℕ) (effect : Effect) → IfSome (refusal_of view handle slot effect) IsAskedWell
+effect_well view handle slot (AskHost min max latency timeout) =
+    answer_well _ (RequestAnswered (Err (record { 0 = unsupported_remote_feature }))) (record { by_host = tt; in_range = tt; map = tt })
+effect_well view handle slot (Cipher ctrl) = key_well view handle slot ctrl
+effect_well view handle slot other = tt
+
+either_well : (one other : Option EndStep) → IfSome one IsAskedWell → IfSome other IsAskedWell → IfSome (or_refusal one other) IsAskedWell
+either_well None other well also = also
+either_well (Some step) other well also = well
+
+pub refusal_is_well : (handle : ℕ) (room : Bool) (octets : List ℕ) (facts : Facts) → IfSome (refusal_at handle room octets facts) IsAskedWell
+refusal_is_well handle room octets facts =
+    let place = link_at handle facts.links in
+    either_well _ _ (effect_well facts.view handle facts.turn.slot (effect_in facts.turn.slot room place octets))
+    (effect_well facts.view handle facts.turn.slot (kept_effect_in facts.turn.slot room place octets))
 
 -- ---- what each call keeps
 
@@ -217,11 +255,12 @@ pub record IsKeptServed (P : OpenLink → Type 0) : Type 0 where
   pub fixed : (link : OpenLink) → P link → P (link_after PduFixed link)
   pub sent : (slot : ℕ) (link : OpenLink) → P link → P (link_after (PacketSent slot) link)
 
--- and what receives, and refuses a request of the peer at once
+-- and what is given words, receives, and answers a request of the peer at once
 pub record IsKeptOpen (P : OpenLink → Type 0) : Type 0 where
   pub serving : IsKeptServed P
+  pub worded : (skd_s iv_s : ℕ) (link : OpenLink) → P link → P (link_after (WordsGiven skd_s iv_s) link)
   pub received : (slot : ℕ) (octets : List ℕ) (room : Bool) (link : OpenLink) → P link → P (link_after (PacketReceived slot octets room) link)
-  pub answered : (code : ErrCode) (link : OpenLink) → P link → P (link_after (RequestAnswered (Err code)) link)
+  pub answered : KeepsAsked P
 
 module _ (P : OpenLink → Type 0) where
   changed_from : (first handle : ℕ) (change : Option OpenLink → Option OpenLink) (links : Links)
@@ -254,10 +293,10 @@ module _ (P : OpenLink → Type 0) where
       by None = each.0
       by (Some code) = tt
 
-  pub refuses : ((code : ErrCode) (link : OpenLink) → P link → P (link_after (RequestAnswered (Err code)) link)) → (does : Bool) (handle : ℕ)
-      (links : Links) → EachOpen P links → EachOpen P (links_refusing does handle links)
-  refuses answered true handle links each = changed handle _ links (answered _) each
-  refuses answered false handle links each = each
+  pub refuses : KeepsAsked P → (refusal : Option EndStep) → IfSome refusal IsAskedWell → (handle : ℕ) (links : Links) → EachOpen P links
+      → EachOpen P (links_refusing refusal handle links)
+  refuses answered (Some step) well handle links each = changed handle (link_after step) links (λ link. answered step link well) each
+  refuses answered None well handle links each = each
 
   resets : (links : Links) → EachOpen P (without_links links)
   resets [] = tt
@@ -275,33 +314,33 @@ module _ (P : OpenLink → Type 0) where
   known_open false setup command facts each = each
 
   module _ (asked : KeepsAsked P) where
-    place_asked : (command : Command) → AsksInRange command → (slot : ℕ) (about : Bool) (place : Option OpenLink) → AtOpen P place
-        → AtOpen P (place_commanded about command slot place)
-    place_asked command ranged slot false place has = has
-    place_asked command ranged slot true None has = tt
-    place_asked command ranged slot true (Some link) has =
+    place_asked : (command : Command) → AsksInRange command → (moment : Moment) (about : Bool) (place : Option OpenLink) → AtOpen P place
+        → AtOpen P (place_commanded about command moment place)
+    place_asked command ranged moment false place has = has
+    place_asked command ranged moment true None has = tt
+    place_asked command ranged moment true (Some link) has =
         let role = link.setup.link.role in
         let peer = (facts_in link).peer in
-        by (host_step_of command slot role peer) (λ step is. step_is_well command slot role peer step ranged is)
+        by (host_step_of command moment role peer) (λ step is. step_is_well command moment role peer step ranged is)
       where
         by : (step : Option EndStep) → ((one : EndStep) → step ≡ Some one → IsAskedWell one) → P (link_after_if step link)
         by None well = has
         by (Some step) well = asked step link (well step refl) has
 
-    places_asked : (command : Command) → AsksInRange command → (slot first : ℕ) (links : Links) → EachOpen P links
-        → EachOpen P (links_commanded_from first command slot links)
-    places_asked command ranged slot first [] each = tt
-    places_asked command ranged slot first (place ∷ links) each = (
-      place_asked command ranged slot (is_about first command) place each.0,
-      places_asked command ranged slot (first + 1) links each.1,
+    places_asked : (command : Command) → AsksInRange command → (moment : Moment) (first : ℕ) (links : Links) → EachOpen P links
+        → EachOpen P (links_commanded_from first command moment links)
+    places_asked command ranged moment first [] each = tt
+    places_asked command ranged moment first (place ∷ links) each = (
+      place_asked command ranged moment (is_about first command) place each.0,
+      places_asked command ranged moment (first + 1) links each.1,
     )
 
     -- a command that asks something of links was accepted
     asking_open : (setup : Setup) (facts : Facts) (command : Command) (accepted asks : Bool) → (status_of facts.view command == 0) ≡ accepted
         → EachOpen P facts.links
-        → EachOpen P (facts_asking (accepted && asks) facts command (facts_known accepted setup facts command)).links
+        → EachOpen P (facts_asking (accepted && asks) setup facts command (facts_known accepted setup facts command)).links
     asking_open setup facts command true true is each =
-        places_asked command (accepted_in_range facts.view command (eqb-true (status_of facts.view command) 0 is)) facts.turn.begun 0 facts.links each
+        places_asked command (accepted_in_range facts.view command (eqb-true (status_of facts.view command) 0 is)) (moment_of setup facts) 0 facts.links each
     asking_open setup facts command true false is each = known_open true setup command facts each
     asking_open setup facts command false asks is each = each
 
@@ -402,6 +441,16 @@ module _ (P : OpenLink → Type 0) where
     asks_open : (asks : Bool) (slot channel : ℕ) (pdu : AdvPdu) (links : Links) → EachOpen P links → EachOpen P (links_sending slot (asks_if asks channel pdu) links)
     asks_open asks slot channel pdu links each = sends kept.serving slot (asks_if asks channel pdu) links each
 
+    -- the link under a handle receives
+    received_open : (setup : Setup) (facts : Facts) (handle : ℕ) (octets : List ℕ) → EachOpen P facts.links
+        → EachOpen P (facts_passed (link_heard setup handle octets facts)).links
+    received_open setup facts handle octets each =
+        let slot = facts.turn.slot in
+        let room = has_room setup facts in
+        sends kept.serving slot (reply_if (replies_in slot room (link_at handle facts.links) octets) handle) _
+        (refuses kept.answered (refusal_at handle room octets facts) (refusal_is_well handle room octets facts) handle _
+        (changed handle (link_after (PacketReceived slot octets room)) facts.links (kept.received slot octets room) each))
+
     outcomes_open : (setup : Setup) (facts : Facts) → MayOpen facts → EachOpen P facts.links → EachOutcome setup facts (λ outcome. EachOpen P (facts_passed outcome).links)
     outcomes_open setup facts may each = record {
       rests = each;
@@ -417,20 +466,16 @@ module _ (P : OpenLink → Type 0) where
       answered = λ channel octets pdu on doing is_on hears.
           asks_open (false && does_ask (scan_answer on.params facts.view.accepted on.recent pdu)) facts.turn.slot channel pdu facts.links each;
       connects = λ channel octets pdu on access handle doing is_on hears answers next free in_range. each;
-      received = λ handle octets.
-          let slot = facts.turn.slot in
-          let room = has_room setup facts in
-          let found = link_at handle facts.links in
-          let step = PacketReceived slot octets room in
-          sends kept.serving slot (reply_if (replies_in slot room found octets) handle) _
-          (refuses kept.answered (is_refused facts.view handle (effect_in slot room found octets)) handle _
-          (changed handle (link_after step) facts.links (kept.received slot octets room) each));
+      received = λ handle octets. received_open setup facts handle octets each;
     }
 
     pub phase_open : (setup : Setup) (facts : Facts) (received : Option (List ℕ)) → MayOpen facts → EachOpen P facts.links
         → EachOpen P (facts_after setup facts (step_of received)).links
     phase_open setup facts None may each = unheard_is setup facts _ (outcomes_open setup facts may each) facts.turn.doing refl
-    phase_open setup facts (Some octets) may each = heard_is setup facts _ (outcomes_open setup facts may each) facts.turn.doing octets refl
+    phase_open setup facts (Some octets) may each =
+        heard_is setup facts (λ outcome. EachOpen P (facts_passed outcome).links) (outcomes_open setup facts may each) facts.turn.doing octets refl
+        (λ handle. received_open setup (facts_with_words setup handle facts) handle octets
+        (changed handle (link_after (WordsGiven _ _)) facts.links (kept.worded _ _) each))
 
 -- a turn begins: what is kept of the links that stay, and what holds of each as it enters its event
 pub begin_open : (P Q : OpenLink → Type 0) → IsKeptServed Q → (setup : Setup) (slot : ℕ) (on : Bool) (facts : Facts)

@@ -11,7 +11,7 @@ use Rattle.run_model.specs.controller_model.declared.doing.Doing.{Doing}
 use Rattle.run_model.specs.controller_model.declared.doing.Doing.TheVariants.{Advertises, AwaitsRequest, Initiates, Connects}
 use Rattle.run_model.specs.controller_model.Step.{Step, HostOctet, TurnBegins, TurnEnds}
 use Rattle.run_model.specs.controller_model.Facts.{Setup, Facts, first_facts}
-use Rattle.run_model.specs.controller_model.Heard.{asks_if, link_received, has_room, link_taken, replies_in, reply_if, scanner_after, with_scanner}
+use Rattle.run_model.specs.controller_model.Heard.{asks_if, facts_with_words, link_received, has_room, link_taken, replies_in, reply_if, scanner_after, with_scanner}
 use Rattle.run_model.specs.controller_model.Outcome.{facts_passed}
 use Rattle.run_model.specs.controller_model.Packets.{facts_doing}
 use Rattle.run_model.specs.controller_model.Side.{facts_after, facts_of}
@@ -107,7 +107,11 @@ module _ (setup : Setup) (facts : Facts) (received : Option (List ℕ)) where
     where
       by : (may : Option (List ℕ)) → IsUnopened (facts_after setup facts (step_of may))
       by None = unheard_is setup facts _ (outcomes_unopened setup facts none) facts.turn.doing refl
-      by (Some octets) = heard_is setup facts _ (outcomes_unopened setup facts none) facts.turn.doing octets refl
+      by (Some octets) =
+          heard_is setup facts (λ outcome. IsUnopened (facts_passed outcome)) (outcomes_unopened setup facts none) facts.turn.doing octets refl
+          (λ handle. let worded = facts_with_words setup handle facts in
+          reply_unopened (replies_in facts.turn.slot (has_room setup facts) (link_at handle worded.links) octets) handle
+          (link_received handle (has_room setup facts) octets worded))
 
   -- none is opened in this slot
   phase_same : (slot : ℕ) → HasOne slot facts.links → (leads facts.turn.doing ≡ true → slot ≢ facts.turn.slot) → HasOne slot after.links

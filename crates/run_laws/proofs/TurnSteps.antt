@@ -26,7 +26,7 @@ use Rattle.run_model.specs.controller_model.Commands.{facts_asking, facts_comman
 use Rattle.run_model.specs.open_links.declared.offers.Offer.{Offer}
 use Rattle.run_model.specs.open_links.declared.offers.Offer.TheVariants.{NoLink, Empty, Overflow, Kept}
 use Rattle.run_model.specs.controller_model.Data.{facts_handed, facts_offered, offer_of}
-use Rattle.run_model.specs.controller_model.Heard.{access_found, asks_if, has_room, link_received, link_taken, opens, replies_in, reply_if, scanner_after, with_scanner, unheard, heard}
+use Rattle.run_model.specs.controller_model.Heard.{access_found, asks_if, facts_with_words, has_room, link_received, link_taken, opens, replies_in, reply_if, scanner_after, with_scanner, unheard, heard}
 use Rattle.run_model.specs.controller_model.Links.{facts_ending}
 use Rattle.run_model.specs.controller_model.Outcome.{facts_passed}
 use Rattle.run_model.specs.controller_model.Packets.{facts_doing, listens_on}
@@ -50,13 +50,14 @@ known_turn : (accepted : Bool) (setup : Setup) (command : Command) (facts : Fact
 known_turn true setup command facts = record { turn = refl; connections = refl; wanted = refl }
 known_turn false setup command facts = same_turn facts
 
-asking_turn : (asks : Bool) (facts : Facts) (command : Command) (known : Facts) → IsSameTurn facts known → IsSameTurn facts (facts_asking asks facts command known)
-asking_turn true facts command known same = record { turn = same.turn; connections = same.connections; wanted = same.wanted }
-asking_turn false facts command known same = same
+asking_turn : (asks : Bool) (setup : Setup) (facts : Facts) (command : Command) (known : Facts) → IsSameTurn facts known
+    → IsSameTurn facts (facts_asking asks setup facts command known)
+asking_turn true setup facts command known same = record { turn = same.turn; connections = same.connections; wanted = same.wanted }
+asking_turn false setup facts command known same = same
 
 read_turn : (setup : Setup) (facts : Facts) (read : CmdRead) → IsSameTurn facts (facts_commanded setup facts read)
 read_turn setup facts (Known command) =
-    asking_turn (is_asking facts.view command) facts command (facts_known (status_of facts.view command == 0) setup facts command)
+    asking_turn (is_asking facts.view command) setup facts command (facts_known (status_of facts.view command == 0) setup facts command)
     (known_turn (status_of facts.view command == 0) setup command facts)
 read_turn setup facts UnknownOpcode = same_turn facts
 read_turn setup facts BadLength = same_turn facts
@@ -226,7 +227,11 @@ passes_each setup facts = record {
 
 pub phase_turn : (setup : Setup) (facts : Facts) (received : Option (List ℕ)) → IsPassed facts (facts_after setup facts (step_of received))
 phase_turn setup facts None = unheard_is setup facts _ (passes_each setup facts) facts.turn.doing refl
-phase_turn setup facts (Some octets) = heard_is setup facts _ (passes_each setup facts) facts.turn.doing octets refl
+phase_turn setup facts (Some octets) =
+    heard_is setup facts (λ outcome. IsPassed facts (facts_passed outcome)) (passes_each setup facts) facts.turn.doing octets refl
+    (λ handle. let worded = facts_with_words setup handle facts in
+    reply_on facts (link_received handle (has_room setup facts) octets worded)
+    (replies_in facts.turn.slot (has_room setup facts) (link_at handle worded.links) octets) handle refl refl)
 
 pub begins_may : (setup : Setup) (slot : ℕ) (on : Bool) (facts : Facts) → facts.turn.begun ≡ slot → MayBegin (facts_after setup facts (TurnBegins slot on)).turn.doing
 begins_may setup slot on facts is =
@@ -284,7 +289,9 @@ passes_making setup facts = record {
 pub phase_makes : (setup : Setup) (facts : Facts) (received : Option (List ℕ))
     → MakesWell setup (facts_after setup facts (step_of received)).connections (facts_after setup facts (step_of received)).turn.doing
 phase_makes setup facts None = unheard_is setup facts _ (passes_making setup facts) facts.turn.doing refl
-phase_makes setup facts (Some octets) = heard_is setup facts _ (passes_making setup facts) facts.turn.doing octets refl
+phase_makes setup facts (Some octets) =
+    heard_is setup facts (λ outcome. Makes setup (facts_passed outcome)) (passes_making setup facts) facts.turn.doing octets refl
+    (λ handle. (passes_making setup (facts_with_words setup handle facts)).received handle octets)
 
 pub begins_make : (setup : Setup) (slot : ℕ) (on : Bool) (facts : Facts) → facts.turn.begun ≡ slot
     → MakesWell setup (facts_after setup facts (TurnBegins slot on)).connections (facts_after setup facts (TurnBegins slot on)).turn.doing
@@ -358,4 +365,6 @@ passes_fitting setup facts fits = record {
 
 pub phase_fits : (setup : Setup) (facts : Facts) (received : Option (List ℕ)) → FitsChannel facts.turn.doing → FitsChannel (facts_after setup facts (step_of received)).turn.doing
 phase_fits setup facts None fits = unheard_is setup facts _ (passes_fitting setup facts fits) facts.turn.doing refl
-phase_fits setup facts (Some octets) fits = heard_is setup facts _ (passes_fitting setup facts fits) facts.turn.doing octets refl
+phase_fits setup facts (Some octets) fits =
+    heard_is setup facts (λ outcome. FitsChannel (facts_passed outcome).turn.doing) (passes_fitting setup facts fits) facts.turn.doing octets refl
+    (λ handle. (passes_fitting setup (facts_with_words setup handle facts) fits).received handle octets)

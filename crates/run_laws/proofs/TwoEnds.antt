@@ -7,13 +7,14 @@ use Rattle.ble_base.specs.declared.verdicts.Verdict.TheVariants.{Broken as Broke
 use Rattle.air_frame.specs.declared.Heard.{Heard}
 use Rattle.air_frame.specs.declared.Heard.TheVariants.{NotOurs, Broken, Whole}
 use Rattle.run_model.specs.link_model.Receiving.{facts_received}
+use Rattle.run_model.specs.link_model.End.{facts_after as end_after}
 use Rattle.run_model.specs.link_model.Facts.{Facts as EndFacts}
 use Rattle.run_model.specs.link_model.Verdicts.{has_room_for, pdu_by, verdict_by, whole_in}
 use Rattle.run_model.specs.link_model.Packets.{good_pdu, heard_of, is_forged, is_forged_pdu, pdu_read, pdu_read_in, verdict_of, whole_pdu}
 use Rattle.run_model.specs.link_model.Payload.{opens_now}
 use Rattle.run_model.specs.link_model.OneLink.{AreInAgreement}
 use Rattle.run_model.specs.link_model.Setup.{Setup as EndSetup}
-use Rattle.run_model.specs.link_model.Step.{PacketReceived, PacketSent}
+use Rattle.run_model.specs.link_model.Step.{PacketReceived, PacketSent, WordsGiven}
 use Rattle.run_model.proofs.link_model.Acknowledging.{forged_leaves}
 use Rattle.run_model.proofs.link_model.Hearing.{IsHeardWhole}
 use Rattle.run_model.specs.open_links.OpenLinks.{Links, OpenLink, facts_in, link_after, link_at, new_link}
@@ -33,8 +34,8 @@ use Rattle.run_laws.proofs.Agreed.{Agree, ack_of, agree_by, agree_received, exch
 use Rattle.run_laws.proofs.ByCalls.{all_facts}
 use Rattle.run_laws.proofs.EachCall.{IsCallOf, IsPhase, call_at, facts_called, facts_others, kept_along}
 use Rattle.run_laws.proofs.DistinctAccess.{AreApart}
-use Rattle.run_laws.proofs.InAgreement.{AllAgree, AllPairs, IsKeptByFirst, IsStation, WithAll, agree_kept, all_asked, all_entered, all_hosts, all_served, first_station, new_agree, one_slot, pairs_back, passing_keeps, station_begins, station_ends, station_fed, station_passes}
-use Rattle.run_laws.proofs.InRange.{ranges_before, ranges_in}
+use Rattle.run_laws.proofs.InAgreement.{AllAgree, AllPairs, IsKeptByFirst, IsStation, WithAll, agree_kept, all_asked, all_entered, all_hosts, all_served, first_station, link_worded, new_agree, one_slot, pairs_back, passing_keeps, station_begins, station_ends, station_fed, station_passes}
+use Rattle.run_laws.proofs.InRange.{ranges_after, ranges_before, ranges_in}
 use Rattle.run_laws.proofs.LinkPasses.{phase_passes_on}
 use Rattle.run_laws.proofs.OpenSteps.{EachOpen, begin_open, each_under, end_open, none_open, octet_open, open_has, open_more}
 use Rattle.run_laws.proofs.OpenedOnce.{opened_once}
@@ -68,7 +69,7 @@ on_kept end = record {
   sent = λ slot one other agree own. agree_kept.sent slot one other (agree own);
   entered = λ slot one other agree own.
       agree_kept.entered slot one other (agree (subst (λ s. HaveOneConnectInd s end) (entered_setup slot one) own));
-  answered = λ answer one other agree own. agree_kept.answered answer one other (agree own);
+  worded = λ skd_s iv_s one other agree own. agree_kept.worded skd_s iv_s one other (agree own);
   asked = λ step one other well agree own. agree_kept.asked step one other well (agree own);
 }
 
@@ -115,6 +116,26 @@ good_or_kept slot room octets link = got (of (heard_of link.setup (facts_in link
 
 one_some : (may : Option OpenLink) (one other : OpenLink) → may ≡ Some one → may ≡ Some other → one ≡ other
 one_some may one other is is_too = let same : Some one ≡ Some other = sym is ∙ is_too in cc
+
+-- the words that it was given change nothing of that
+verdict_worded : (setup : EndSetup) (facts : EndFacts) (skd_s iv_s : ℕ) (octets : List ℕ)
+    → verdict_of setup (end_after setup facts (WordsGiven skd_s iv_s)) octets ≡ verdict_of setup facts octets
+unfolding verdict_of
+verdict_worded setup facts skd_s iv_s octets = refl
+
+worded_hears : (words : Option (ℕ × ℕ)) (link : OpenLink) (octets : List ℕ) (X : EndSetup → ℕ → Type 0)
+    → (verdict_of link.setup (facts_in link) octets ≡ Good → X link.setup (facts_in link).event.channel)
+    → verdict_of (link_worded words link).setup (facts_in (link_worded words link)) octets ≡ Good
+    → X (link_worded words link).setup (facts_in (link_worded words link)).event.channel
+worded_hears None link octets X hears = hears
+worded_hears (Some (skd_s, iv_s)) link octets X hears = λ good.
+    let is = step_facts link (WordsGiven skd_s iv_s) in
+    subst (λ (f : EndFacts). X link.setup f.event.channel) (sym is)
+    (hears (sym (verdict_worded link.setup (facts_in link) skd_s iv_s octets) ∙ ap (λ (f : EndFacts). verdict_of link.setup f octets) (sym is) ∙ good))
+
+worded_ranges : (words : Option (ℕ × ℕ)) (link : OpenLink) → HasRanges link → HasRanges (link_worded words link)
+worded_ranges None link has = has
+worded_ranges (Some (skd_s, iv_s)) link has = ranges_after (WordsGiven skd_s iv_s) link tt has
 
 -- ---- a station that takes a packet
 
@@ -212,10 +233,12 @@ module _ (whole : IsHeardWhole) (given : Given) (six : HaveAddresses given) (dis
           agree = passing_keeps Pairs (on_kept one.link.setup) far_facts.links facts _ received
               (λ end now. open_more (Agree (new_link end)) (Pairs (new_link end)) far_facts.links (λ link agree own. agree)
               (new_agree far_facts.turn.slot far_facts.links are.is_other.fresh end (now ∙ slots)))
-              (λ handle octets room link was listens wanted is_open all.
-              received_from whole given distinct one other same in_too before (Called one.station (step_of received) ∷ rest) at facts.turn.slot room octets link
-              (ranges_in given before (Called one.station (step_of received) ∷ rest) one.station handle link distinct in_it at is_open)
-              (λ good. hears octets link (ap step_of was) (record { handle = handle; listens = listens; is_open = is_open; is_good = good })) all)
+              (λ handle octets room words link was listens wanted is_open all.
+              received_from whole given distinct one other same in_too before (Called one.station (step_of received) ∷ rest) at facts.turn.slot room octets
+              (link_worded words link)
+              (worded_ranges words link (ranges_in given before (Called one.station (step_of received) ∷ rest) one.station handle link distinct in_it at is_open))
+              (worded_hears words link octets (λ end channel. HaveOneConnectInd end one.link.setup → HasSent given before other channel octets)
+              (λ good. hears octets link (ap step_of was) (record { handle = handle; listens = listens; is_open = is_open; is_good = good }))) all)
               (phase_passes_on setup facts received phase.in_turn.listens) are.agree;
         }
 

@@ -5,7 +5,7 @@ use Rattle.ble_base.specs.declared.roles.Role.{Role}
 use Rattle.ble_base.specs.declared.roles.Role.TheVariants.{Central, Peripheral}
 use Rattle.adv_pdu.specs.declared.pdu.ConnectFields.{ConnectFields}
 use Rattle.run_model.specs.link_model.Setup.{Setup}
-use Rattle.run_model.specs.link_model.Step.{EventEntered, PduFixed, PacketSent, PacketReceived}
+use Rattle.run_model.specs.link_model.Step.{EventEntered, PduFixed, PacketSent, PacketReceived, WordsGiven}
 use Rattle.run_model.specs.controller_model.Rows.{address_a, address_b}
 use Rattle.run_model.specs.History.{Event}
 use Rattle.run_model.specs.Rows.{first_packet, first_reply, one_event}
@@ -47,7 +47,7 @@ end_with role own peer = record {
   opened = 0;
 }
 
--- B is the central, and A the peripheral
+-- B is the central, and A the peripheral. Each random word of A is 1
 abbrev pub central_end : OpenEnd
 central_end = record {
   station = 1;
@@ -65,7 +65,8 @@ peripheral_end = record {
   handle = 0;
   link = record {
     setup = end_with Peripheral address_a address_b;
-    past = EventEntered 2 ∷ PduFixed ∷ PacketReceived 2 first_packet true ∷ PacketSent 2 ∷ [];
+    past =
+        EventEntered 2 ∷ PduFixed ∷ WordsGiven 1 1 ∷ PacketReceived 2 first_packet true ∷ PacketSent 2 ∷ [];
     last_served = 2;
   };
 }

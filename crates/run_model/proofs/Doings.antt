@@ -83,6 +83,7 @@ wanting_kept setup = record {
     };
     reports = λ facts any. tt;
     passes = λ facts wants. passes_wanting setup facts;
+    words = λ handle facts listens wants. wants;
   };
 }
 

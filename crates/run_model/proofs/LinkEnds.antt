@@ -30,12 +30,13 @@ use Rattle.controller_model.proofs.Pasts.{facts_more}
 use Rattle.controller_model.proofs.Sent.{DoingFits, can_be_done}
 use Rattle.run_model.specs.History.{Event, TurnBegan, Called, Noted, Transmitted, Hearing as Heard, fates_used, has_received, is_good, noted_by, notes_in, packet_received, past_of, received_after, steps_in, turns_begun}
 use Rattle.run_model.specs.Links.{Links, begins_link, is_advertising, is_connect_ind, links_of, with_link}
-use Rattle.run_model.specs.Run.{Given, setup_at, facts_at, use_at, octets_left, after_call, fate_at, hearing_at, hearings_from, hearings_of, others_than, reaches, is_lost, step_of, verdict_where, run_of, history_of}
+use Rattle.run_model.specs.Run.{Given, setup_at, facts_at, use_at, octets_left, after_call, fate_at, hearing_at, hearings_from, hearings_of, others_than, reaches, is_lost, step_of, unseen_in, verdict_where, run_of, history_of}
 use Rattle.run_model.specs.Pair.{given_of}
 use Rattle.run_model.specs.Due.{packet_in}
 use Rattle.run_model.specs.Feeding.{AreDistinct}
 use Rattle.run_model.specs.LinkEnds.{ConnectInd, HasConnectInd, HaveAddresses, IsAtEnd}
 use Rattle.run_model.proofs.Calls.{with_notes, flat_nothing, fold_called, fold_event, noted_called, past_other, past_own, same_station, turns_called, turns_same}
+use Rattle.run_model.proofs.Handed.{handed_received, handed_sender}
 use Rattle.run_model.proofs.Linked.{AreLinked, AreLinkedSoFar, LinkedBefore, call_linked, event_linked, feed_linked, opens_none}
 use Rattle.run_model.proofs.LinksKnown.{last_by_call, links_event}
 use Rattle.run_model.proofs.Places.{each_at}
@@ -154,6 +155,23 @@ called_same given other station step history differs =
 pub received_event : (other : ℕ) (history : List Event) (event : Event) → packet_received other (history ++ event ∷ []) ≡ received_after other (packet_received other history) event
 unfolding packet_received
 received_event other history event = fold_event (received_after other) None history event
+
+-- after a packet, as long as no link encrypts: who received it is handed what was sent
+pub received_packet : (given : Given) (fates : List Fate) (other station channel : ℕ) (octets : List ℕ) (history : List Event)
+    → unseen_in octets (hearings_of given fates station channel octets history) ≡ None
+    → packet_received other (history ++ Transmitted station channel octets (hearings_of given fates station channel octets history) ∷ [])
+    ≡ (if has_received other (hearings_of given fates station channel octets history) then Some octets else packet_received other history)
+received_packet given fates other station channel octets history seen =
+    received_event other history (Transmitted station channel octets (hearings_of given fates station channel octets history))
+    ∙ handed_received given fates station channel octets history (packet_received other history) other seen
+
+-- its sender is handed nothing
+pub received_own : (given : Given) (fates : List Fate) (station channel : ℕ) (octets : List ℕ) (history : List Event)
+    → packet_received station (history ++ Transmitted station channel octets (hearings_of given fates station channel octets history) ∷ [])
+    ≡ packet_received station history
+received_own given fates station channel octets history =
+    received_event station history (Transmitted station channel octets (hearings_of given fates station channel octets history))
+    ∙ handed_sender given fates station channel octets history (packet_received station history)
 
 received_called : (other station : ℕ) (step : Step) (notes : List Note) (history : List Event)
     → packet_received other (with_notes station step notes history) ≡ (if other == station then None else packet_received other history)
@@ -478,28 +496,26 @@ deaf given fates station channel octets history other on own wants =
     deaf_by given fates station channel octets history other on own wants (has_received other (hearings_of given fates station channel octets history)) refl
 
 heard_more : (given : Given) (station channel : ℕ) (octets : List ℕ) (hearings : List Heard) (history : List Event) → use_at given station history ≡ Sends channel octets
-    → (other : ℕ) → HasHeard given history other → has_received other hearings ≡ false → (same : Bool) → (other == station) ≡ same
+    → (other : ℕ) → HasHeard given history other → has_received other hearings ≡ false
+    → packet_received other (history ++ Transmitted station channel octets hearings ∷ []) ≡ packet_received other history → (same : Bool) → (other == station) ≡ same
     → HasHeard given (history ++ Transmitted station channel octets hearings ∷ []) other
-heard_more given station channel octets hearings history wanted other heard none true is = λ sent same.
-    let event = Transmitted station channel octets hearings in
-    let told = sym (received_event other history event ∙ ap (λ b. if b then Some octets else packet_received other history) none) ∙ same in
+heard_more given station channel octets hearings history wanted other heard none still true is = λ sent same.
+    let told = sym still ∙ same in
     sends_or_listens (use_at given other history) channel (heard sent told).channel octets _
     (ap (λ n. use_at given n history) (eqb-true other station is) ∙ wanted) (heard sent told).listens
-heard_more given station channel octets hearings history wanted other heard none false is =
-    let event = Transmitted station channel octets hearings in
-    heard_same given other history (event ∷ []) (packet_same other station channel octets hearings history)
-    (received_event other history event ∙ ap (λ b. if b then Some octets else packet_received other history) none)
+heard_more given station channel octets hearings history wanted other heard none still false is =
+    heard_same given other history (Transmitted station channel octets hearings ∷ []) (packet_same other station channel octets hearings history) still
     (last_other station channel octets hearings history other is none) heard
 
 hears_by : (given : Given) (fates : List Fate) (station channel : ℕ) (octets : List ℕ) (history : List Event) → use_at given station history ≡ Sends channel octets
-    → (other : ℕ) → HasHeard given history other → (received : Bool) → has_received other (hearings_of given fates station channel octets history) ≡ received
+    → unseen_in octets (hearings_of given fates station channel octets history) ≡ None → (other : ℕ) → HasHeard given history other → (received : Bool) → has_received other (hearings_of given fates station channel octets history) ≡ received
     → HasHeard given (history ++ Transmitted station channel octets (hearings_of given fates station channel octets history) ∷ []) other
-hears_by given fates station channel octets history wanted other heard true is = λ sent same.
+hears_by given fates station channel octets history wanted seen other heard true is = λ sent same.
     let hearings = hearings_of given fates station channel octets history in
     let event = Transmitted station channel octets hearings in
     let listener = is_listener given fates channel octets history station other is in
     let told : Some octets ≡ Some sent =
-    sym (received_event other history event ∙ ap (λ b. if b then Some octets else packet_received other history) is) ∙ same in
+    sym (received_packet given fates other station channel octets history seen ∙ ap (λ b. if b then Some octets else packet_received other history) is) ∙ same in
     let equal : octets ≡ sent = cc in
     let unlike : (other ≡ station) → ⊥ = eqb-false other station listener.differs in record {
       sender = station;
@@ -515,8 +531,10 @@ hears_by given fates station channel octets history wanted other heard true is =
       number = λ begins. last_begun station channel octets hearings history other (ap (begins_link channel) equal ∙ begins) false true listener.differs is refl;
       unnoted = (packet_same other station channel octets hearings history).noted;
     }
-hears_by given fates station channel octets history wanted other heard false is =
-    heard_more given station channel octets (hearings_of given fates station channel octets history) history wanted other heard is (other == station) refl
+hears_by given fates station channel octets history wanted seen other heard false is =
+    heard_more given station channel octets (hearings_of given fates station channel octets history) history wanted other heard is
+    (received_packet given fates other station channel octets history seen ∙ ap (λ b. if b then Some octets else packet_received other history) is)
+    (other == station) refl
 
 -- the station that transmits
 airs : (given : Given) (station channel : ℕ) (octets : List ℕ) (hearings : List Heard) (history : List Event) → use_at given station history ≡ Sends channel octets
@@ -679,7 +697,7 @@ linked_kept understood taken given six distinct = record {
         so_far = event_linked given history event (λ other. refl) linked.so_far;
         at = λ other is. let has = linked.at other is in (
           slot_same given other history (event ∷ []) (packet_same other station channel octets hearings history) has.0,
-          hears_by given plan.fates station channel octets history due.is_wanted other has.1 (has_received other hearings) refl,
+          hears_by given plan.fates station channel octets history due.is_wanted due.is_seen other has.1 (has_received other hearings) refl,
           packet_by given plan.fates done station channel octets history due.is_wanted other has.2 (other == station) refl,
         );
       };

@@ -20,7 +20,7 @@ use Rattle.hci_cmd.specs.declared.command.CmdRead.TheVariants.{Known, UnknownOpc
 use Rattle.hci_cmd.specs.Command.{command_of}
 use Rattle.host_view.specs.Unbuilt.{status_of}
 use Rattle.controller_model.specs.link_model.Setup.{Setup as EndSetup}
-use Rattle.controller_model.specs.link_model.Step.{DataGiven, PduFixed, PacketSent, PacketReceived, DataReported}
+use Rattle.controller_model.specs.link_model.Step.{Step as EndStep, DataGiven, PduFixed, PacketSent, PacketReceived, DataReported, WordsGiven}
 use Rattle.controller_model.specs.link_model.declared.setup.LinkSetup.{LinkSetup}
 use Rattle.scan_init.specs.Initiating.{InitiatorFacts}
 use Rattle.scan_init.specs.Reports.{ScannerFacts}
@@ -35,13 +35,14 @@ use Rattle.controller_model.specs.declared.doing.Doing.{Doing}
 use Rattle.controller_model.specs.declared.doing.Doing.TheVariants.{Advertises, AwaitsRequest, Scans, Requests, AwaitsResponse, Initiates, Connects, CentralSends, CentralListens, PeripheralListens, PeripheralSends}
 use Rattle.controller_model.specs.Step.{Step, HostOctet, TurnBegins, PacketHeard, NothingHeard, TurnEnds}
 use Rattle.controller_model.specs.Facts.{Setup, Facts}
-use Rattle.controller_model.specs.Commands.{facts_asking, facts_commanded, facts_known, is_asking, links_after}
+use Rattle.controller_model.specs.Commands.{facts_asking, facts_commanded, facts_known, is_asking, links_after, moment_of}
 use Rattle.controller_model.specs.link_commands.Commands.{is_about}
+use Rattle.controller_model.specs.link_commands.declared.moments.Moment.{Moment}
 use Rattle.controller_model.specs.link_commands.LinksCommanded.{links_commanded_from}
 use Rattle.controller_model.specs.open_links.declared.offers.Offer.{Offer}
 use Rattle.controller_model.specs.open_links.declared.offers.Offer.TheVariants.{NoLink, Empty, Overflow, Kept}
 use Rattle.controller_model.specs.Data.{facts_ended_turn, facts_handed, facts_offered, offer_of}
-use Rattle.controller_model.specs.Heard.{advertiser_answers, advertiser_heard, connects, has_room, heard, if_pdu, initiator_heard, is_new_between, link_heard, link_taken, link_to, links_refusing, opens, scanner_heard, taken_if, taken_under, unheard}
+use Rattle.controller_model.specs.Heard.{advertiser_answers, advertiser_heard, connects, has_room, heard, if_pdu, initiator_heard, is_new_between, link_heard, link_taken, link_to, links_refusing, opens, scanner_heard, taken_if, taken_under, unheard, facts_with_words}
 use Rattle.controller_model.specs.Links.{facts_ending}
 use Rattle.controller_model.specs.Outcome.{Outcome, facts_passed}
 use Rattle.controller_model.specs.Packets.{links_sending, pdu_heard}
@@ -146,9 +147,9 @@ module _ (P : EndSetup → Type 0) where
       by true = each.0
       by false = each.0
 
-  refuses : (does : Bool) (handle : ℕ) (links : Links) → EachLink P links → EachLink P (links_refusing does handle links)
-  refuses true handle links each = changed handle _ links (λ link. refl) each
-  refuses false handle links each = each
+  refuses : (refusal : Option EndStep) (handle : ℕ) (links : Links) → EachLink P links → EachLink P (links_refusing refusal handle links)
+  refuses (Some step) handle links each = changed handle (link_after step) links (λ link. refl) each
+  refuses None handle links each = each
 
   resets : (links : Links) → EachLink P (without_links links)
   resets [] = tt
@@ -178,21 +179,21 @@ module _ (P : EndSetup → Type 0) where
   known_linked false setup facts command each = each
 
   -- a step that it makes changes no setup
-  places_linked : (command : Command) (slot first : ℕ) (links : Links) → EachLink P links → EachLink P (links_commanded_from first command slot links)
-  places_linked command slot first [] each = tt
-  places_linked command slot first (place ∷ links) each = (
-    place_asked (AtPlace P) command slot (is_about first command) place each.0 (λ link step is asked asks. subst (AtPlace P) is each.0),
-    places_linked command slot (first + 1) links each.1,
+  places_linked : (command : Command) (moment : Moment) (first : ℕ) (links : Links) → EachLink P links → EachLink P (links_commanded_from first command moment links)
+  places_linked command moment first [] each = tt
+  places_linked command moment first (place ∷ links) each = (
+    place_asked (AtPlace P) command moment (is_about first command) place each.0 (λ link step is asked asks. subst (AtPlace P) is each.0),
+    places_linked command moment (first + 1) links each.1,
   )
 
-  asking_linked : (asks : Bool) (facts : Facts) (command : Command) (after : Facts) → EachLink P facts.links → EachLink P after.links
-      → EachLink P (facts_asking asks facts command after).links
-  asking_linked true facts command after each known = places_linked command facts.turn.begun 0 facts.links each
-  asking_linked false facts command after each known = known
+  asking_linked : (asks : Bool) (setup : Setup) (facts : Facts) (command : Command) (after : Facts) → EachLink P facts.links → EachLink P after.links
+      → EachLink P (facts_asking asks setup facts command after).links
+  asking_linked true setup facts command after each known = places_linked command (moment_of setup facts) 0 facts.links each
+  asking_linked false setup facts command after each known = known
 
   read_linked : (setup : Setup) (facts : Facts) (read : CmdRead) → EachLink P facts.links → EachLink P (facts_commanded setup facts read).links
   read_linked setup facts (Known command) each =
-      asking_linked (is_asking facts.view command) facts command (facts_known (status_of facts.view command == 0) setup facts command) each
+      asking_linked (is_asking facts.view command) setup facts command (facts_known (status_of facts.view command == 0) setup facts command) each
       (known_linked (status_of facts.view command == 0) setup facts command each)
   read_linked setup facts UnknownOpcode each = each
   read_linked setup facts BadLength each = each
@@ -339,7 +340,9 @@ module _ (P : EndSetup → Type 0) where
   heard_linked setup facts octets (Initiates channel) is may each =
       pdu_linked (pdu_heard channel octets) facts _ each (λ pdu found. initiator_linked facts.initiator setup channel pdu facts each)
   heard_linked setup facts octets (CentralListens handle) is may each = received_linked setup handle octets facts each
-  heard_linked setup facts octets (PeripheralListens handle) is may each = received_linked setup handle octets facts each
+  heard_linked setup facts octets (PeripheralListens handle) is may each =
+      let worded = facts_with_words setup handle facts in
+      received_linked setup handle octets worded (changed handle (link_after (WordsGiven _ _)) facts.links (λ link. refl) each)
   heard_linked setup facts octets doing is may each =
       unheard_linked facts doing (λ channel link same. may.made channel link refl (is ∙ same)) each
 
@@ -412,4 +415,4 @@ each_slot setup facts = record {
 -- and each phase is in the slot of the turn
 pub phase_slot : (setup : Setup) (facts : Facts) (received : Option (List ℕ)) → (facts_after setup facts (step_of received)).turn.slot ≡ facts.turn.slot
 phase_slot setup facts None = unheard_is setup facts (InSlot facts) (each_slot setup facts) facts.turn.doing refl
-phase_slot setup facts (Some octets) = heard_is setup facts (InSlot facts) (each_slot setup facts) facts.turn.doing octets refl
+phase_slot setup facts (Some octets) = heard_is setup facts (InSlot facts) (each_slot setup facts) facts.turn.doing octets refl (λ handle. refl)

@@ -14,7 +14,7 @@ use Rattle.scan_init.specs.Reports.{scan_answer}
 use Rattle.controller_model.specs.Step.{Step, HostOctet, TurnBegins, PacketHeard, NothingHeard, TurnEnds}
 use Rattle.controller_model.specs.Facts.{Facts, Setup}
 use Rattle.controller_model.specs.Events.{notes_of_events}
-use Rattle.controller_model.specs.Heard.{events_reported, has_room, link_heard, link_taken, opens, scanner_heard}
+use Rattle.controller_model.specs.Heard.{events_reported, facts_with_words, has_room, link_heard, link_taken, opens, scanner_heard}
 use Rattle.controller_model.specs.Links.{events_opened}
 use Rattle.controller_model.specs.Outcome.{Outcome, facts_passed, notes_passed}
 use Rattle.controller_model.specs.Packets.{notes_doing}
@@ -120,7 +120,10 @@ step_now setup facts (HostOctet octet) own =
     none_now facts _ (notes_after setup facts (HostOctet octet)) (λ handle. outside_open handle setup facts (HostOctet octet) refl)
 step_now setup facts (TurnBegins slot on) own =
     none_now facts _ (notes_after setup facts (TurnBegins slot on)) (λ handle. outside_open handle setup facts (TurnBegins slot on) refl)
-step_now setup facts (PacketHeard octets) own = heard_is setup facts (NotesNow facts) (phase_now setup facts own) facts.turn.doing octets refl
+step_now setup facts (PacketHeard octets) own =
+    heard_is setup facts (NotesNow facts) (phase_now setup facts own) facts.turn.doing octets refl
+    (λ handle. let worded = facts_with_words setup handle facts in
+    passed_now facts (link_heard setup handle octets worded) (λ other. hearing_open other (has_room setup facts) handle octets worded))
 step_now setup facts NothingHeard own = unheard_is setup facts (NotesNow facts) (phase_now setup facts own) facts.turn.doing refl
 step_now setup facts TurnEnds own =
     none_now facts _ (notes_after setup facts TurnEnds) (λ handle. outside_open handle setup facts TurnEnds refl)

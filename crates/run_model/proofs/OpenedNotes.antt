@@ -27,6 +27,7 @@ use Rattle.hci_cmd.specs.Command.{command_of}
 use Rattle.hci_evt.specs.declared.event.Event.{Event}
 use Rattle.hci_evt.specs.declared.event.Event.TheVariants.{DisconnectionComplete, HardwareError, CompletedPackets, BufferOverflow}
 use Rattle.hci_evt.specs.Event.{mask_bit_of, written}
+use Rattle.host_view.specs.Links.{was_encrypted}
 use Rattle.host_view.specs.View.{View}
 use Rattle.host_view.specs.Unbuilt.{status_of}
 use Rattle.data_pdu.specs.Header.{header_in}
@@ -62,7 +63,7 @@ use Rattle.controller_model.specs.open_links.declared.offers.Offer.TheVariants.{
 use Rattle.controller_model.specs.Data.{event_completed, facts_handed, note_received, notes_ended_turn, notes_handed, notes_offered, offer_of}
 use Rattle.controller_model.specs.Entering.{events_entering, notes_all_entering}
 use Rattle.controller_model.specs.Events.{notes_of_events, passes}
-use Rattle.controller_model.specs.Heard.{advertiser_answers, advertiser_heard, events_received, events_reported, has_room, heard, if_pdu, is_new_between, link_heard, link_hearing, link_taken, notes_taken, opens, scanner_heard, taken_if, taken_under, unheard}
+use Rattle.controller_model.specs.Heard.{advertiser_answers, advertiser_heard, events_received, events_reported, has_room, heard, if_pdu, is_new_between, link_heard, link_hearing, link_taken, notes_taken, opens, scanner_heard, taken_if, taken_under, unheard, facts_with_words}
 use Rattle.controller_model.specs.Links.{ends_for, events_opened, facts_ending, note_shut, notes_ended, notes_ending, notes_leaving, notes_opened}
 use Rattle.controller_model.specs.Outcome.{Outcome, notes_passed}
 use Rattle.controller_model.specs.Packets.{notes_doing, notes_sent, pdu_heard}
@@ -201,7 +202,7 @@ module _ (handle : ℕ) where
   hearing_open room other octets facts =
       let slot = facts.turn.slot in
       let found = link_at other facts.links in
-      let events = events_received other slot room found octets in
+      let events = events_received (was_encrypted other facts.view.links) other slot room found octets in
       neither (notes_taken slot room found octets) (notes_of_events facts.view events) (taken_open slot room found octets) (events_open facts.view events)
 
   pieces_open : (pieces : List (ℕ × Piece)) → is_opened handle (map note_received pieces) ≡ false
@@ -329,7 +330,10 @@ module _ (handle : ℕ) where
   opened_was_free setup facts (TurnBegins slot on) own is =
       not_noted facts (notes_after setup facts (TurnBegins slot on)) (outside_open setup facts (TurnBegins slot on) refl) is
   opened_was_free setup facts (PacketHeard octets) own is =
-      heard_is setup facts (WasFree facts) (phase_free setup facts own) facts.turn.doing octets refl is
+      heard_is setup facts (WasFree facts) (phase_free setup facts own) facts.turn.doing octets refl
+      (λ other. let worded = facts_with_words setup other facts in
+      passed_free facts (link_heard setup other octets worded) (hearing_open (has_room setup facts) other octets worded))
+      is
   opened_was_free setup facts NothingHeard own is = unheard_is setup facts (WasFree facts) (phase_free setup facts own) facts.turn.doing refl is
   opened_was_free setup facts TurnEnds own is =
       not_noted facts (notes_after setup facts TurnEnds) (outside_open setup facts TurnEnds refl) is

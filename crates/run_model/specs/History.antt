@@ -6,6 +6,7 @@ use Rattle.ble_base.specs.declared.notes.Note.{Note}
 use Rattle.ble_base.specs.declared.verdicts.Verdict.{Verdict}
 use Rattle.ble_base.specs.declared.verdicts.Verdict.TheVariants.{Missed, Broken, Forged, Good}
 use Rattle.radio_replay.specs.declared.fates.Fate.{Fate}
+use Rattle.radio_replay.specs.Damage.{damaged_packet}
 use Rattle.controller_model.specs.Step.{Step}
 
 -- a packet at another station: what the radio did to it on the way there, and the verdict of that station
@@ -82,7 +83,7 @@ fates_after count event = count
 unfoldable pub fates_used : List Event → ℕ
 fates_used history = fold fates_after 0 history
 
--- ---- the packet that a station received since the last call on its controller
+-- ---- the packet that was handed on to a controller since the last call on it
 
 abbrev pub is_good : Verdict → Bool
 is_good Good = true
@@ -90,13 +91,27 @@ is_good Missed = false
 is_good Broken = false
 is_good Forged = false
 
+-- a station received a packet that it judges good
 abbrev pub has_received : ℕ → List Hearing → Bool
 has_received station hearings = list_any (λ hearing. (station == hearing.listener) && is_good hearing.verdict) hearings
 
+-- a controller is handed what is good, and what is forged, which ends its link
+abbrev pub is_handed : Verdict → Bool
+is_handed Good = true
+is_handed Forged = true
+is_handed Missed = false
+is_handed Broken = false
+
+-- what the radio left of a packet, where it is handed on to the controller of a station
+abbrev pub handed_or : Option (List ℕ) → ℕ → List ℕ → List Hearing → Option (List ℕ)
+handed_or before station octets [] = before
+handed_or before station octets (hearing ∷ hearings) =
+    if (station == hearing.listener) && is_handed hearing.verdict then Some (damaged_packet hearing.fate octets)
+    else handed_or before station octets hearings
+
 abbrev pub received_after : ℕ → Option (List ℕ) → Event → Option (List ℕ)
 received_after station before (Called other step) = if station == other then None else before
-received_after station before (Transmitted sender channel octets hearings) =
-    if has_received station hearings then Some octets else before
+received_after station before (Transmitted sender channel octets hearings) = handed_or before station octets hearings
 received_after station before event = before
 
 unfoldable pub packet_received : ℕ → List Event → Option (List ℕ)

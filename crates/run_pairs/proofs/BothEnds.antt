@@ -23,7 +23,7 @@ use Rattle.link_calls.specs.controller_model.Heard.{has_room}
 use Rattle.link_calls.specs.controller_model.Side.{facts_after, facts_of}
 use Rattle.link_calls.specs.controller_model.Step.{Step, HostOctet, TurnBegins, PacketHeard, NothingHeard, TurnEnds}
 use Rattle.link_calls.proofs.controller_model.Pasts.{facts_more}
-use Rattle.link_calls.specs.Phases.{HasPassed, IsNew, Stays, Takes, link_receiving, refuses_at}
+use Rattle.link_calls.specs.Phases.{HasPassed, IsNew, Stays, Takes, link_receiving, link_worded}
 use Rattle.link_calls.specs.run_model.Feeding.{AreDistinct}
 use Rattle.link_calls.specs.run_model.History.{Event, Called, TurnBegan, HostFed, Noted, Transmitted, past_of, steps_in}
 use Rattle.link_calls.specs.run_model.Run.{Given, facts_at, history_of, run_of, setup_at, step_of}
@@ -47,10 +47,13 @@ use Rattle.link_calls.proofs.run_laws.TwoStations.{differs_back}
 use Rattle.run_pairs.specs.InTurns.{HasSentNow, HearEachInTurn, HearsInTurn}
 use Rattle.run_pairs.specs.Stages.{AreHeardEnds}
 use Rattle.run_pairs.proofs.CallPlaces.{more_of, StandsAt, StandsInPhase, stands_called}
-use Rattle.run_pairs.proofs.EndCalls.{IsEndBegun, central_sends, central_silent, central_takes_in, end_begun, peripheral_listens, peripheral_takes_in, peripheral_unsent, refused_facts, taking_facts}
+use Rattle.run_pairs.proofs.EndCalls.{IsEndBegun, central_sends, central_silent, central_takes_in, central_unworded, end_begun, peripheral_listens, peripheral_takes_in, peripheral_unsent, refused_facts, taking_facts}
+use Rattle.run_pairs.proofs.AtOnce.{refuses_at}
+use Rattle.link_calls.proofs.Worded.{worded_setup}
+use Rattle.run_pairs.proofs.Worded.{worded_verdict}
 use Rattle.link_calls.proofs.LinkCalls.{begins_under, passes_under}
 use Rattle.run_pairs.proofs.OneSide.{LastBefore, StationAt, begun_setup, received_last, station_first, station_kept, taken_setup}
-use Rattle.run_pairs.proofs.PairSteps.{AreBothBegun, AtPlace, InTurn, IsPacketNow, IsPeripheralDone, NewOr, central_begins, central_begins_too, central_deaf, central_hosted_all, central_reports, central_takes, peripheral_begins, peripheral_begins_too, peripheral_deaf, peripheral_hosted_all, peripheral_reports, peripheral_takes}
+use Rattle.run_pairs.proofs.PairSteps.{AreBothBegun, AtPlace, InTurn, IsPacketNow, IsPeripheralDone, NewOr, both_worded, central_begins, central_begins_too, central_deaf, central_hosted_all, central_reports, central_takes, packet_worded, peripheral_begins, peripheral_begins_too, peripheral_deaf, peripheral_hosted_all, peripheral_reports, peripheral_takes}
 use Rattle.run_pairs.proofs.Stages.{new_ends}
 use Rattle.link_calls.proofs.UnderHandles.{ended_under}
 use Rattle.link_calls.specs.Turns.{sent_if}
@@ -166,6 +169,10 @@ reported_setup false link = refl
 abbrev room_of : Setup → Facts → Bool
 room_of setup facts = has_room setup facts
 
+-- as it hears
+abbrev base_of : Setup → Facts → OpenLink → OpenLink
+base_of setup facts link = link_worded setup facts facts.turn.doing link
+
 -- after a phase it sends on the link under this handle
 abbrev sends_next : Setup → Facts → ℕ → Option (List ℕ) → Bool
 sends_next setup facts handle received = sends_under handle (facts_after setup facts (step_of received)).turn.doing
@@ -237,7 +244,7 @@ module _ (whole : IsHeardWhole) (taken : AreTaken) (given : Given) (distinct : A
     -- ---- at the central
 
     central_fed : (octet turns : ℕ) → standing pc ≡ Some (at_stage Between turns) → standing pp ≡ Some (at_stage Between turns)
-        → MayAskAt facts_c octet central.handle → Keeps (pc ++ HostOctet octet ∷ []) pp
+        → MayAskAt setup_c facts_c octet central.handle → Keeps (pc ++ HostOctet octet ∷ []) pp
     central_fed octet turns own other may_ask = λ c p at_c setup at_p setup_too.
         let before : (link : OpenLink) → link_at central.handle facts_c.links ≡ Some link → link.setup ≡ c_end
         → AreOpenEnds c_end p_end turns (facts_in link) (facts_in p) =
@@ -324,7 +331,7 @@ module _ (whole : IsHeardWhole) (taken : AreTaken) (given : Given) (distinct : A
         heard_in (suc (suc n)) m slot c p is place heard = absurd (omega (arith, is))
 
         by : (c p : OpenLink) → c.setup ≡ c_end → link_at p_handle facts_p.links ≡ Some p → p.setup ≡ p_end
-            → HasPassed facts_c (has_room setup_c facts_c) received central.handle (facts_after setup_c facts_c (step_of received)).turn.doing c
+            → HasPassed setup_c facts_c (has_room setup_c facts_c) received central.handle (facts_after setup_c facts_c (step_of received)).turn.doing c
             → NewOr c_end p_end p_handle turns (λ slot. InTurn c_end p_end p_handle j (suc phases) slot facts_p.turn.doing c p)
         by c p setup at_p setup_too (IsNew end made opened off) =
             inl (ap (λ n. n + 1) (sym (ap (λ (s : EndSetup). s.opened) setup) ∙ ap (λ (l : OpenLink). l.setup.opened) made ∙ opened) ∙ slot_is)
@@ -333,32 +340,46 @@ module _ (whole : IsHeardWhole) (taken : AreTaken) (given : Given) (distinct : A
         by c p setup at_p setup_too (Takes one octets was got on same) =
             new_or c_end p_end p_handle turns _ _ (λ slot now is. heard_in phases j slot c p second where_it
             (subst (λ n. AreHeardEnds c_end p_end n (facts_in c) (facts_in p)) (in_slot facts_c.turn.slot slot turns slot_is now)
-            (central_takes whole c_end p_end ends p_handle facts_c.turn.slot octets (has_room setup_c facts_c) (refuses_at central.handle (has_room setup_c facts_c) octets facts_c) one c p
+            (central_takes whole c_end p_end ends p_handle facts_c.turn.slot octets (has_room setup_c facts_c) (refuses_at central.handle (has_room setup_c facts_c) octets facts_c (base_of setup_c facts_c one)) one c p
             (subst (λ n. IsPeripheralDone c_end p_end p_handle n one p) (sym (in_slot facts_c.turn.slot slot turns slot_is now)) (in_second phases j slot one p second where_it is))
             facts_are (λ good. packet good))))
             (prior one p was setups at_p setup_too)
           where
             setups : one.setup ≡ c_end
-            setups = sym (ap (λ (l : OpenLink). l.setup) same ∙ taken_setup (sends_next setup_c facts_c central.handle received) central.handle (room_of setup_c facts_c) octets facts_c one) ∙ setup
+            setups =
+                sym (ap (λ (l : OpenLink). l.setup) same
+                ∙ taken_setup (sends_next setup_c facts_c central.handle received) setup_c central.handle (room_of setup_c facts_c) octets facts_c one) ∙ setup
 
             role : one.setup.link.role ≡ Central
             role = ap (λ (s : EndSetup). s.link.role) setups ∙ ends.is_central
+
+            same_base : base_of setup_c facts_c one ≡ one
+            same_base = central_unworded facts_c.links central.handle one was setup_c facts_c phases facts_c.turn.doing phase_is on role
+
+            setups_base : (base_of setup_c facts_c one).setup ≡ c_end
+            setups_base = ap (λ (l : OpenLink). l.setup) same_base ∙ setups
 
             second : phases ≡ 1
             second = central_takes_in facts_c.links central.handle one was phases facts_c.turn.doing phase_is on role
 
             silent : (sends_next setup_c facts_c central.handle received) ≡ false
-            silent = replies_under setup_c facts_c received octets central.handle one got on was ∙ central_silent one.setup facts_c.turn.slot octets (room_of setup_c facts_c) (facts_in one) role
+            silent =
+                replies_under setup_c facts_c received octets central.handle one got on was
+                ∙ central_silent (base_of setup_c facts_c one).setup facts_c.turn.slot octets (room_of setup_c facts_c) (facts_in (base_of setup_c facts_c one))
+                (ap (λ (s : EndSetup). s.link.role) setups_base ∙ ends.is_central)
 
-            facts_are : facts_in c ≡ refused_facts (refuses_at central.handle (room_of setup_c facts_c) octets facts_c) c_end (received_facts c_end facts_c.turn.slot octets (room_of
-                setup_c facts_c) (facts_in one))
+            facts_are : facts_in c ≡ refused_facts (refuses_at central.handle (room_of setup_c facts_c) octets facts_c (base_of setup_c facts_c one)) c_end
+                (received_facts c_end facts_c.turn.slot octets (room_of setup_c facts_c) (facts_in one))
             facts_are =
-                ap facts_in same ∙ taking_facts (sends_next setup_c facts_c central.handle received) central.handle (room_of setup_c facts_c) octets facts_c one
-                ∙ ap (λ b. sends_if b one.setup facts_c.turn.slot
-                (refused_facts (refuses_at central.handle (room_of setup_c facts_c) octets facts_c) one.setup (received_facts one.setup facts_c.turn.slot octets (room_of setup_c
-                facts_c) (facts_in one)))) silent
-                ∙ ap (λ (s : EndSetup). refused_facts (refuses_at central.handle (room_of setup_c facts_c) octets facts_c) s (received_facts s facts_c.turn.slot octets (room_of
-                setup_c facts_c) (facts_in one))) setups
+                ap facts_in same
+                ∙ taking_facts (sends_next setup_c facts_c central.handle received) central.handle (room_of setup_c facts_c) octets facts_c (base_of setup_c facts_c one)
+                ∙ ap (λ b. sends_if b (base_of setup_c facts_c one).setup facts_c.turn.slot
+                (refused_facts (refuses_at central.handle (room_of setup_c facts_c) octets facts_c (base_of setup_c facts_c one)) (base_of setup_c facts_c one).setup
+                (received_facts (base_of setup_c facts_c one).setup facts_c.turn.slot octets (room_of setup_c facts_c) (facts_in (base_of setup_c facts_c one))))) silent
+                ∙ ap (λ (s : EndSetup). refused_facts (refuses_at central.handle (room_of setup_c facts_c) octets facts_c (base_of setup_c facts_c one)) s
+                (received_facts s facts_c.turn.slot octets (room_of setup_c facts_c) (facts_in (base_of setup_c facts_c one)))) setups_base
+                ∙ ap (λ (l : OpenLink). refused_facts (refuses_at central.handle (room_of setup_c facts_c) octets facts_c (base_of setup_c facts_c one)) c_end
+                (received_facts c_end facts_c.turn.slot octets (room_of setup_c facts_c) (facts_in l))) same_base
 
             facts_same : facts_at given central.station before ≡ facts_c
             facts_same = ap (facts_of setup_c) (sym pc_is)
@@ -421,7 +442,7 @@ module _ (whole : IsHeardWhole) (taken : AreTaken) (given : Given) (distinct : A
     -- ---- at the peripheral
 
     peripheral_fed : (octet turns : ℕ) → standing pc ≡ Some (at_stage Between turns) → standing pp ≡ Some (at_stage Between turns)
-        → MayAskAt facts_p octet p_handle → Keeps pc (pp ++ HostOctet octet ∷ [])
+        → MayAskAt setup_p facts_p octet p_handle → Keeps pc (pp ++ HostOctet octet ∷ [])
     peripheral_fed octet turns other own may_ask = λ c p at_c setup at_p setup_too.
         let before : (link : OpenLink) → link_at p_handle facts_p.links ≡ Some link → link.setup ≡ p_end
         → AreOpenEnds c_end p_end turns (facts_in c) (facts_in link) =
@@ -517,7 +538,7 @@ module _ (whole : IsHeardWhole) (taken : AreTaken) (given : Given) (distinct : A
             (at_standing c_end p_end p_handle (at_stage (Within i) turns) (at_stage (Within phases) turns) _ _ facts_p.turn.doing c p other own (keeps c p at_c setup at_p setup_too)).1
 
         by : (doing : Doing) (c p : OpenLink) → c.setup ≡ c_end → link_at central.handle facts_c.links ≡ Some c → p.setup ≡ p_end
-            → HasPassed facts_p (has_room setup_p facts_p) received p_handle (facts_after setup_p facts_p (step_of received)).turn.doing p
+            → HasPassed setup_p facts_p (has_room setup_p facts_p) received p_handle (facts_after setup_p facts_p (step_of received)).turn.doing p
             → NewOr c_end p_end p_handle turns (λ slot. InTurn c_end p_end p_handle (suc phases) i slot doing c p)
         by doing c p setup at_c setup_too (IsNew end made opened off) =
             inl (ap (λ n. n + 1) (ends.one_link.opened ∙ sym (ap (λ (s : EndSetup). s.opened) setup_too) ∙ ap (λ (l : OpenLink). l.setup.opened) made ∙ opened) ∙ slot_is)
@@ -526,14 +547,20 @@ module _ (whole : IsHeardWhole) (taken : AreTaken) (given : Given) (distinct : A
         by doing c p setup at_c setup_too (Takes one octets was got on same) =
             new_or c_end p_end p_handle turns _ _ (λ slot now is. done_in phases i slot doing c p first where_it
             (subst (λ n. IsPeripheralDone c_end p_end p_handle n c p) (in_slot facts_p.turn.slot slot turns slot_is now)
-            (peripheral_takes whole c_end p_end ends p_handle facts_p.turn.slot octets (room_of setup_p facts_p) (refuses_at p_handle (room_of setup_p facts_p) octets facts_p)
-            (sends_next setup_p facts_p p_handle received) facts_p.turn.doing c one p
-            (subst (λ n. AreBothBegun c_end p_end p_handle n facts_p.turn.doing c one) (sym (in_slot facts_p.turn.slot slot turns slot_is now)) (in_first phases i slot c one first is))
+            (peripheral_takes whole c_end p_end ends p_handle facts_p.turn.slot octets (room_of setup_p facts_p) (refuses_at p_handle (room_of setup_p facts_p) octets facts_p
+            (base_of setup_p facts_p one)) (sends_next setup_p facts_p p_handle received) facts_p.turn.doing c (base_of setup_p facts_p one) p
+            (both_worded whole c_end p_end ends p_handle setup_p facts_p facts_p.turn.doing facts_p.turn.slot facts_p.turn.doing c one setups
+            (subst (λ n. AreBothBegun c_end p_end p_handle n facts_p.turn.doing c one) (sym (in_slot facts_p.turn.slot slot turns slot_is now)) (in_first phases i slot c one first is)))
             on replies_are facts_are unsent (λ good. packet good))))
             (prior c one at_c setup was setups)
           where
             setups : one.setup ≡ p_end
-            setups = sym (ap (λ (l : OpenLink). l.setup) same ∙ taken_setup (sends_next setup_p facts_p p_handle received) p_handle (room_of setup_p facts_p) octets facts_p one) ∙ setup_too
+            setups =
+                sym (ap (λ (l : OpenLink). l.setup) same
+                ∙ taken_setup (sends_next setup_p facts_p p_handle received) setup_p p_handle (room_of setup_p facts_p) octets facts_p one) ∙ setup_too
+
+            setups_base : (base_of setup_p facts_p one).setup ≡ p_end
+            setups_base = worded_setup setup_p facts_p facts_p.turn.doing one ∙ setups
 
             role : one.setup.link.role ≡ Peripheral
             role = ap (λ (s : EndSetup). s.link.role) setups ∙ ends.is_peripheral
@@ -541,36 +568,44 @@ module _ (whole : IsHeardWhole) (taken : AreTaken) (given : Given) (distinct : A
             first : phases ≡ 0
             first = peripheral_takes_in facts_p.links p_handle one was phases facts_p.turn.doing phase_is on role
 
-            replies_are : sends_next setup_p facts_p p_handle received ≡ replies_of p_end (facts_in one) facts_p.turn.slot octets (room_of setup_p facts_p)
-            replies_are = replies_under setup_p facts_p received octets p_handle one got on was ∙ ap (λ (s : EndSetup). replies_of s (facts_in one) facts_p.turn.slot octets (room_of setup_p facts_p)) setups
+            replies_are : sends_next setup_p facts_p p_handle received
+                ≡ replies_of p_end (facts_in (base_of setup_p facts_p one)) facts_p.turn.slot octets (room_of setup_p facts_p)
+            replies_are =
+                replies_under setup_p facts_p received octets p_handle one got on was
+                ∙ ap (λ (s : EndSetup). replies_of s (facts_in (base_of setup_p facts_p one)) facts_p.turn.slot octets (room_of setup_p facts_p)) setups_base
 
             facts_are : facts_in p ≡ sends_if (sends_next setup_p facts_p p_handle received) p_end facts_p.turn.slot
-                (refused_facts (refuses_at p_handle (room_of setup_p facts_p) octets facts_p) p_end (received_facts p_end facts_p.turn.slot octets (room_of setup_p facts_p) (facts_in one)))
+                (refused_facts (refuses_at p_handle (room_of setup_p facts_p) octets facts_p (base_of setup_p facts_p one)) p_end
+                (received_facts p_end facts_p.turn.slot octets (room_of setup_p facts_p) (facts_in (base_of setup_p facts_p one))))
             facts_are =
-                ap facts_in same ∙ taking_facts (sends_next setup_p facts_p p_handle received) p_handle (room_of setup_p facts_p) octets facts_p one
+                ap facts_in same
+                ∙ taking_facts (sends_next setup_p facts_p p_handle received) p_handle (room_of setup_p facts_p) octets facts_p (base_of setup_p facts_p one)
                 ∙ ap (λ (s : EndSetup). sends_if (sends_next setup_p facts_p p_handle received) s facts_p.turn.slot
-                (refused_facts (refuses_at p_handle (room_of setup_p facts_p) octets facts_p) s (received_facts s facts_p.turn.slot octets (room_of setup_p facts_p) (facts_in one)))) setups
+                (refused_facts (refuses_at p_handle (room_of setup_p facts_p) octets facts_p (base_of setup_p facts_p one)) s
+                (received_facts s facts_p.turn.slot octets (room_of setup_p facts_p) (facts_in (base_of setup_p facts_p one))))) setups_base
 
             unsent : sends_next setup_p facts_p p_handle received ≡ false → LastBefore facts_p.turn.slot p.past
             unsent none =
                 subst (λ (l : OpenLink). LastBefore facts_p.turn.slot l.past)
-                (sym (same ∙ ap (λ b. sent_if b facts_p.turn.slot (link_receiving p_handle (room_of setup_p facts_p) octets facts_p one)) none))
-                (received_last p_handle (room_of setup_p facts_p) octets facts_p one facts_p.turn.slot)
+                (sym (same ∙ ap (λ b. sent_if b facts_p.turn.slot (link_receiving setup_p p_handle (room_of setup_p facts_p) octets facts_p one)) none))
+                (received_last p_handle (room_of setup_p facts_p) octets facts_p (base_of setup_p facts_p one) facts_p.turn.slot)
 
             facts_same : facts_at given peripheral.station before ≡ facts_p
             facts_same = ap (facts_of setup_p) (sym pp_is)
 
-            packet : verdict_of p_end (facts_in one) octets ≡ Good → IsPacketNow c_end facts_p.turn.slot (facts_in one) c octets
+            packet : verdict_of p_end (facts_in (base_of setup_p facts_p one)) octets ≡ Good
+                → IsPacketNow c_end facts_p.turn.slot (facts_in (base_of setup_p facts_p one)) c octets
             packet good =
                 let heard = hears octets one (ap step_of got) (record {
                   handle = p_handle;
                   listens = ap (λ (f : Facts). link_listened f.turn.doing) facts_same ∙ listens_is p_handle facts_p.turn.doing on;
                   is_open = ap (λ (f : Facts). link_at p_handle f.links) facts_same ∙ was;
-                  is_good = ap (λ (s : EndSetup). verdict_of s (facts_in one) octets) setups ∙ good;
+                  is_good = ap (λ (s : EndSetup). verdict_of s (facts_in one) octets) setups ∙ sym (worded_verdict p_end setup_p facts_p facts_p.turn.doing one octets) ∙ good;
                 }) (one_connect one.setup p_end setups) in
-                subst (λ (f : Facts). IsPacketNow c_end f.turn.slot (facts_in one) c octets) facts_same
+                packet_worded c_end facts_p.turn.slot setup_p facts_p facts_p.turn.doing one c octets
+                (subst (λ (f : Facts). IsPacketNow c_end f.turn.slot (facts_in one) c octets) facts_same
                 (packet_now given before rest peripheral central (facts_in one) octets c distinct in_it at_run
-                (ap (λ (past : List Step). link_at central.handle (facts_of setup_c past).links) (sym pc_is) ∙ at_c) setup heard)
+                (ap (λ (past : List Step). link_at central.handle (facts_of setup_c past).links) (sym pc_is) ∙ at_c) setup heard))
 
     peripheral_ended : (turns : ℕ) → standing pp ≡ Some (at_stage (Within 3) turns) → (called : Bool)
         → standing pc ≡ Some (if called then at_stage Between turns else at_stage (Within 3) turns) → Keeps pc (pp ++ TurnEnds ∷ [])

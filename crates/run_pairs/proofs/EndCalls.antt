@@ -1,7 +1,7 @@
 -- What a call does to one end of a link, in the words of the laws of two ends.
 use Rattle.std.proofs.Common.{◌≡◌, ◌⊎◌, inl, inr, ℕ, ◌+◌, ◌≤◌, ◌==◌, ◌&&◌, Bool, true, false, Option, Some, None, is_none, List, refl, sym, ap, subst, ◌∙◌, arith}
 use Rattle.std.proofs.lemmas.Bool.{eqb-true, ltb-true}
-use Rattle.std.specs.Prelude.{if◌then◌else◌}
+use Rattle.std.specs.Prelude.{IfSome, if◌then◌else◌}
 use Rattle.ble_base.specs.declared.roles.Role.{Role}
 use Rattle.ble_base.specs.declared.roles.Role.TheVariants.{Central, Peripheral}
 use Rattle.ble_base.specs.declared.verdicts.Verdict.TheVariants.{Broken as BrokenPacket, Forged, Good}
@@ -15,12 +15,11 @@ use Rattle.link_calls.specs.link_model.Data.{is_control}
 use Rattle.link_calls.specs.link_model.Fixing.{fixed_anew}
 use Rattle.link_calls.specs.link_model.Packets.{good_pdu, heard_of, is_forged, is_forged_in, is_forged_pdu, pdu_read_in, verdict_of, whole_pdu}
 use Rattle.link_calls.specs.link_model.Payload.{opens_now}
-use Rattle.link_calls.specs.link_model.Plain.{IsPlain}
 use Rattle.link_calls.specs.link_model.Receiving.{facts_forged_if, facts_received, has_ended, replies_by, replies_of}
 use Rattle.link_calls.specs.link_model.Setup.{Setup as EndSetup}
-use Rattle.link_calls.specs.link_model.Step.{EventEntered, PacketReceived, PacketSent, PduFixed, RequestAnswered}
+use Rattle.link_calls.specs.link_model.Hosts.{facts_key_answered}
+use Rattle.link_calls.specs.link_model.Step.{Step as EndStep, EventEntered, KeyAnswered, PacketReceived, PacketSent, PduFixed, RequestAnswered}
 use Rattle.link_calls.specs.link_model.Verdicts.{has_room_for, pdu_by, verdict_by, whole_in}
-use Rattle.link_calls.proofs.link_model.Plain.{past_plain, read_plain}
 use Rattle.link_calls.specs.open_links.OpenLinks.{Links, OpenLink, facts_in, has_entered, link_after, link_at}
 use Rattle.link_calls.specs.open_links.Turns.{entered_if, is_anchor, link_entered}
 use Rattle.link_calls.proofs.open_links.Unmoved.{entered_setup}
@@ -29,7 +28,7 @@ use Rattle.link_calls.specs.controller_model.declared.doing.Doing.TheVariants.{A
 use Rattle.link_calls.specs.controller_model.Facts.{Setup, Facts}
 use Rattle.link_calls.specs.controller_model.Side.{facts_after}
 use Rattle.link_calls.specs.controller_model.Step.{TurnBegins}
-use Rattle.link_calls.specs.Phases.{link_receiving, refusal, refused_if, refuses_at}
+use Rattle.link_calls.specs.Phases.{base_receiving, link_worded, refusal, refusal_at, refused_if}
 use Rattle.link_runs.specs.link_pairs.Hearing.{received}
 use Rattle.link_runs.specs.link_pairs.Turns.{MayExchange, entered_in, prepared}
 use Rattle.link_runs.specs.link_pairs.Turns as turns
@@ -42,10 +41,13 @@ use Rattle.link_calls.proofs.controller_model.Exchanges.{exchange_has_entered}
 use Rattle.link_calls.specs.controller_model.Entering.{HasEntered, IsInEvent}
 use Rattle.link_calls.specs.controller_model.Radio.{outcome_begun}
 use Rattle.link_calls.proofs.LinkCalls.{begins_under}
+use Rattle.link_calls.proofs.AtOnce.{IsRefusal, refusal_is}
+use Rattle.run_pairs.proofs.AtOnce.{is_request_refused, refuses_at}
 use Rattle.run_pairs.proofs.OneSide.{LastBefore, begun_last}
 use Rattle.link_calls.specs.Turns.{fixed_if, sent_if}
 use Rattle.link_calls.specs.Uses.{fixes_under, listens_under, sends_under}
 use Rattle.run_pairs.proofs.LinkSteps.{base_under}
+use Rattle.run_pairs.proofs.Unencrypted.{key_lacked}
 
 -- ---- a turn begins
 
@@ -174,6 +176,15 @@ module _ (links : Links) (handle : ℕ) (link : OpenLink) (at : link_at handle l
   central_takes_in phases (Advertises channel) in_phase listens role = absurd cc
   central_takes_in phases other in_phase listens role = absurd cc
 
+  -- a central is given no words
+  pub central_unworded : (setup : Setup) (facts : Facts) (phases : ℕ) (doing : Doing) → IsInPhase phases links doing → listens_under handle doing ≡ true
+      → link.setup.link.role ≡ Central → link_worded setup facts doing link ≡ link
+  central_unworded setup facts phases (CentralListens other) in_phase listens role = refl
+  central_unworded setup facts phases (PeripheralListens other) in_phase listens role =
+      not_both _ link.setup.link.role role (has_role Peripheral links handle other link in_phase.1 listens at)
+  central_unworded setup facts phases (Advertises channel) in_phase listens role = absurd cc
+  central_unworded setup facts phases other in_phase listens role = absurd cc
+
   pub peripheral_takes_in : (phases : ℕ) (doing : Doing) → IsInPhase phases links doing → listens_under handle doing ≡ true → link.setup.link.role ≡ Peripheral
       → phases ≡ 0
   peripheral_takes_in phases (PeripheralListens other) in_phase listens role = in_phase.0
@@ -192,16 +203,6 @@ pub record IsUnheard (setup : EndSetup) (slot : ℕ) (octets : List ℕ) (room :
 none_replies : (role : Role) (ended : Bool) → replies_by role ended None ≡ false
 none_replies Central ended = refl
 none_replies Peripheral ended = refl
-
--- no link encrypts yet, so no packet is forged
-unforged_by : (role : Role) (facts : EndFacts) (pdu : Option (List ℕ)) → IsPlain role facts → is_forged_in facts pdu ≡ false
-unforged_by role facts None plain = refl
-unforged_by role facts (Some pdu) plain = ap (λ (read : Option (List ℕ)). is_none read) (read_plain role facts pdu plain)
-
-pub unforged : (setup : EndSetup) (link : OpenLink) (octets : List ℕ) → is_forged setup (facts_in link) octets ≡ false
-unfolding is_forged
-unforged setup link octets =
-    unforged_by link.setup.link.role (facts_in link) (whole_pdu setup (facts_in link) octets) (past_plain link.setup link.past)
 
 -- one that is not forged is good or is not heard
 pub good_or_unheard : (setup : EndSetup) (slot : ℕ) (octets : List ℕ) (room : Bool) (facts : EndFacts) → is_forged setup facts octets ≡ false
@@ -248,22 +249,30 @@ central_silent setup slot octets room facts is = central_silent_by setup.link.ro
 abbrev pub refused_facts : Bool → EndSetup → EndFacts → EndFacts
 refused_facts refuses setup facts = if refuses then end_after setup facts (RequestAnswered refusal) else facts
 
-pub receiving_facts : (handle : ℕ) (room : Bool) (octets : List ℕ) (facts : Facts) (link : OpenLink)
-    → facts_in (link_receiving handle room octets facts link)
-    ≡ refused_facts (refuses_at handle room octets facts) link.setup (received link.setup facts.turn.slot octets room (facts_in link))
-receiving_facts handle room octets facts link = by (refuses_at handle room octets facts)
+-- to answer a request for a key that no host was asked for changes nothing
+pub receiving_facts : (handle : ℕ) (room : Bool) (octets : List ℕ) (facts : Facts) (base : OpenLink)
+    → facts_in (base_receiving handle room octets facts base)
+    ≡ refused_facts (refuses_at handle room octets facts base) base.setup (received base.setup facts.turn.slot octets room (facts_in base))
+receiving_facts handle room octets facts base = by (refusal_at handle room octets facts base) (refusal_is handle room octets facts base)
   where
-    by : (refuses : Bool) → facts_in (refused_if refuses (link_after (PacketReceived facts.turn.slot octets room) link))
-        ≡ refused_facts refuses link.setup (received link.setup facts.turn.slot octets room (facts_in link))
-    by true =
-        step_facts (link_after (PacketReceived facts.turn.slot octets room) link) (RequestAnswered refusal)
-        ∙ ap (λ (f : EndFacts). end_after link.setup f (RequestAnswered refusal)) (step_facts link (PacketReceived facts.turn.slot octets room))
-    by false = step_facts link (PacketReceived facts.turn.slot octets room)
+    by : (answer : Option EndStep) → IfSome answer IsRefusal → facts_in (refused_if answer (link_after (PacketReceived facts.turn.slot octets room) base))
+        ≡ refused_facts (is_request_refused answer) base.setup (received base.setup facts.turn.slot octets room (facts_in base))
+    by None is = step_facts base (PacketReceived facts.turn.slot octets room)
+    by (Some (RequestAnswered answer)) is =
+        step_facts (link_after (PacketReceived facts.turn.slot octets room) base) (RequestAnswered answer)
+        ∙ ap (λ a. end_after base.setup (facts_in (link_after (PacketReceived facts.turn.slot octets room) base)) (RequestAnswered a)) is
+        ∙ ap (λ (f : EndFacts). end_after base.setup f (RequestAnswered refusal)) (step_facts base (PacketReceived facts.turn.slot octets room))
+    by (Some (KeyAnswered key slot)) is =
+        step_facts (link_after (PacketReceived facts.turn.slot octets room) base) (KeyAnswered key slot)
+        ∙ ap (λ k. facts_key_answered k slot (facts_in (link_after (PacketReceived facts.turn.slot octets room) base))) is
+        ∙ key_lacked slot (link_after (PacketReceived facts.turn.slot octets room) base)
+        ∙ step_facts base (PacketReceived facts.turn.slot octets room)
+    by (Some other) is = absurd is
 
-pub taking_facts : (sends : Bool) (handle : ℕ) (room : Bool) (octets : List ℕ) (facts : Facts) (link : OpenLink)
-    → facts_in (sent_if sends facts.turn.slot (link_receiving handle room octets facts link))
-    ≡ turns.sent_if sends link.setup facts.turn.slot
-    (refused_facts (refuses_at handle room octets facts) link.setup (received link.setup facts.turn.slot octets room (facts_in link)))
-taking_facts sends handle room octets facts link =
-    sent_facts sends link.setup facts.turn.slot (link_receiving handle room octets facts link)
-    ∙ ap (λ (f : EndFacts). turns.sent_if sends link.setup facts.turn.slot f) (receiving_facts handle room octets facts link)
+pub taking_facts : (sends : Bool) (handle : ℕ) (room : Bool) (octets : List ℕ) (facts : Facts) (base : OpenLink)
+    → facts_in (sent_if sends facts.turn.slot (base_receiving handle room octets facts base))
+    ≡ turns.sent_if sends base.setup facts.turn.slot
+    (refused_facts (refuses_at handle room octets facts base) base.setup (received base.setup facts.turn.slot octets room (facts_in base)))
+taking_facts sends handle room octets facts base =
+    sent_facts sends base.setup facts.turn.slot (base_receiving handle room octets facts base)
+    ∙ ap (λ (f : EndFacts). turns.sent_if sends base.setup facts.turn.slot f) (receiving_facts handle room octets facts base)

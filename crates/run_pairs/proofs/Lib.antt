@@ -1,6 +1,8 @@
 -- The lemmas of this crate.
-pub mod HeardCounts
 pub mod Stages
+pub mod Unencrypted
+pub mod AtOnce
+pub mod Worded
 pub mod Refusing
 pub mod LinkSteps
 pub mod CallPlaces

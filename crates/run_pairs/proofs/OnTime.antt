@@ -1,6 +1,6 @@
 -- Each open end enters its events in the slots of their anchors, in every run.
 use Rattle.std.proofs.Common.{◌≡◌, ℕ, suc, ◌+◌, ◌<◌, ◌≤◌, ◌==◌, Bool, true, false, Option, Some, None, List, [], ◌∷◌, ◌++◌, refl, sym, ap, subst, ◌∙◌, arith}
-use Rattle.std.specs.Prelude.{◌&&◌, is_none, nat_lt, if◌then◌else◌}
+use Rattle.std.specs.Prelude.{IfSome, ◌&&◌, is_none, nat_lt, if◌then◌else◌}
 use Rattle.std.proofs.lemmas.Bool.{eqb-false, eqb-true}
 use Rattle.adv_pdu.specs.Ranges.{IsInRange}
 use Rattle.ble_base.specs.declared.error_codes.ErrCode.{ErrCode}
@@ -19,22 +19,22 @@ use Rattle.link_calls.specs.link_model.Packets.{good_pdu, is_forged}
 use Rattle.link_calls.specs.link_model.Receiving.{facts_forged_if, facts_received}
 use Rattle.link_calls.specs.link_model.Sending.{control_gone_if, takes_leave}
 use Rattle.link_calls.specs.link_model.Setup.{Setup as EndSetup}
-use Rattle.link_calls.specs.link_model.Step.{Step as EndStep, DataGiven, DataReported, Disconnected, EventEntered, PacketReceived, PacketSent, PduFixed, ProcedureAsked, RequestAnswered}
+use Rattle.link_calls.specs.link_model.Step.{Step as EndStep, DataGiven, DataReported, Disconnected, EventEntered, KeyAnswered, PacketReceived, PacketSent, PduFixed, ProcedureAsked, RequestAnswered, WordsGiven}
 use Rattle.link_calls.specs.open_links.Data.{complete_in}
 use Rattle.link_calls.specs.open_links.OpenLinks.{OpenLink, facts_in, link_after, link_at, new_link}
 use Rattle.link_calls.specs.open_links.Turns.{entered_if, is_anchor, link_entered}
 use Rattle.link_calls.proofs.control_model.Moving.{enters_track, table_alone}
-use Rattle.link_calls.proofs.link_model.KeyedPasts.{past_in_phase}
 use Rattle.link_calls.proofs.link_model.Views.{Owed, Owing, Same, entered_view}
 use Rattle.link_calls.proofs.open_links.Anchors.{IsInPlace, enters, moves_on, next_after_enter, sent_later, stays_in_place, went_on}
 use Rattle.link_calls.proofs.open_links.Unmoved.{entered_setup}
 use Rattle.link_calls.proofs.open_links.Intervals.{HasIntervals, has_intervals, past_indicates}
+use Rattle.link_calls.specs.controller_model.declared.doing.Doing.{Doing}
 use Rattle.link_calls.specs.controller_model.Facts.{Setup, Facts, Radio, first_facts}
 use Rattle.link_calls.specs.controller_model.Heard.{has_room}
 use Rattle.link_calls.specs.controller_model.Side.{facts_after}
 use Rattle.link_calls.specs.controller_model.Step.{TurnBegins}
 use Rattle.link_calls.specs.Hosts.{HasHeardHost, GetsData, IsAsked, Unchanged}
-use Rattle.link_calls.specs.Phases.{HasPassed, IsNew, Stays, Takes, refusal, refused_if, refuses_at}
+use Rattle.link_calls.specs.Phases.{HasPassed, IsNew, Stays, Takes, link_worded, refusal_at, refused_if}
 use Rattle.link_calls.specs.Ranges.{HasRanges}
 use Rattle.link_calls.specs.Turns.{fixed_if, sent_if}
 use Rattle.link_calls.specs.Uses.{listens_under, sends_under}
@@ -55,6 +55,10 @@ use Rattle.link_calls.proofs.LinkCalls.{begins_under, phase_under}
 use Rattle.link_calls.proofs.RadioUses.{Listening, no_link}
 use Rattle.link_calls.proofs.UnderHandles.{ended_under, host_under}
 use Rattle.run_pairs.specs.OnTime.{IsOnTrack}
+use Rattle.link_calls.proofs.AtOnce.{IsRefusal, refusal_asks, refusal_is}
+use Rattle.link_calls.proofs.Worded.{each_worded, worded_setup}
+use Rattle.run_pairs.proofs.AtOnce.{control_keyed, key_control}
+use Rattle.run_pairs.proofs.Worded.{worded_slot}
 use Rattle.run_pairs.proofs.OneSide.{IsSetUp, StationAt, station_first, station_kept}
 
 -- ---- an end before a slot
@@ -74,10 +78,10 @@ module _ (slot : ℕ) (link : OpenLink) (step : EndStep) (none : enters step ≡
   after = end_after link.setup held step
 
   place : IsInPlace held.control.track after.control.track
-  place = stays_in_place link.setup held step (past_in_phase link.setup link.past) none
+  place = stays_in_place link.setup held step none
 
   went : goes_on after ≡ true → goes_on held ≡ true
-  went = went_on link.setup held step (past_in_phase link.setup link.past)
+  went = went_on link.setup held step
 
   -- if its event stays in that slot, and the next anchor is where it was or later
   stays_timed : after.event.slot ≡ held.event.slot → (goes_on after ≡ true → slot ≤ next_anchor_of after.control.track) → IsTimed slot held → IsTimed slot after
@@ -96,6 +100,9 @@ module _ (slot : ℕ) (link : OpenLink) (step : EndStep) (none : enters step ≡
       (λ goes. subst (λ (t : TrackFacts). slot ≤ next_anchor_of t) (sym track) (is.on_track.next (went goes))) is
 
 -- a host
+key_track : (key : Option (List ℕ)) (facts : EndFacts) → (control_keyed key facts).track ≡ facts.control.track
+key_track key facts = key_control facts (λ (c : Control). c.track ≡ facts.control.track) refl (λ ctrl c is. table_alone c (Owes ctrl) refl ∙ is) key
+
 asked_track : (setup : EndSetup) (facts : EndFacts) (step : EndStep) → IsAskedStep step → (end_after setup facts step).control.track ≡ facts.control.track
 asked_track setup facts (ProcedureAsked ask) by_host = by (is_to_come ask facts)
   where
@@ -103,6 +110,7 @@ asked_track setup facts (ProcedureAsked ask) by_host = by (is_to_come ask facts)
     by true = refl
     by false = table_alone facts.control (Asks ask) refl
 asked_track setup facts (RequestAnswered answer) by_host = table_alone facts.control (Answers answer) refl
+asked_track setup facts (KeyAnswered key slot) by_host = key_track key facts
 asked_track setup facts (Disconnected reason slot) by_host = table_alone facts.control (Disconnects reason) refl
 asked_track setup facts (DataGiven start body) by_host = absurd by_host
 asked_track setup facts other by_host = absurd by_host
@@ -110,6 +118,7 @@ asked_track setup facts other by_host = absurd by_host
 asked_no_entry : (step : EndStep) → IsAskedStep step → enters step ≡ false
 asked_no_entry (ProcedureAsked ask) by_host = refl
 asked_no_entry (RequestAnswered answer) by_host = refl
+asked_no_entry (KeyAnswered key slot) by_host = refl
 asked_no_entry (Disconnected reason slot) by_host = refl
 asked_no_entry (DataGiven start body) by_host = refl
 asked_no_entry other by_host = absurd by_host
@@ -132,12 +141,12 @@ fixed_timed slot link is =
     (fixed_track (is_control facts.outgoing.fixed) facts) is
 
 -- it sends: an indication that it sends moves its next anchor to a later slot, if at all
-gone_later : (leaves : Bool) (now : ℕ) (link : OpenLink) → IsInRange link.setup.link.fields → HasRanges link → goes_on (facts_in link) ≡ true
+gone_later : (leaves : Bool) (now : ℕ) (link : OpenLink) → IsInRange link.setup.link.fields → HasRanges link
     → next_anchor_of (facts_in link).control.track ≤ next_anchor_of (control_gone_if leaves now (facts_in link)).control.track
-gone_later true now link fields ranges goes =
+gone_later true now link fields ranges =
     let facts = facts_in link in
-    sent_later facts.control now (is_quiet_now facts) (past_indicates link.setup link.past fields ranges.asks goes)
-gone_later false now link fields ranges goes = omega arith
+    sent_later facts.control now (is_quiet_now facts) (past_indicates link.setup link.past fields ranges.asks)
+gone_later false now link fields ranges = omega arith
 
 sent_timed : (slot now : ℕ) (link : OpenLink) → IsInRange link.setup.link.fields → HasRanges link → IsTimed slot (facts_in link)
     → IsTimed slot (end_after link.setup (facts_in link) (PacketSent now))
@@ -146,7 +155,7 @@ sent_timed slot now link fields ranges is =
     stays_timed slot link (PacketSent now) refl (ap (λ (e : ConnectionEvent). e.slot) (sent_in now facts).event)
     (λ goes.
     let on = went slot link (PacketSent now) refl goes in
-    let later = gone_later (takes_leave facts) now link fields ranges on in
+    let later = gone_later (takes_leave facts) now link fields ranges in
     let next = is.on_track.next on in omega (arith, next, later)) is
 
 -- it receives in an exchange of its event
@@ -188,7 +197,7 @@ received_timed now octets room link fields ranges reach is =
     let track = (end_after link.setup facts step).control.track in
     stays_timed (now + 1) link step refl (received_slot link.setup now octets room facts)
     (λ goes.
-    let spaced = has_intervals link.setup (link.past ++ step ∷ []) fields ranges.asks (ap (λ (f : EndFacts). goes_on f) (step_facts link step) ∙ goes) in
+    let spaced = has_intervals link.setup (link.past ++ step ∷ []) fields ranges.asks in
     stays_later facts.control.track track now (place (now + 1) link step refl)
     (subst (λ (f : EndFacts). HasIntervals f.control.track) (step_facts link step) spaced)
     (λ some. subst (λ n. now ≤ n + 1) (is.event some) reach) (is.on_track.next (went (now + 1) link step refl goes))) is
@@ -229,7 +238,7 @@ entry_timed slot link fields ranges goes at =
     let track = owing_track _ (control_entered slot facts) (entered_view slot facts)
     ∙ enters_track facts.control slot (is_quiet_now facts) (none_of facts.control.ends goes) in
     let here : next_anchor_of t ≡ slot = eqb-true (next_anchor_of t) slot at in
-    let later = next_after_enter t (has_intervals link.setup link.past fields ranges.asks goes) in
+    let later = next_after_enter t (has_intervals link.setup link.past fields ranges.asks) in
     let anchor = ap (λ (now : TrackFacts). now.anchor) track ∙ anchor_entered t ∙ here in
     subst (IsTimed (slot + 1)) (sym entered) (record {
       on_track = record {
@@ -279,15 +288,15 @@ record AreTimed (setup : Setup) (stage : Stage) (begun : ℕ) (facts : Facts) : 
   ranged : AreRanged setup stage begun facts
   each : (handle : ℕ) (link : OpenLink) → link_at handle facts.links ≡ Some link → IsTimed begun (facts_in link)
 
-heard_timed : (slot : ℕ) (facts : Facts) (octet handle : ℕ) (now : OpenLink) → HasHeardHost facts octet handle now
+heard_timed : (slot : ℕ) (setup : Setup) (facts : Facts) (octet handle : ℕ) (now : OpenLink) → HasHeardHost setup facts octet handle now
     → ((link : OpenLink) → link_at handle facts.links ≡ Some link → IsTimed slot (facts_in link)) → IsTimed slot (facts_in now)
-heard_timed slot facts octet handle now (Unchanged was) each = each now was
-heard_timed slot facts octet handle now (GetsData link start body was is) each =
+heard_timed slot setup facts octet handle now (Unchanged was) each = each now was
+heard_timed slot setup facts octet handle now (GetsData link start body was is) each =
     subst (λ (l : OpenLink). IsTimed slot (facts_in l)) (sym is)
     (step_timed slot link (DataGiven start body)
     (track_stays slot link (DataGiven start body) refl refl refl (each link was)))
-heard_timed slot facts octet handle now (IsAsked link command step was accepted asks is) each =
-    let well = asked_is_well facts octet handle command link.setup.link.role (facts_in link).peer step accepted asks in
+heard_timed slot setup facts octet handle now (IsAsked link command step was accepted asks is) each =
+    let well = asked_is_well setup facts octet handle command link.setup.link.role (facts_in link).peer step accepted asks in
     subst (λ (l : OpenLink). IsTimed slot (facts_in l)) (sym is)
     (step_timed slot link step (asked_timed slot link step well.by_host (each link was)))
 
@@ -332,22 +341,30 @@ in_reach : (slot handle : ℕ) (link : OpenLink) (radio : Radio) → IsInSlot ra
 in_reach slot handle link radio (AtAnchor is holds) = omega (arith, is)
 in_reach slot handle link radio (AfterAnchor is heard) = omega (arith, is)
 
-refused_timed : (slot : ℕ) (refuses : Bool) (link : OpenLink) → IsTimed slot (facts_in link) → IsTimed slot (facts_in (refused_if refuses link))
-refused_timed slot true link is =
-    step_timed slot link (RequestAnswered refusal) (asked_timed slot link (RequestAnswered refusal) tt is)
-refused_timed slot false link is = is
+refused_timed : (slot : ℕ) (answer : Option EndStep) (link : OpenLink) → IfSome answer IsRefusal → IsTimed slot (facts_in link)
+    → IsTimed slot (facts_in (refused_if answer link))
+refused_timed slot (Some step) link refusal is = step_timed slot link step (asked_timed slot link step (refusal_asks step refusal) is)
+refused_timed slot None link refusal is = is
 
-refused_fields : (refuses : Bool) (link : OpenLink) → IsInRange link.setup.link.fields → IsInRange (refused_if refuses link).setup.link.fields
-refused_fields true link is = is
-refused_fields false link is = is
+refused_fields : (answer : Option EndStep) (link : OpenLink) → IsInRange link.setup.link.fields → IsInRange (refused_if answer link).setup.link.fields
+refused_fields (Some step) link is = is
+refused_fields None link is = is
 
 unsent_ranges : (sends : Bool) (slot : ℕ) (link : OpenLink) → HasRanges (sent_if sends slot link) → HasRanges link
 unsent_ranges true slot link ranges = ranges_before (PacketSent slot) link ranges
 unsent_ranges false slot link ranges = ranges
 
-refused_ranges : (refuses : Bool) (link : OpenLink) → HasRanges (refused_if refuses link) → HasRanges link
-refused_ranges true link ranges = ranges_before (RequestAnswered refusal) link ranges
-refused_ranges false link ranges = ranges
+refused_ranges : (answer : Option EndStep) (link : OpenLink) → HasRanges (refused_if answer link) → HasRanges link
+refused_ranges (Some step) link ranges = ranges_before step link ranges
+refused_ranges None link ranges = ranges
+
+-- it is given words
+worded_timed : (setup : Setup) (facts : Facts) (doing : Doing) (slot : ℕ) (link : OpenLink) → IsTimed slot (facts_in link)
+    → IsTimed slot (facts_in (link_worded setup facts doing link))
+worded_timed setup facts doing slot link is =
+    each_worded (λ base. IsTimed slot (facts_in base)) setup facts doing link is
+    (λ skd_s iv_s.
+    let step = WordsGiven skd_s iv_s in step_timed slot link step (track_stays slot link step refl refl refl is))
 
 module _ (setup : Setup) (phases begun : ℕ) (received : Option (List ℕ)) (facts : Facts) (is : AreTimed setup (Within phases) begun facts) where
   abbrev later : Facts
@@ -360,33 +377,37 @@ module _ (setup : Setup) (phases begun : ℕ) (received : Option (List ℕ)) (fa
   slot_is = is.station.holds.phased.uses.in_turn.slot_is
 
   -- it receives, may refuse a request, and may send
-  taken_timed : (handle : ℕ) (octets : List ℕ) (link : OpenLink) (refuses sends : Bool) → link_at handle facts.links ≡ Some link
-      → listens_under handle facts.turn.doing ≡ true
-      → HasRanges (sent_if sends facts.turn.slot (refused_if refuses (link_after (PacketReceived facts.turn.slot octets room) link)))
-      → IsTimed begun (facts_in (sent_if sends facts.turn.slot (refused_if refuses (link_after (PacketReceived facts.turn.slot octets room) link))))
-  taken_timed handle octets link refuses sends was on ranges =
+  taken_timed : (handle : ℕ) (octets : List ℕ) (link : OpenLink) (answer : Option EndStep) (sends : Bool) → IfSome answer IsRefusal
+      → link_at handle facts.links ≡ Some link → listens_under handle facts.turn.doing ≡ true → let base = link_worded setup facts facts.turn.doing link in
+      HasRanges (sent_if sends facts.turn.slot (refused_if answer (link_after (PacketReceived facts.turn.slot octets room) base)))
+      → IsTimed begun (facts_in (sent_if sends facts.turn.slot (refused_if answer (link_after (PacketReceived facts.turn.slot octets room) base))))
+  taken_timed handle octets link answer sends refusal was on ranges =
       let slot = facts.turn.slot in
       let step = PacketReceived slot octets room in
-      let heard = link_after step link in
-      let refused = refused_if refuses heard in
-      let fields = (open_has IsSetUp 0 handle facts.links link is.station.each was).in_range in
+      let base = link_worded setup facts facts.turn.doing link in
+      let heard = link_after step base in
+      let refused = refused_if answer heard in
+      let fields = subst (λ (s : EndSetup). IsInRange s.link.fields) (sym (worded_setup setup facts facts.turn.doing link))
+      (open_has IsSetUp 0 handle facts.links link is.station.each was).in_range in
       let before = unsent_ranges sends slot refused ranges in
-      let reach = in_reach slot handle link facts.radio (is.station.holds.in_slot handle link was (Listening on)) in
-      let own = subst (λ n. IsTimed n (facts_in link)) (sym slot_is) (is.each handle link was) in
-      let took = step_timed (slot + 1) link step (received_timed slot octets room link fields (refused_ranges refuses heard before) reach own) in
+      let reach = subst (λ n. slot ≤ n + 1) (sym (worded_slot setup facts facts.turn.doing link))
+      (in_reach slot handle link facts.radio (is.station.holds.in_slot handle link was (Listening on))) in
+      let own = worded_timed setup facts facts.turn.doing (slot + 1) link (subst (λ n. IsTimed n (facts_in link)) (sym slot_is) (is.each handle link was)) in
+      let took = step_timed (slot + 1) base step (received_timed slot octets room base fields (refused_ranges answer heard before) reach own) in
       subst (λ n. IsTimed n (facts_in (sent_if sends slot refused))) slot_is
-      (sends_timed (slot + 1) slot refused (refused_fields refuses heard fields) sends ranges (refused_timed (slot + 1) refuses heard took))
+      (sends_timed (slot + 1) slot refused (refused_fields answer heard fields) sends ranges (refused_timed (slot + 1) answer heard refusal took))
 
   passed_timed : AreRanged setup (Within (suc phases)) begun later → (handle : ℕ) (link : OpenLink) → link_at handle later.links ≡ Some link
-      → HasPassed facts room received handle later.turn.doing link → IsTimed begun (facts_in link)
+      → HasPassed setup facts room received handle later.turn.doing link → IsTimed begun (facts_in link)
   passed_timed ranged handle link at (IsNew end made opened off) =
       subst (λ (l : OpenLink). IsTimed begun (facts_in l)) (sym made)
       (subst (λ n. IsTimed n (facts_in (new_link end))) (ap (λ n. n + 1) opened ∙ slot_is) (new_timed end))
   passed_timed ranged handle link at (Stays was none nothing listened) = is.each handle link was
-  passed_timed ranged handle link at (Takes base octets was some on same) =
+  passed_timed ranged handle link at (Takes one octets was some on same) =
       let now = open_has HasRanges 0 handle later.links link ranged.each at in
       subst (λ (l : OpenLink). IsTimed begun (facts_in l)) (sym same)
-      (taken_timed handle octets base (refuses_at handle room octets facts) (sends_under handle later.turn.doing) was on (subst HasRanges same now))
+      (taken_timed handle octets one (refusal_at handle room octets facts (link_worded setup facts facts.turn.doing one)) (sends_under handle later.turn.doing)
+      (refusal_is handle room octets facts (link_worded setup facts facts.turn.doing one)) was on (subst HasRanges same now))
 
 -- ---- at any time
 
@@ -400,7 +421,7 @@ timed_kept taken setup = let stations = station_kept taken setup in let ranges =
   feeds = λ begun octet facts is. record {
     station = stations.feeds begun octet facts is.station;
     ranged = ranges.feeds begun octet facts is.ranged;
-    each = λ handle link at. heard_timed begun facts octet handle link (host_under setup facts octet handle link at) (is.each handle);
+    each = λ handle link at. heard_timed begun setup facts octet handle link (host_under setup facts octet handle link at) (is.each handle);
   };
   begins = λ begun on facts is. let ranged = ranges.begins begun on facts is.ranged in record {
     station = stations.begins begun on facts is.station;

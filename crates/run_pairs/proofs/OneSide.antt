@@ -1,13 +1,13 @@
 -- What a controller alone knows of its open links, at any time: with what each was set up, that a link that is opened
 -- in a turn is new in all of that turn, and in which slot each sent last.
 use Rattle.std.proofs.Common.{◌≡◌, ℕ, ◌+◌, ◌<◌, ◌≤◌, Bool, true, false, Option, Some, None, List, [], ◌∷◌, ◌++◌, length, length-append, refl, sym, ap, subst, ◌∙◌, arith}
-use Rattle.std.specs.Prelude.{⊤, fold, nat_lt, ◌&&◌, if◌then◌else◌}
+use Rattle.std.specs.Prelude.{IfSome, ⊤, fold, nat_lt, ◌&&◌, if◌then◌else◌}
 use Rattle.std.proofs.lemmas.List.Sums.{fold-append}
 use Rattle.adv_pdu.specs.declared.pdu.AdvPdu.{AdvPdu}
 use Rattle.adv_pdu.specs.Ranges.{IsInRange}
 use Rattle.link_runs.specs.procedure_values.Values.{IsPayloadMax}
 use Rattle.link_calls.specs.link_model.Setup.{Setup as EndSetup}
-use Rattle.link_calls.specs.link_model.Step.{Step as EndStep, DataGiven, DataReported, Disconnected, EventEntered, PacketReceived, PacketSent, PduFixed, ProcedureAsked, RequestAnswered}
+use Rattle.link_calls.specs.link_model.Step.{Step as EndStep, DataGiven, DataReported, Disconnected, EventEntered, KeyAnswered, PacketReceived, PacketSent, PduFixed, ProcedureAsked, RequestAnswered}
 use Rattle.link_calls.specs.open_links.Data.{complete_in}
 use Rattle.link_calls.specs.open_links.OpenLinks.{OpenLink, facts_in, link_after, link_at}
 use Rattle.link_calls.specs.open_links.Turns.{enters_in, entered_if, link_entered}
@@ -16,14 +16,14 @@ use Rattle.scan_init.specs.Reports.{does_ask, scan_answer}
 use Rattle.link_calls.specs.controller_model.declared.doing.Doing.{Doing}
 use Rattle.link_calls.specs.controller_model.declared.doing.Doing.TheVariants.{Advertises, CentralListens, Connects, PeripheralListens}
 use Rattle.link_calls.specs.controller_model.Facts.{Setup, Facts, first_facts}
-use Rattle.link_calls.specs.controller_model.Heard.{asks_if, has_room, link_taken, replies_in, reply_if}
+use Rattle.link_calls.specs.controller_model.Heard.{asks_if, facts_with_words, has_room, link_taken, replies_in, reply_if}
 use Rattle.link_calls.specs.controller_model.Outcome.{facts_passed}
 use Rattle.link_calls.specs.controller_model.Side.{facts_after}
 use Rattle.link_calls.specs.controller_model.Step.{TurnBegins}
 use Rattle.link_calls.proofs.controller_model.Always.{MayBegin, opening_passes}
 use Rattle.link_calls.proofs.controller_model.LinkFields.{range_of_test}
 use Rattle.link_calls.proofs.controller_model.Phases.{EachOutcome, heard_is, unheard_is}
-use Rattle.link_calls.specs.Phases.{HasPassed, IsNew, Stays, Takes, link_receiving, refused_if, refuses_at}
+use Rattle.link_calls.specs.Phases.{HasPassed, IsNew, Stays, Takes, base_receiving, link_receiving, link_worded, refusal_at, refused_if}
 use Rattle.link_calls.specs.run_model.Run.{step_of}
 use Rattle.link_calls.proofs.run_model.LinkEnds.{AreTaken}
 use Rattle.link_calls.specs.Hosts.{HasHeardHost, GetsData, IsAsked, Unchanged}
@@ -39,6 +39,7 @@ use Rattle.link_calls.proofs.HostSteps.{asked_is_well}
 use Rattle.link_calls.proofs.UnderHandles.{ended_under, host_under}
 use Rattle.link_calls.specs.Turns.{fixed_if, sent_if}
 use Rattle.link_calls.specs.Uses.{fixes_under, is_on_link, listens_under, sends_under}
+use Rattle.link_calls.proofs.AtOnce.{IsRefusal, refusal_is}
 use Rattle.run_pairs.proofs.LinkSteps.{base_under}
 
 -- ---- in which slot an end sent last
@@ -78,17 +79,18 @@ last_later slot later past more is = λ sent front same. let before = is sent fr
 asked_unsent : (step : EndStep) → IsAskedStep step → is_sent step ≡ false
 asked_unsent (ProcedureAsked ask) by_host = refl
 asked_unsent (RequestAnswered answer) by_host = refl
+asked_unsent (KeyAnswered key slot) by_host = refl
 asked_unsent (Disconnected reason slot) by_host = refl
 asked_unsent (DataGiven start body) by_host = absurd by_host
 asked_unsent other by_host = absurd by_host
 
-heard_last : (slot : ℕ) (facts : Facts) (octet handle : ℕ) (after : OpenLink) → HasHeardHost facts octet handle after
+heard_last : (slot : ℕ) (setup : Setup) (facts : Facts) (octet handle : ℕ) (after : OpenLink) → HasHeardHost setup facts octet handle after
     → ((link : OpenLink) → link_at handle facts.links ≡ Some link → LastBefore slot link.past) → LastBefore slot after.past
-heard_last slot facts octet handle after (Unchanged was) last = last after was
-heard_last slot facts octet handle after (GetsData link start body was is) last =
+heard_last slot setup facts octet handle after (Unchanged was) last = last after was
+heard_last slot setup facts octet handle after (GetsData link start body was is) last =
     subst (λ (l : OpenLink). LastBefore slot l.past) (sym is) (last_other slot link.past (DataGiven start body) refl)
-heard_last slot facts octet handle after (IsAsked link command step was accepted asks is) last =
-    let well = asked_is_well facts octet handle command link.setup.link.role (facts_in link).peer step accepted asks in
+heard_last slot setup facts octet handle after (IsAsked link command step was accepted asks is) last =
+    let well = asked_is_well setup facts octet handle command link.setup.link.role (facts_in link).peer step accepted asks in
     subst (λ (l : OpenLink). LastBefore slot l.past) (sym is) (last_other slot link.past step (asked_unsent step well.by_host))
 
 entered_last : (enters : Bool) (slot now : ℕ) (link : OpenLink) → LastBefore slot link.past → LastBefore slot (entered_if enters now link).past
@@ -111,14 +113,19 @@ begun_last slot facts on handle doing after has is =
     (fixed_last (fixes_under handle doing) slot has.entered
     (subst (LastBefore slot) (sym has.past_is) (entered_last (enters_in slot has.link) slot slot has.link is)))
 
--- as it receives, and may refuse a request
-pub received_last : (handle : ℕ) (room : Bool) (octets : List ℕ) (facts : Facts) (link : OpenLink) (slot : ℕ)
-    → LastBefore slot (link_receiving handle room octets facts link).past
-received_last handle room octets facts link slot = by (refuses_at handle room octets facts)
+refusal_unsent : (step : EndStep) → IsRefusal step → is_sent step ≡ false
+refusal_unsent (RequestAnswered answer) is = refl
+refusal_unsent (KeyAnswered key slot) is = refl
+refusal_unsent other is = absurd is
+
+-- as it receives, and may answer a request at once
+pub received_last : (handle : ℕ) (room : Bool) (octets : List ℕ) (facts : Facts) (base : OpenLink) (slot : ℕ)
+    → LastBefore slot (base_receiving handle room octets facts base).past
+received_last handle room octets facts base slot = by (refusal_at handle room octets facts base) (refusal_is handle room octets facts base)
   where
-    by : (refuses : Bool) → LastBefore slot (refused_if refuses (link_after (PacketReceived facts.turn.slot octets room) link)).past
-    by true = last_other slot _ _ refl
-    by false = last_other slot link.past (PacketReceived facts.turn.slot octets room) refl
+    by : (answer : Option EndStep) → IfSome answer IsRefusal → LastBefore slot (refused_if answer (link_after (PacketReceived facts.turn.slot octets room) base)).past
+    by (Some step) is = last_other slot (link_after (PacketReceived facts.turn.slot octets room) base).past step (refusal_unsent step is)
+    by None is = last_other slot base.past (PacketReceived facts.turn.slot octets room) refl
 
 -- ---- what each link was set up with
 
@@ -146,8 +153,9 @@ set_up_asked step link well is = set_up_as link (link_after step link) refl is
 set_up_open : IsKeptOpen IsSetUp
 set_up_open = record {
   serving = set_up_served;
+  worded = λ skd_s iv_s link is. set_up_as link _ refl is;
   received = λ now octets room link is. set_up_as link _ refl is;
-  answered = λ answer link is. set_up_as link _ refl is;
+  answered = set_up_asked;
 }
 
 -- a link that is to be made
@@ -190,7 +198,9 @@ passes_most setup facts = record {
 
 phase_most : (setup : Setup) (facts : Facts) (received : Option (List ℕ)) → MakesMost (facts_after setup facts (step_of received)).turn.doing
 phase_most setup facts None = unheard_is setup facts _ (passes_most setup facts) facts.turn.doing refl
-phase_most setup facts (Some octets) = heard_is setup facts _ (passes_most setup facts) facts.turn.doing octets refl
+phase_most setup facts (Some octets) =
+    heard_is setup facts (λ outcome. MakesMost (facts_passed outcome).turn.doing) (passes_most setup facts) facts.turn.doing octets refl
+    (λ handle. (passes_most setup (facts_with_words setup handle facts)).received handle octets)
 
 may_set_up : AreTaken → (setup : Setup) (facts : Facts) → MakesWell setup facts.connections facts.turn.doing → MakesMost facts.turn.doing → MayOpen IsSetUp set_up_open facts
 may_set_up taken setup facts makes most = record {
@@ -216,10 +226,10 @@ begun_setup slot facts on handle doing after has =
     ap (λ (l : OpenLink). l.setup) has.is ∙ sent_setup (sends_under handle doing) slot has.base ∙ ap (λ (l : OpenLink). l.setup) (base_under facts slot on handle doing after has)
     ∙ fixed_setup (fixes_under handle doing) has.entered ∙ has.setup_is
 
-pub taken_setup : (sends : Bool) (handle : ℕ) (room : Bool) (octets : List ℕ) (facts : Facts) (link : OpenLink)
-    → (sent_if sends facts.turn.slot (link_receiving handle room octets facts link)).setup ≡ link.setup
-taken_setup sends handle room octets facts link =
-    sent_setup sends facts.turn.slot (link_receiving handle room octets facts link) ∙ receiving_setup handle room octets facts link
+pub taken_setup : (sends : Bool) (setup : Setup) (handle : ℕ) (room : Bool) (octets : List ℕ) (facts : Facts) (link : OpenLink)
+    → (sent_if sends facts.turn.slot (link_receiving setup handle room octets facts link)).setup ≡ link.setup
+taken_setup sends setup handle room octets facts link =
+    sent_setup sends facts.turn.slot (link_receiving setup handle room octets facts link) ∙ receiving_setup setup handle room octets facts link
 
 -- ---- a link that was opened in the turn
 
@@ -252,24 +262,24 @@ module _ (setup : Setup) (facts : Facts) (received : Option (List ℕ)) (phases 
   opened_now : (link : OpenLink) → link.setup.opened ≡ next.turn.slot → link.setup.opened ≡ facts.turn.slot
   opened_now link now = now ∙ (phase_turn setup facts received).slot
 
-  passed_new : (handle : ℕ) (link : OpenLink) → HasPassed facts (has_room setup facts) received handle next.turn.doing link → link.setup.opened ≡ next.turn.slot → link.past ≡ []
+  passed_new : (handle : ℕ) (link : OpenLink) → HasPassed setup facts (has_room setup facts) received handle next.turn.doing link → link.setup.opened ≡ next.turn.slot → link.past ≡ []
   passed_new handle link (IsNew end made opened off) now = ap (λ (l : OpenLink). l.past) made
   passed_new handle link (Stays was none nothing listened) now = is.new handle link was (opened_now link now)
   passed_new handle link (Takes base octets was got on same) now =
       let before = open_has (OpenedBefore facts.turn.slot) 0 handle facts.links base (is.station.old (listens_on_link handle facts.turn.doing on)) was in
-      let setups = ap (λ (l : OpenLink). l.setup) same ∙ taken_setup (sends_under handle next.turn.doing) handle (has_room setup facts) octets facts base in
+      let setups = ap (λ (l : OpenLink). l.setup) same ∙ taken_setup (sends_under handle next.turn.doing) setup handle (has_room setup facts) octets facts base in
       let slot = sym (ap (λ (s : EndSetup). s.opened) setups) ∙ opened_now link now in
       absurd (omega (arith, before, slot))
 
-  passed_last : (handle : ℕ) (link : OpenLink) → HasPassed facts (has_room setup facts) received handle next.turn.doing link → LastBefore begun link.past
+  passed_last : (handle : ℕ) (link : OpenLink) → HasPassed setup facts (has_room setup facts) received handle next.turn.doing link → LastBefore begun link.past
   passed_last handle link (IsNew end made opened off) =
       subst (λ (l : OpenLink). LastBefore begun l.past) (sym made) (λ sent front same. absurd (let long = ap length same in omega (arith, long, length-append front (PacketSent sent ∷ []))))
   passed_last handle link (Stays was none nothing listened) = is.last handle link was
   passed_last handle link (Takes base octets was got on same) =
       let slot = is.holds.phased.uses.in_turn.slot_is in
       subst (λ (l : OpenLink). LastBefore begun l.past) (sym same)
-      (sent_last (sends_under handle next.turn.doing) begun facts.turn.slot (link_receiving handle (has_room setup facts) octets facts base) (omega (arith, slot))
-      (received_last handle (has_room setup facts) octets facts base begun))
+      (sent_last (sends_under handle next.turn.doing) begun facts.turn.slot (link_receiving setup handle (has_room setup facts) octets facts base) (omega (arith, slot))
+      (received_last handle (has_room setup facts) octets facts (link_worded setup facts facts.turn.doing base) begun))
 
 pub station_kept : AreTaken → (setup : Setup) → IsTurned setup (StationAt setup)
 station_kept taken setup = let kept = exchanging_kept setup in record {
@@ -281,7 +291,7 @@ station_kept taken setup = let kept = exchanging_kept setup in record {
         makes = subst MakesMost (sym holds.phased.uses.in_turn.does) tt;
         new = tt;
         last = λ handle link at.
-            heard_last begun facts octet handle link (host_under setup facts octet handle link at) (is.last handle);
+            heard_last begun setup facts octet handle link (host_under setup facts octet handle link at) (is.last handle);
       };
   begins = λ begun on facts is. record {
     holds = kept.begins begun on facts is.holds;

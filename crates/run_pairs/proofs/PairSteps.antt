@@ -7,12 +7,14 @@ use Rattle.link_calls.specs.link_model.Facts.{Facts as EndFacts}
 use Rattle.link_calls.specs.link_model.Packets.{verdict_of}
 use Rattle.link_calls.specs.link_model.Receiving.{replies_of}
 use Rattle.link_calls.specs.link_model.Setup.{Setup as EndSetup}
-use Rattle.link_calls.specs.link_model.Step.{Step as EndStep, DataReported, PacketSent, RequestAnswered}
+use Rattle.link_calls.specs.link_model.Step.{Step as EndStep, DataReported, PacketSent, RequestAnswered, WordsGiven}
 use Rattle.link_calls.specs.link_model.Times.{due_of, ending_of}
 use Rattle.link_calls.proofs.link_model.Hearing.{IsHeardWhole}
 use Rattle.link_calls.specs.open_links.OpenLinks.{OpenLink, facts_in}
+use Rattle.link_calls.proofs.run_laws.Agreed.{step_facts}
 use Rattle.link_calls.specs.controller_model.declared.doing.Doing.{Doing}
-use Rattle.link_calls.proofs.controller_model.Places.{refusal}
+use Rattle.link_calls.specs.controller_model.Facts.{Facts, Setup}
+use Rattle.link_calls.specs.Phases.{link_worded, refusal}
 use Rattle.link_runs.specs.link_pairs.Ends.{AreEnds}
 use Rattle.link_runs.specs.link_pairs.Hosts.{MayHost}
 use Rattle.link_runs.specs.link_pairs.Hearing.{IsPacketOf, answered, received}
@@ -23,10 +25,13 @@ use Rattle.link_runs.specs.Runs.{MayHostAll}
 use Rattle.link_runs.specs.Turn.{facts_hosted}
 use Rattle.run_pairs.specs.Stages.{AreAnsweredEnds, AreBegunEnds, AreHeardEnds}
 use Rattle.link_calls.proofs.run_laws.TurnPlaces.{Between, Stage, Within}
-use Rattle.run_pairs.proofs.EndCalls.{IsEndBegun, IsUnheard, good_or_unheard, refused_facts, unforged}
-use Rattle.run_pairs.proofs.OneSide.{LastBefore}
+use Rattle.run_pairs.proofs.AtOnce.{may_refuse}
+use Rattle.run_pairs.proofs.EndCalls.{IsEndBegun, IsUnheard, good_or_unheard, refused_facts}
+use Rattle.run_pairs.proofs.Unencrypted.{unforged}
+use Rattle.run_pairs.proofs.Worded.{fitting_words, worded_channel}
+use Rattle.run_pairs.proofs.OneSide.{LastBefore, last_other}
 use Rattle.run_pairs.proofs.Refusing.{received_stays, refused_first}
-use Rattle.run_pairs.proofs.Stages.{answer_quiet, answered_more, answered_quiet, both_begin, central_heard, central_hosted_open, central_quiet, central_unheard, peripheral_heard, peripheral_hosted_open, peripheral_quiet, peripheral_unheard, reported_quiet}
+use Rattle.run_pairs.proofs.Stages.{answer_quiet, answered_more, answered_quiet, begun_worded, both_begin, central_heard, central_hosted_open, central_quiet, central_unheard, peripheral_heard, peripheral_hosted_open, peripheral_quiet, peripheral_unheard, reported_quiet}
 use Rattle.link_calls.specs.Uses.{listens_under}
 
 -- where the end sent last in this slot, this is so
@@ -44,6 +49,17 @@ pub record IsPacketNow (other : EndSetup) (slot : ℕ) (listener : EndFacts) (se
   pub channel : ℕ
   pub packet : IsPacketOf other slot (facts_in sender) channel octets
   pub same : channel ≡ listener.event.channel
+
+-- also once it was given words
+pub packet_worded : (other : EndSetup) (slot : ℕ) (setup : Setup) (facts : Facts) (doing : Doing) (listener sender : OpenLink) (octets : List ℕ)
+    → IsPacketNow other slot (facts_in listener) sender octets → IsPacketNow other slot (facts_in (link_worded setup facts doing listener)) sender octets
+packet_worded other slot setup facts doing listener sender octets is = record {
+  front = is.front;
+  last = is.last;
+  channel = is.channel;
+  packet = is.packet;
+  same = is.same ∙ sym (worded_channel setup facts doing listener);
+}
 
 module _ (c_end p_end : EndSetup) (peripheral_handle : ℕ) where
   -- ---- the central has begun the turn in this slot, and the peripheral has not
@@ -120,10 +136,6 @@ module _ (c_end p_end : EndSetup) (peripheral_handle : ℕ) where
   AtPlace (Within phases) Between turns others doing c p = CentralWithin phases turns others c p
   AtPlace (Within phases) (Within other) turns others doing c p = (turns ≡ others) × NewOr turns (λ slot. InTurn other phases slot doing c p)
 
--- a request may be refused
-may_refuse : (facts : EndFacts) → MayHost (RequestAnswered refusal) facts
-may_refuse facts = omega arith
-
 module _ (whole : IsHeardWhole) (c_end p_end : EndSetup) (ends : AreEnds c_end p_end) (p_handle : ℕ) where
   -- ---- hosts
 
@@ -131,13 +143,13 @@ module _ (whole : IsHeardWhole) (c_end p_end : EndSetup) (ends : AreEnds c_end p
       → AreOpenEnds c_end p_end turns (facts_hosted c_end steps c) p
   central_hosted_all turns [] c p may both = both
   central_hosted_all turns (step ∷ steps) c p may both =
-      central_hosted_all turns steps (end_after c_end c step) p may.1 (central_hosted_open c_end p_end turns c p step may.0 both)
+      central_hosted_all turns steps (end_after c_end c step) p may.1 (central_hosted_open c_end p_end ends turns c p step may.0 both)
 
   pub peripheral_hosted_all : (turns : ℕ) (steps : List EndStep) (c p : EndFacts) → MayHostAll p_end steps p → AreOpenEnds c_end p_end turns c p
       → AreOpenEnds c_end p_end turns c (facts_hosted p_end steps p)
   peripheral_hosted_all turns [] c p may both = both
   peripheral_hosted_all turns (step ∷ steps) c p may both =
-      peripheral_hosted_all turns steps c (end_after p_end p step) may.1 (peripheral_hosted_open c_end p_end turns c p step may.0 both)
+      peripheral_hosted_all turns steps c (end_after p_end p step) may.1 (peripheral_hosted_open c_end p_end ends turns c p step may.0 both)
 
   -- ---- a turn begins
 
@@ -232,6 +244,23 @@ module _ (whole : IsHeardWhole) (c_end p_end : EndSetup) (ends : AreEnds c_end p
           subst (λ (f : EndFacts). AreAnsweredEnds c_end p_end slot (replies_of p_end p slot octets room) c f)
           (sym (refused_first slot refusal (received p_end slot octets room p) stays))
           (answered_more whole c_end p_end ends slot (replies_of p_end p slot octets room) _ c _ sent)
+
+  -- it is given words, and then hears
+  pub both_worded : (setup : Setup) (facts : Facts) (given : Doing) (slot : ℕ) (doing : Doing) (c p : OpenLink) → p.setup ≡ p_end
+      → AreBothBegun c_end p_end p_handle slot doing c p → AreBothBegun c_end p_end p_handle slot doing c (link_worded setup facts given p)
+  both_worded setup facts given slot doing c p setup_is both =
+      fitting_words (AreBothBegun c_end p_end p_handle slot doing c) setup facts given p both
+      (λ skd_s iv_s fits.
+      let step = WordsGiven skd_s iv_s in record {
+        transmits = both.transmits;
+        listens = both.listens;
+        begun = subst (λ (f : EndFacts). AreBegunEnds c_end p_end slot both.transmits both.listens (facts_in c) f) (sym (step_facts p step))
+            (subst (λ (s : EndSetup). AreBegunEnds c_end p_end slot both.transmits both.listens (facts_in c) (end_after s (facts_in p) step)) (sym setup_is)
+            (begun_worded whole c_end p_end ends slot both.transmits both.listens (facts_in c) (facts_in p) skd_s iv_s fits both.begun));
+        sends = both.sends;
+        hears = both.hears;
+        unsent = unsent_if false slot (p.past ++ step ∷ []) (λ off. last_other slot p.past step refl);
+      })
 
   pub peripheral_takes : (slot : ℕ) (octets : List ℕ) (room refuses replies : Bool) (doing : Doing) (c before p : OpenLink) → AreBothBegun c_end p_end p_handle slot doing c before
       → listens_under p_handle doing ≡ true → replies ≡ replies_of p_end (facts_in before) slot octets room

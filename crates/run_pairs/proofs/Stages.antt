@@ -3,6 +3,8 @@ use Rattle.std.proofs.Common.{◌≡◌, ◌&&◌, ◌⊎◌, Result, inl, inr, 
 use Rattle.ble_base.specs.declared.error_codes.ErrCode.{ErrCode}
 use Rattle.ble_base.specs.ErrorCodes.{terminated_by_local_host}
 use Rattle.ble_base.specs.declared.verdicts.Verdict.TheVariants.{Good}
+use Rattle.data_pdu.specs.Layouts.{IsCtrl}
+use Rattle.data_pdu.specs.declared.ctrl.Ctrl.TheVariants.{EncRsp}
 use Rattle.link_runs.specs.procedure_values.declared.asks.Ask.{Ask}
 use Rattle.link_runs.specs.procedure_stages.InProgress.{is_host_asked}
 use Rattle.link_runs.specs.procedures.Going.{host_answer_step, is_answer}
@@ -15,41 +17,41 @@ use Rattle.link_calls.specs.link_model.End.{facts_after}
 use Rattle.link_calls.specs.link_model.Facts.{Facts, first_facts}
 use Rattle.link_calls.specs.link_model.OneLink.{AreInAgreement}
 use Rattle.link_calls.specs.link_model.Receiving.{replies_of}
+use Rattle.link_calls.specs.link_model.Hosts.{facts_with_words}
 use Rattle.link_calls.specs.link_model.Setup.{Setup}
-use Rattle.link_calls.specs.link_model.Step.{Step, DataReported, RequestAnswered}
+use Rattle.link_calls.specs.link_model.Step.{Step, DataReported, RequestAnswered, WordsGiven}
 use Rattle.link_calls.specs.link_model.Packets.{verdict_of}
-use Rattle.link_calls.specs.link_model.declared.state.Leaving.{Leaving}
 use Rattle.link_calls.specs.link_model.Times.{due_of, ended_by_procedures, ending_of}
 use Rattle.link_calls.proofs.link_model.Hearing.{IsHeardWhole}
 use Rattle.link_runs.specs.link_pairs.Ends.{AreEnds, IsAtRest, is_lasting, turns_at}
 use Rattle.link_runs.specs.link_pairs.Hearing.{IsPacketOf, answered, received}
 use Rattle.link_runs.specs.link_pairs.Hosts.{MayHost}
-use Rattle.link_runs.specs.link_pairs.Parting.{ArePartingFrom, HasSeenTerminate}
-use Rattle.link_runs.specs.link_pairs.Shown.{AreLinked, Shows, link_of}
+use Rattle.link_runs.specs.link_pairs.Parting.{ArePartingFrom, HasSeenTerminate, HearsTheEnd}
+use Rattle.link_runs.specs.link_pairs.Shown.{AreLinked, HaveKeys, Shows, keys_of, link_of}
 use Rattle.link_runs.specs.link_pairs.Sound.{EndsForInstant}
-use Rattle.link_runs.specs.link_pairs.Turns.{MayExchange, central_begun, prepared, sent_if}
+use Rattle.link_runs.specs.link_pairs.Turns.{AreReady, HasFixed, MayExchange, central_begun, prepared, sent_if}
 use Rattle.link_runs.proofs.link_pairs.CentralHears.{hears}
 use Rattle.link_runs.proofs.link_pairs.Counts.{turned}
 use Rattle.link_runs.proofs.link_pairs.Ending.{answered_ends, central_lasts as central_goes, peripheral_lasts as peripheral_goes}
 use Rattle.link_runs.proofs.link_pairs.EndingNothing.{begun_ends_nothing, host_ends_nothing, prepared_ends_nothing}
 use Rattle.link_runs.proofs.link_pairs.First.{first_linked}
+use Rattle.link_runs.proofs.link_pairs.HeardCounts.{hearing_agreed}
 use Rattle.link_runs.proofs.link_pairs.Hosting.{central_hosts, peripheral_hosts}
-use Rattle.link_runs.proofs.link_pairs.NothingNew.{host_still, prepared_still, sender_still, taker_still}
+use Rattle.link_runs.proofs.link_pairs.NothingNew.{event_still, host_still, prepared_still, sender_still, taker_still}
 use Rattle.link_runs.proofs.link_pairs.PartingBegins.{central_took, peripheral_took}
 use Rattle.link_runs.proofs.link_pairs.PartingEndings.{taker_ends}
-use Rattle.link_runs.proofs.link_pairs.PeripheralHears.{hears_linked}
-use Rattle.link_runs.proofs.link_pairs.Reading.{AreHeard, are_heard, is_read}
+use Rattle.link_runs.proofs.link_pairs.PeripheralHeard.{hears_linked}
 use Rattle.link_runs.proofs.link_pairs.SenderHears.{has_seen, hears_the_end}
+use Rattle.link_runs.proofs.link_pairs.PlainEnds.{plain_step}
 use Rattle.link_runs.proofs.link_pairs.Sounding.{are_sound}
 use Rattle.link_runs.proofs.link_pairs.TakerSends.{begun_parting}
 use Rattle.link_runs.proofs.link_pairs.Turning.{begun_hears, prepared_hears, turn_begun}
-use Rattle.link_runs.proofs.link_pairs.Understanding.{good_at_central, good_at_peripheral}
 use Rattle.link_runs.specs.Open.{AreOpenEnds, GoesOnUnlessLate}
+use Rattle.link_runs.proofs.AsSent.{IsAsSent, as_sent_down, as_sent_parting, as_sent_up, ends_as_sent, ends_late_or_none, good_down, good_up}
 use Rattle.link_runs.proofs.EventsKept.{answered_in_event, ended_no_reply}
 use Rattle.link_runs.proofs.GoingOn.{lasting_by, lasting_goes, open_goes_on, shut_by, still_lasts}
 use Rattle.link_runs.proofs.OneTurn.{unanswered}
 use Rattle.link_runs.proofs.Supervision.{heard_in_time}
-use Rattle.run_pairs.proofs.HeardCounts.{hearing_agreed}
 use Rattle.run_pairs.specs.Stages.{AreAnsweredEnds, AreBegunEnds, AreHeardEnds, CentralTook, IsAnsweredLink, IsBegunLink, IsLate, IsOver, Lasts, PeripheralTook}
 
 -- where the link lasts at both ends, their counts agree
@@ -62,16 +64,17 @@ linked_agree central peripheral ends turns answers c p linked c_lasts p_lasts = 
 pub record IsQuiet (before now : Facts) : Type 0 where
   pub ends : now.control.ends ≡ before.control.ends
   pub ending : ending_of now ≡ ending_of before
-  pub leaving : now.leaving ≡ before.leaving
+  pub acknowledged : now.leaving.acknowledged ≡ before.leaving.acknowledged
+  pub by_peer : now.leaving.ended_by_peer ≡ before.leaving.ended_by_peer
   pub counts : now.acknowledgement ≡ before.acknowledgement
   pub sent : now.control.sent ≡ before.control.sent
   pub entered : now.control.track.entered ≡ before.control.track.entered
 
 pub reported_quiet : (setup : Setup) (facts : Facts) → IsQuiet facts (facts_after setup facts DataReported)
-reported_quiet setup facts = record { ends = refl; ending = refl; leaving = refl; counts = refl; sent = refl; entered = refl }
+reported_quiet setup facts = record { ends = refl; ending = refl; acknowledged = refl; by_peer = refl; counts = refl; sent = refl; entered = refl }
 
 same_quiet : (facts : Facts) → IsQuiet facts facts
-same_quiet facts = record { ends = refl; ending = refl; leaving = refl; counts = refl; sent = refl; entered = refl }
+same_quiet facts = record { ends = refl; ending = refl; acknowledged = refl; by_peer = refl; counts = refl; sent = refl; entered = refl }
 
 record IsOtherTable (c now : Control) : Type 0 where
   ends : now.ends ≡ c.ends
@@ -89,7 +92,8 @@ answer_quiet setup facts answer =
     let same = other_table (is_none c.ends) (is_host_asked c.table.progress && is_answer answer) (host_answer_step c.table answer) c in record {
       ends = same.ends;
       ending = ap (λ (o : Option ErrCode). if facts.leaving.acknowledged then Some (record { 0 = terminated_by_local_host }) else ended_by_procedures o facts.leaving) same.ends;
-      leaving = refl;
+      acknowledged = refl;
+      by_peer = refl;
       counts = refl;
       sent = same.sent;
       entered = same.entered;
@@ -97,23 +101,23 @@ answer_quiet setup facts answer =
 
 -- ---- a host does something between two turns
 
-pub central_hosted_open : (central peripheral : Setup) (turns : ℕ) (c p : Facts) (step : Step) → MayHost step c → AreOpenEnds central peripheral turns c p
+pub central_hosted_open : (central peripheral : Setup) → AreEnds central peripheral → (turns : ℕ) (c p : Facts) (step : Step) → MayHost step c → AreOpenEnds central peripheral turns c p
     → AreOpenEnds central peripheral turns (facts_after central c step) p
-central_hosted_open central peripheral turns c p step may (inl link) = inl (record {
+central_hosted_open central peripheral ends turns c p step may (inl link) = inl (record {
   central_lasts = still_lasts c _ (host_ends_nothing central c step may) link.central_lasts;
   peripheral_lasts = link.peripheral_lasts;
-  linked = central_hosts central peripheral turns false c p link.linked step may;
+  linked = central_hosts central peripheral ends turns false c p link.linked step may;
 })
-central_hosted_open central peripheral turns c p step may (inr parting) = inr (taker_still central peripheral c p parting _ (host_still central c step may))
+central_hosted_open central peripheral ends turns c p step may (inr parting) = inr (taker_still central peripheral c p parting _ (host_still central c step may))
 
-pub peripheral_hosted_open : (central peripheral : Setup) (turns : ℕ) (c p : Facts) (step : Step) → MayHost step p → AreOpenEnds central peripheral turns c p
+pub peripheral_hosted_open : (central peripheral : Setup) → AreEnds central peripheral → (turns : ℕ) (c p : Facts) (step : Step) → MayHost step p → AreOpenEnds central peripheral turns c p
     → AreOpenEnds central peripheral turns c (facts_after peripheral p step)
-peripheral_hosted_open central peripheral turns c p step may (inl link) = inl (record {
+peripheral_hosted_open central peripheral ends turns c p step may (inl link) = inl (record {
   central_lasts = link.central_lasts;
   peripheral_lasts = still_lasts p _ (host_ends_nothing peripheral p step may) link.peripheral_lasts;
-  linked = peripheral_hosts central peripheral turns false c p link.linked step may;
+  linked = peripheral_hosts central peripheral ends turns false c p link.linked step may;
 })
-peripheral_hosted_open central peripheral turns c p step may (inr parting) = inr (sender_still central peripheral c p parting _ (host_still peripheral p step may))
+peripheral_hosted_open central peripheral ends turns c p step may (inr parting) = inr (sender_still central peripheral c p parting _ (host_still peripheral p step may))
 
 -- ---- MD of an event is read in no joint run
 
@@ -127,6 +131,11 @@ linked_more central peripheral turns answers more c p linked = record {
   may = linked.may;
   in_range = linked.in_range;
   shows = λ running. shows (linked.shows running);
+  keys = λ running. over_keys (linked.keys running);
+  plain = (
+    linked.plain.0,
+    record { plain = record { encryption = linked.plain.1.plain.encryption; control = linked.plain.1.plain.control }; payload = linked.plain.1.payload },
+  );
   lasts = linked.lasts;
 }
   where
@@ -134,18 +143,22 @@ linked_more central peripheral turns answers more c p linked = record {
     rests r = record {
       fits = r.fits;
       holds = r.holds;
-      plain = record { encryption = r.plain.encryption; control = r.plain.control };
       role = r.role;
       none_gone = r.none_gone;
-      payload = r.payload;
       fits_any = r.fits_any;
       two_bits = r.two_bits;
       slot = r.slot;
       number = r.number;
       heard = r.heard;
       past = r.past;
-      goes = r.goes;
       stays = r.stays;
+    }
+
+    over_keys : HaveKeys (keys_of central peripheral linked.steps) c p → HaveKeys (keys_of central peripheral linked.steps) c (with_more more p)
+    over_keys has = record {
+      central_keys = has.central_keys;
+      peripheral_keys =
+          record { material = has.peripheral_keys.material; session = has.peripheral_keys.session; made = has.peripheral_keys.made };
     }
 
     shows : Shows central peripheral turns answers (link_of central peripheral linked.steps) c p
@@ -168,10 +181,78 @@ linked_more central peripheral turns answers more c p linked = record {
       peripheral_fits = s.peripheral_fits;
     }
 
-module _ (whole : IsHeardWhole) (central peripheral : Setup) (ends : AreEnds central peripheral) (slot : ℕ) where
-  heard : AreHeard
-  heard = are_heard whole
+-- ---- a peripheral is given words, as a turn has begun
 
+module _ (central peripheral : Setup) (turns : ℕ) (answers : Bool) (c p : Facts) (linked : AreLinked central peripheral turns answers c p) (skd_s iv_s : ℕ)
+    (fits : IsCtrl (EncRsp skd_s iv_s)) where
+  rests_worded : IsAtRest peripheral turns p → IsAtRest peripheral turns (facts_with_words skd_s iv_s p)
+  rests_worded r = record {
+    fits = r.fits;
+    holds = record { request = r.holds.request; kept = r.holds.kept; response = fits };
+    role = r.role;
+    none_gone = r.none_gone;
+    fits_any = r.fits_any;
+    two_bits = r.two_bits;
+    slot = r.slot;
+    number = r.number;
+    heard = r.heard;
+    past = r.past;
+    stays = r.stays;
+  }
+
+  shows_worded : Shows central peripheral turns answers (link_of central peripheral linked.steps) c p
+      → Shows central peripheral turns answers (link_of central peripheral linked.steps) c (facts_with_words skd_s iv_s p)
+  shows_worded s = record {
+    central_part = s.central_part;
+    peripheral_part = s.peripheral_part;
+    down = s.down;
+    up = s.up;
+    agreement = s.agreement;
+    begun = s.begun;
+    replies = s.replies;
+    last = s.last;
+    central_heard = s.central_heard;
+    peripheral_heard = s.peripheral_heard;
+    free = s.free;
+    central_rests = s.central_rests;
+    peripheral_rests = rests_worded s.peripheral_rests;
+    central_fits = s.central_fits;
+    peripheral_fits = s.peripheral_fits;
+  }
+
+  keys_worded : HaveKeys (keys_of central peripheral linked.steps) c p → HaveKeys (keys_of central peripheral linked.steps) c (facts_with_words skd_s iv_s p)
+  keys_worded has = record {
+    central_keys = has.central_keys;
+    peripheral_keys =
+        record { material = has.peripheral_keys.material; session = has.peripheral_keys.session; made = has.peripheral_keys.made };
+  }
+
+ready_worded : (central peripheral : Setup) (slot : ℕ) (listens : Bool) (c p : Facts) (skd_s iv_s : ℕ) → AreReady central peripheral slot listens c p
+    → AreReady central peripheral slot listens c (facts_with_words skd_s iv_s p)
+ready_worded central peripheral slot listens c p skd_s iv_s is = record {
+  central_heard = is.central_heard;
+  peripheral_heard = is.peripheral_heard;
+  fixed = λ on. fixed_worded (is.fixed on);
+}
+  where
+    fixed_worded : HasFixed p → HasFixed (facts_with_words skd_s iv_s p)
+    fixed_worded fixed = record { control = fixed.control; data_first = fixed.data_first; short = fixed.short; two_bits = fixed.two_bits }
+
+-- ---- the end that sent LL_TERMINATE_IND hears the other: it sees that acknowledged
+
+module _ (whole : IsHeardWhole) (taker sender : Setup) (fields : taker.link.fields ≡ sender.link.fields) (most : sender.link.max_rx ≤ 251) (t s : Facts)
+    (parting : ArePartingFrom taker sender t s) (slot channel : ℕ) (octets : List ℕ) (packet : IsPacketOf taker slot t channel octets)
+    (same : channel ≡ s.event.channel) (room : Bool) where
+  so_sent : IsAsSent sender s slot octets t.acknowledgement
+  so_sent = as_sent_parting whole taker sender fields most t s parting slot channel octets packet same
+
+  pub hears_its_end : HearsTheEnd sender s slot octets room
+  hears_its_end = hears_the_end whole taker sender fields most t s parting slot channel octets packet same room so_sent.so.pure so_sent.so.genuine
+
+  pub has_seen_it : HasSeenTerminate t.acknowledgement (received sender slot octets room s)
+  has_seen_it = has_seen whole taker sender fields most t s parting slot channel octets packet same room so_sent.so.pure so_sent.so.genuine
+
+module _ (whole : IsHeardWhole) (central peripheral : Setup) (ends : AreEnds central peripheral) (slot : ℕ) where
   -- ---- both begin the turn
 
   abbrev MayIfLasting : Setup → Bool → Facts → Type 0
@@ -197,6 +278,36 @@ module _ (whole : IsHeardWhole) (central peripheral : Setup) (ends : AreEnds cen
       inr (sender_still central peripheral _ p (begun_parting central peripheral (omega (arith, least)) c p slot parting transmits) (prepared peripheral slot listens p)
       (prepared_still peripheral slot listens p))
 
+  -- ---- the peripheral is given words
+
+  pub begun_worded : (transmits listens : Bool) (c p : Facts) (skd_s iv_s : ℕ) → IsCtrl (EncRsp skd_s iv_s) → AreBegunEnds central peripheral slot transmits listens c p
+      → AreBegunEnds central peripheral slot transmits listens c (facts_after peripheral p (WordsGiven skd_s iv_s))
+  begun_worded transmits listens c p skd_s iv_s fits (inl link) =
+      let begun = link.begun in
+      let linked = begun.linked in
+      inl (record {
+        central_lasts = link.central_lasts;
+        peripheral_lasts = link.peripheral_lasts;
+        begun = record {
+          linked = record {
+            steps = linked.steps;
+            may = linked.may;
+            in_range = linked.in_range;
+            shows = λ running. shows_worded central peripheral (slot + 1) false c p linked skd_s iv_s fits (linked.shows running);
+            keys = λ running. keys_worded central peripheral (slot + 1) false c p linked skd_s iv_s fits (linked.keys running);
+            plain = (linked.plain.0, plain_step peripheral p (WordsGiven skd_s iv_s) linked.plain.1);
+            lasts = linked.lasts;
+          };
+          ready = λ running. ready_worded central peripheral slot listens c p skd_s iv_s (begun.ready running);
+          transmits_in = begun.transmits_in;
+          listens_in = begun.listens_in;
+        };
+        central_past = link.central_past;
+        supervised = link.supervised;
+      })
+  begun_worded transmits listens c p skd_s iv_s fits (inr parting) =
+      inr (sender_still central peripheral c p parting _ (host_still peripheral p (WordsGiven skd_s iv_s) fits))
+
   -- ---- the peripheral hears nothing
 
   pub peripheral_unheard : (transmits listens : Bool) (c p : Facts) → AreBegunEnds central peripheral slot transmits listens c p
@@ -220,13 +331,17 @@ module _ (whole : IsHeardWhole) (central peripheral : Setup) (ends : AreEnds cen
     now = answered peripheral slot octets room p
 
     module _ (link : IsBegunLink central peripheral slot true true c p) where
+      as_sent : IsAsSent peripheral p slot octets c.acknowledgement
+      as_sent =
+          as_sent_down whole central peripheral ends (slot + 1) slot false c p channel octets link.begun.linked link.central_lasts link.peripheral_lasts packet same
+
       linked_now : AreLinked central peripheral (slot + 1) replies c now
-      linked_now = hears_linked heard central peripheral slot c p channel octets room ends link.begun packet same link.supervised
+      linked_now = hears_linked whole central peripheral slot c p channel octets room ends link.begun packet same link.supervised as_sent.so.pure
 
       late_agrees : replies ≡ false → AreInAgreement c.acknowledgement now.acknowledgement
       late_agrees none =
           let s = link.begun.linked.shows (link.begun.linked.lasts link.central_lasts link.peripheral_lasts) in
-          let read = is_read heard central peripheral slot (slot + 1) c p channel octets ends.one_link.fields s.central_fits s.central_rests packet same s.peripheral_rests.plain in
+          let read = as_sent.read in
           let agreed = hearing_agreed peripheral.link.role slot room read.header p c.acknowledgement (turned c.acknowledgement p.acknowledgement s.agreement) read.bits read.out in
           let now_is = ap (λ (b : Bool). sent_if b peripheral slot (received peripheral slot octets room p)) none ∙ read.facts room in
           turned now.acknowledgement c.acknowledgement (subst (λ (f : Facts). AreInAgreement f.acknowledgement c.acknowledgement) (sym now_is) agreed)
@@ -242,7 +357,8 @@ module _ (whole : IsHeardWhole) (central peripheral : Setup) (ends : AreEnds cen
 
       by_terminate : (took : Bool) → is_some now.leaving.ended_by_peer ≡ took → now.control.ends ≡ None → AreAnsweredEnds central peripheral slot replies c now
       by_terminate true took goes =
-          PeripheralTook (peripheral_took whole central peripheral ends slot c p channel octets room link.begun link.central_lasts link.peripheral_lasts packet same took)
+          PeripheralTook (peripheral_took whole central peripheral ends slot c p channel octets room link.begun link.central_lasts link.peripheral_lasts packet same
+          as_sent.so.pure took)
       by_terminate false none goes = Lasts (record {
         central_lasts = link.central_lasts;
         peripheral_lasts = lasting_by now goes none;
@@ -257,14 +373,17 @@ module _ (whole : IsHeardWhole) (central peripheral : Setup) (ends : AreEnds cen
 
       link_heard : AreAnsweredEnds central peripheral slot replies c now
       link_heard =
-          by_late (peripheral_goes heard central peripheral slot c p channel octets room ends link.begun link.central_lasts link.peripheral_lasts packet same link.supervised)
+          by_late
+          (ends_late_or_none peripheral p slot octets c.acknowledgement as_sent now.control.ends _ _
+          (peripheral_goes whole central peripheral slot c p channel octets room ends link.begun link.central_lasts link.peripheral_lasts packet same link.supervised
+          as_sent.so.pure))
 
     parting_heard : ArePartingFrom central peripheral c p → AreAnsweredEnds central peripheral slot replies c now
     parting_heard parting =
         let fields = ends.one_link.fields in
         let most = ends.peripheral_max.to in
-        let over = hears_the_end whole central peripheral fields most c p parting slot channel octets packet same room in
-        let seen = has_seen whole central peripheral fields most c p parting slot channel octets packet same room in
+        let over = hears_its_end whole central peripheral fields most c p parting slot channel octets packet same room in
+        let seen = has_seen_it whole central peripheral fields most c p parting slot channel octets packet same room in
         IsOver (record {
           goes_on = parting.took.goes_on;
           seen = subst (λ (f : Facts). HasSeenTerminate c.acknowledgement f) (sym over.answers_none) seen;
@@ -277,9 +396,9 @@ module _ (whole : IsHeardWhole) (central peripheral : Setup) (ends : AreEnds cen
     -- it judges the packet good
     pub peripheral_judges : AreBegunEnds central peripheral slot true true c p → verdict_of peripheral p octets ≡ Good
     peripheral_judges (inl link) =
-        good_at_peripheral whole central peripheral (slot + 1) slot false c p channel octets ends link.begun.linked link.central_lasts link.peripheral_lasts packet same
+        good_down whole central peripheral ends (slot + 1) slot false c p channel octets link.begun.linked link.central_lasts link.peripheral_lasts packet same
     peripheral_judges (inr parting) =
-        (hears_the_end whole central peripheral ends.one_link.fields ends.peripheral_max.to c p parting slot channel octets packet same room).judged
+        (hears_its_end whole central peripheral ends.one_link.fields ends.peripheral_max.to c p parting slot channel octets packet same room).judged
 
   -- ---- the central hears nothing
 
@@ -328,18 +447,25 @@ module _ (whole : IsHeardWhole) (central peripheral : Setup) (ends : AreEnds cen
     heard_now = received central slot octets room c
 
     module _ (link : IsAnsweredLink central peripheral slot true c p) where
+      up_as_sent : IsAsSent central c slot octets p.acknowledgement
+      up_as_sent =
+          as_sent_up whole central peripheral ends (slot + 1) slot true c p channel octets link.linked link.central_lasts link.peripheral_lasts packet same
+
       goes_on : heard_now.control.ends ≡ None
       goes_on =
-          central_goes heard central peripheral slot c p channel octets room ends link.linked link.central_lasts link.peripheral_lasts link.central_past
-          (link.entered refl) packet same
+          ends_as_sent central c slot octets p.acknowledgement up_as_sent heard_now.control.ends _
+          (central_goes whole central peripheral slot c p channel octets room ends link.linked link.central_lasts link.peripheral_lasts link.central_past
+          (link.entered refl) packet same up_as_sent.so.pure)
 
       linked_after : AreLinked central peripheral (slot + 1) false heard_now p
-      linked_after = hears heard central peripheral slot c p channel octets room ends link.linked link.central_past (link.entered refl) packet same
+      linked_after =
+          hears whole central peripheral slot c p channel octets room ends link.linked link.central_past (link.entered refl) packet same up_as_sent.so.pure
 
       by_terminate_too : (took : Bool) → is_some heard_now.leaving.ended_by_peer ≡ took → AreHeardEnds central peripheral slot heard_now p
       by_terminate_too true took =
           central_unheard false heard_now p
-          (CentralTook (central_took whole central peripheral ends slot c p channel octets room link.linked link.central_lasts link.peripheral_lasts packet same took) refl)
+          (CentralTook (central_took whole central peripheral ends slot c p channel octets room link.linked link.central_lasts link.peripheral_lasts packet same
+          up_as_sent.so.pure took) refl)
       by_terminate_too false none =
           let lasts = lasting_by heard_now goes_on none in record {
             central_goes_on = goes_on;
@@ -353,7 +479,7 @@ module _ (whole : IsHeardWhole) (central peripheral : Setup) (ends : AreEnds cen
 
     over_now : ArePartingFrom peripheral central p c → AreHeardEnds central peripheral slot heard_now p
     over_now parting =
-        let seen = has_seen whole peripheral central (sym ends.one_link.fields) ends.central_max.to p c parting slot channel octets packet same room in record {
+        let seen = has_seen_it whole peripheral central (sym ends.one_link.fields) ends.central_max.to p c parting slot channel octets packet same room in record {
           central_goes_on = seen.goes_on;
           peripheral_goes_on = inl parting.took.goes_on;
           agreement = turned p.acknowledgement heard_now.acknowledgement seen.agreement;
@@ -370,9 +496,9 @@ module _ (whole : IsHeardWhole) (central peripheral : Setup) (ends : AreEnds cen
     -- it judges the answer good
     pub central_judges : AreAnsweredEnds central peripheral slot true c p → verdict_of central c octets ≡ Good
     central_judges (Lasts link) =
-        good_at_central whole central peripheral (slot + 1) slot true c p channel octets ends link.linked link.central_lasts link.peripheral_lasts packet same
+        good_up whole central peripheral ends (slot + 1) slot true c p channel octets link.linked link.central_lasts link.peripheral_lasts packet same
     central_judges (PeripheralTook parting) =
-        (hears_the_end whole peripheral central (sym ends.one_link.fields) ends.central_max.to p c parting slot channel octets packet same room).judged
+        (hears_its_end whole peripheral central (sym ends.one_link.fields) ends.central_max.to p c parting slot channel octets packet same room).judged
     central_judges (CentralTook parting none) = absurd (cc)
     central_judges (IsLate link none) = absurd (cc)
     central_judges (IsOver link none) = absurd (cc)
@@ -395,7 +521,7 @@ module _ (whole : IsHeardWhole) (central peripheral : Setup) (ends : AreEnds cen
         by (inr late) = inr (late.0, (λ i. has_passed (last_change (quiet.sent i)) (p.control.track.entered - 1)) ∙ late.1)
 
         open_now : AreOpenEnds central peripheral (slot + 1) c p → AreOpenEnds central peripheral (slot + 1) now p
-        open_now both = subst (λ (f : Facts). AreOpenEnds central peripheral (slot + 1) f p) (sym is) (central_hosted_open central peripheral (slot + 1) c p step may both)
+        open_now both = subst (λ (f : Facts). AreOpenEnds central peripheral (slot + 1) f p) (sym is) (central_hosted_open central peripheral ends (slot + 1) c p step may both)
 
     pub peripheral_quiet : (step : Step) → MayHost step p → now ≡ facts_after peripheral p step → IsQuiet p now → AreHeardEnds central peripheral slot c p
         → AreHeardEnds central peripheral slot c now
@@ -412,7 +538,7 @@ module _ (whole : IsHeardWhole) (central peripheral : Setup) (ends : AreEnds cen
 
         open_now : AreOpenEnds central peripheral (slot + 1) c p → AreOpenEnds central peripheral (slot + 1) c now
         open_now both =
-            subst (λ (f : Facts). AreOpenEnds central peripheral (slot + 1) c f) (sym is) (peripheral_hosted_open central peripheral (slot + 1) c p step may both)
+            subst (λ (f : Facts). AreOpenEnds central peripheral (slot + 1) c f) (sym is) (peripheral_hosted_open central peripheral ends (slot + 1) c p step may both)
 
     -- and at the peripheral before the central hears its answer
     pub answered_quiet : (answers : Bool) (step : Step) → MayHost step p → now ≡ facts_after peripheral p step → IsQuiet p now
@@ -421,7 +547,7 @@ module _ (whole : IsHeardWhole) (central peripheral : Setup) (ends : AreEnds cen
       central_lasts = link.central_lasts;
       peripheral_lasts = subst (λ (f : Facts). is_lasting f ≡ true) (sym is) (still_lasts p _ (host_ends_nothing peripheral p step may) link.peripheral_lasts);
       linked = subst (λ (f : Facts). AreLinked central peripheral (slot + 1) answers c f) (sym is)
-          (peripheral_hosts central peripheral (slot + 1) answers c p link.linked step may);
+          (peripheral_hosts central peripheral ends (slot + 1) answers c p link.linked step may);
       central_past = link.central_past;
       entered = link.entered;
     })
@@ -437,10 +563,10 @@ module _ (whole : IsHeardWhole) (central peripheral : Setup) (ends : AreEnds cen
     answered_quiet answers step may is quiet (IsOver link none) = IsOver (record {
       goes_on = link.goes_on;
       seen = record {
-        acknowledged = ap (λ (l : Leaving). l.acknowledged) quiet.leaving ∙ link.seen.acknowledged;
+        acknowledged = quiet.acknowledged ∙ link.seen.acknowledged;
         ending = quiet.ending ∙ link.seen.ending;
         goes_on = quiet.ends ∙ link.seen.goes_on;
-        took_none = ap (λ (l : Leaving). l.ended_by_peer) quiet.leaving ∙ link.seen.took_none;
+        took_none = quiet.by_peer ∙ link.seen.took_none;
         agreement = subst (λ (a : Acknowledgement). AreInAgreement c.acknowledgement a) (sym quiet.counts) link.seen.agreement;
       };
     }) none
@@ -456,41 +582,10 @@ module _ (whole : IsHeardWhole) (central peripheral : Setup) (ends : AreEnds cen
     central_past = link.central_past;
     entered = link.entered;
   })
-  answered_more answers more c p (PeripheralTook parting) = PeripheralTook (record {
-    took = record {
-      goes_on = parting.took.goes_on;
-      took = parting.took.took;
-      stays = parting.took.stays;
-      closing = parting.took.closing;
-      none_gone = parting.took.none_gone;
-      peer_receives = parting.took.peer_receives;
-      fits = record { payload = parting.took.fits.payload; two_bits = parting.took.fits.two_bits; short = parting.took.fits.short };
-    };
-    sent = parting.sent;
-    taker_plain = record { encryption = parting.taker_plain.encryption; control = parting.taker_plain.control };
-    sender_plain = parting.sender_plain;
-    agreement = parting.agreement;
-    unseen = parting.unseen;
-    seen = parting.seen;
-    answers = λ is. record { answered = (parting.answers is).answered; out = (parting.answers is).out };
-  })
-  answered_more answers more c p (CentralTook parting none) = CentralTook (record {
-    took = parting.took;
-    sent = record {
-      goes_on = parting.sent.goes_on;
-      took_none = parting.sent.took_none;
-      stays = parting.sent.stays;
-      terminates = parting.sent.terminates;
-      sends_no_control = parting.sent.sends_no_control;
-      fits = record { payload = parting.sent.fits.payload; two_bits = parting.sent.fits.two_bits; short = parting.sent.fits.short };
-    };
-    taker_plain = parting.taker_plain;
-    sender_plain = record { encryption = parting.sender_plain.encryption; control = parting.sender_plain.control };
-    agreement = parting.agreement;
-    unseen = parting.unseen;
-    seen = parting.seen;
-    answers = parting.answers;
-  }) none
+  answered_more answers more c p (PeripheralTook parting) =
+      PeripheralTook (taker_still peripheral central p c parting (with_more more p) (event_still peripheral p (record p.event { more = more })))
+  answered_more answers more c p (CentralTook parting none) =
+      CentralTook (sender_still central peripheral c p parting (with_more more p) (event_still peripheral p (record p.event { more = more }))) none
   answered_more answers more c p (IsLate link none) =
       IsLate (record { central_lasts = link.central_lasts; late = link.late; agreement = link.agreement }) none
   answered_more answers more c p (IsOver link none) = IsOver (record {

@@ -10,8 +10,9 @@ use Rattle.host_view.specs.Unbuilt.{status_of}
 use Rattle.chan_select.specs.Channel.{channel_of}
 use Rattle.chan_select.specs.PseudoRandom.{mam, perm, prn, reversed_octet, stage}
 use Rattle.run_model.specs.link_model.End.{facts_of as end_facts}
-use Rattle.run_model.specs.link_model.Receiving.{effect_of, replies_of}
-use Rattle.run_model.specs.link_end.Answers.{acked_of, given_of}
+use Rattle.run_model.specs.link_model.Drawing.{draws_of}
+use Rattle.run_model.specs.link_model.Receiving.{effect_of, kept_effect_of, replies_of}
+use Rattle.run_model.specs.link_end.Answers.{acked_of, given_of, kept_given_of}
 use Rattle.run_model.specs.link_model.Packets.{good_pdu, is_forged, packet_sent, verdict_of as end_verdict, whole_pdu}
 use Rattle.scan_init.specs.Access.{bit_count, is_valid_access, next_access_of}
 use Rattle.frame_bits.specs.Crc.{crc, crc_octets, crc_of_bits, remainder}
@@ -48,11 +49,11 @@ connect = record {
 }
 
 pub returns-clause-central : goal.returns-clause-central
-unfolding facts_of result_of frames little_endian command_of layout_of layouts view_after status_of use_of fates_used packet_received packets_on_air turns_begun after_opening after_phase after_phases after_turn run_of verdict_of pdu_heard heard_in read_of kept_bits crc crc_octets crc_of_bits remainder mask_of next_mask whitening_bit whitening_of bit_count is_valid_access next_access_of view_noted data_channels used_channels end_facts effect_of replies_of acked_of given_of packet_sent good_pdu is_forged whole_pdu end_verdict reversed_octet perm mam stage prn channel_of
+unfolding facts_of result_of frames little_endian command_of layout_of layouts view_after status_of use_of fates_used packet_received packets_on_air turns_begun after_opening after_phase after_phases after_turn run_of verdict_of pdu_heard heard_in read_of kept_bits crc crc_octets crc_of_bits remainder mask_of next_mask whitening_bit whitening_of bit_count is_valid_access next_access_of view_noted data_channels used_channels end_facts effect_of kept_effect_of replies_of draws_of acked_of given_of kept_given_of packet_sent good_pdu is_forged whole_pdu end_verdict reversed_octet perm mam stage prn channel_of
 returns-clause-central c = refl
 
 pub returns-clause-peripheral : goal.returns-clause-peripheral
-unfolding facts_of result_of frames little_endian command_of layout_of layouts view_after status_of use_of fates_used packet_received packets_on_air turns_begun after_opening after_phase after_phases after_turn run_of verdict_of pdu_heard heard_in read_of kept_bits crc crc_octets crc_of_bits remainder mask_of next_mask whitening_bit whitening_of bit_count is_valid_access next_access_of view_noted data_channels used_channels end_facts effect_of replies_of acked_of given_of packet_sent good_pdu is_forged whole_pdu end_verdict reversed_octet perm mam stage prn channel_of
+unfolding facts_of result_of frames little_endian command_of layout_of layouts view_after status_of use_of fates_used packet_received packets_on_air turns_begun after_opening after_phase after_phases after_turn run_of verdict_of pdu_heard heard_in read_of kept_bits crc crc_octets crc_of_bits remainder mask_of next_mask whitening_bit whitening_of bit_count is_valid_access next_access_of view_noted data_channels used_channels end_facts effect_of kept_effect_of replies_of draws_of acked_of given_of kept_given_of packet_sent good_pdu is_forged whole_pdu end_verdict reversed_octet perm mam stage prn channel_of
 returns-clause-peripheral c = refl
 
 split_at : (place : ℕ) (events : List Event) (event : Event) → slice_get events place ≡ Some event → events ≡ take place events ++ event ∷ drop (suc place) events
@@ -61,15 +62,15 @@ split_at zero (first ∷ events) event is = let same : first ≡ event = cc in a
 split_at (suc place) (first ∷ events) event is = ap (λ (xs : List Event). first ∷ xs) (split_at place events event is)
 
 connect_at : slice_get one_event_history 44 ≡ Some (Transmitted connect.sender connect.channel connect.octets connect.hearings)
-unfolding facts_of result_of frames little_endian command_of layout_of layouts view_after status_of use_of fates_used packet_received packets_on_air turns_begun after_opening after_phase after_phases after_turn run_of verdict_of pdu_heard heard_in read_of kept_bits crc crc_octets crc_of_bits remainder mask_of next_mask whitening_bit whitening_of bit_count is_valid_access next_access_of view_noted data_channels used_channels end_facts effect_of replies_of acked_of given_of packet_sent good_pdu is_forged whole_pdu end_verdict reversed_octet perm mam stage prn channel_of
+unfolding facts_of result_of frames little_endian command_of layout_of layouts view_after status_of use_of fates_used packet_received packets_on_air turns_begun after_opening after_phase after_phases after_turn run_of verdict_of pdu_heard heard_in read_of kept_bits crc crc_octets crc_of_bits remainder mask_of next_mask whitening_bit whitening_of bit_count is_valid_access next_access_of view_noted data_channels used_channels end_facts effect_of kept_effect_of replies_of draws_of acked_of given_of kept_given_of packet_sent good_pdu is_forged whole_pdu end_verdict reversed_octet perm mam stage prn channel_of
 connect_at = refl
 
 turn_at : turns_begun (take 44 one_event_history) ≡ 1
-unfolding facts_of result_of frames little_endian command_of layout_of layouts view_after status_of use_of fates_used packet_received packets_on_air turns_begun after_opening after_phase after_phases after_turn run_of verdict_of pdu_heard heard_in read_of kept_bits crc crc_octets crc_of_bits remainder mask_of next_mask whitening_bit whitening_of bit_count is_valid_access next_access_of view_noted data_channels used_channels end_facts effect_of replies_of acked_of given_of packet_sent good_pdu is_forged whole_pdu end_verdict reversed_octet perm mam stage prn channel_of
+unfolding facts_of result_of frames little_endian command_of layout_of layouts view_after status_of use_of fates_used packet_received packets_on_air turns_begun after_opening after_phase after_phases after_turn run_of verdict_of pdu_heard heard_in read_of kept_bits crc crc_octets crc_of_bits remainder mask_of next_mask whitening_bit whitening_of bit_count is_valid_access next_access_of view_noted data_channels used_channels end_facts effect_of kept_effect_of replies_of draws_of acked_of given_of kept_given_of packet_sent good_pdu is_forged whole_pdu end_verdict reversed_octet perm mam stage prn channel_of
 turn_at = refl
 
 connect_says : pdu_heard connect.channel connect.octets ≡ Some (Connect connect.from connect.to connect.ch_sel connect.fields)
-unfolding facts_of result_of frames little_endian command_of layout_of layouts view_after status_of use_of fates_used packet_received packets_on_air turns_begun after_opening after_phase after_phases after_turn run_of verdict_of pdu_heard heard_in read_of kept_bits crc crc_octets crc_of_bits remainder mask_of next_mask whitening_bit whitening_of bit_count is_valid_access next_access_of view_noted data_channels used_channels end_facts effect_of replies_of acked_of given_of packet_sent good_pdu is_forged whole_pdu end_verdict reversed_octet perm mam stage prn channel_of
+unfolding facts_of result_of frames little_endian command_of layout_of layouts view_after status_of use_of fates_used packet_received packets_on_air turns_begun after_opening after_phase after_phases after_turn run_of verdict_of pdu_heard heard_in read_of kept_bits crc crc_octets crc_of_bits remainder mask_of next_mask whitening_bit whitening_of bit_count is_valid_access next_access_of view_noted data_channels used_channels end_facts effect_of kept_effect_of replies_of draws_of acked_of given_of kept_given_of packet_sent good_pdu is_forged whole_pdu end_verdict reversed_octet perm mam stage prn channel_of
 connect_says = refl
 
 of_central : HasConnectInd one_event_history central_end.station central_end.link.setup
