@@ -20,13 +20,14 @@ use Rattle.journal_packets.proofs.link_model.Acknowledging.{ack_before_taking, a
 use Rattle.journal_packets.proofs.link_model.Agreeing.{heard_acks, heard_agrees}
 use Rattle.journal_packets.proofs.link_model.Hearing.{IsHeardWhole}
 use Rattle.journal_packets.proofs.link_model.Received.{body_heard, facts_heard, heard_good}
-use Rattle.journal_packets.proofs.link_model.Plain.{past_payload}
 use Rattle.journal_packets.specs.open_links.OpenLinks.{OpenLink, facts_in, link_after}
 use Rattle.journal_packets.proofs.run_laws.Agreed.{ack_of, ack_sent, out_after, packet_of, sent_ack, step_facts}
 use Rattle.link_calls.specs.Ranges.{HasRanges}
 use Rattle.link_calls.proofs.Pieces.{ranged_understand}
+use Rattle.journal_acks.specs.Carried.{IsPayload}
 use Rattle.journal_acks.specs.Counted.{IsCounted}
 use Rattle.journal_acks.specs.Exchange.{Exchanged, first_exchanged, with_heard, with_sent}
+use Rattle.journal_acks.proofs.Payloads.{payload_is}
 use Rattle.journal_acks.proofs.Counting.{accepted_before, ack_taking, has_own_line}
 
 -- ---- an end that begins, and that sends
@@ -98,10 +99,11 @@ module _ (sender : Facts) (one : Acknowledgement) (agreed : AreInAgreement (sent
       (sent_again (sent_ack sender) (pdu_fixed sender) (is_acked (sent_ack sender)) refl (out_after sender one agreed)))
       ahead.sent_only ahead.at_most_one_ahead
 
--- what is read of a payload that is the body, opened or not
-read_alike : (fresh : Bool) (body payload : List ℕ) → payload ≡ body → (if fresh then body else payload) ≡ body
-read_alike true body payload is = refl
-read_alike false body payload is = is
+-- what is read of a payload, opened or not, is empty where the PDU is
+read_alike : (fresh : Bool) (pdu : Pdu) (payload : List ℕ) → IsPayload pdu payload
+    → is_empty (record { llid = pdu.llid; body = (if fresh then pdu.body else payload) }) ≡ is_empty pdu
+read_alike true pdu payload is = refl
+read_alike false pdu payload is = is.empty
 
 -- an end that receives the packet of the other one, which it understands
 module _ (whole : IsHeardWhole) (slot now : ℕ) (one from : OpenLink) (octets : List ℕ) (ranges : HasRanges one) (from_ranges : HasRanges from)
@@ -119,17 +121,14 @@ module _ (whole : IsHeardWhole) (slot now : ℕ) (one from : OpenLink) (octets :
   understood : IsUnderstood from.setup far own listener
   understood = ranged_understand from one from_ranges ranges fields channel
 
-  body : payload_sent far ≡ (pdu_sent far).body
-  body = past_payload from.setup from.past
-
-  pdu_is : pdu_heard far listener ≡ pdu_sent far
-  pdu_is = λ i. record { llid = (pdu_sent far).llid; body = read_alike (has_new_pdu listener (header_sent far)) (pdu_sent far).body (payload_sent far) body i }
+  empty_alike : is_empty (pdu_heard far listener) ≡ is_empty (pdu_sent far)
+  empty_alike = read_alike (has_new_pdu listener (header_sent far)) (pdu_sent far) (payload_sent far) (payload_is from.setup from.past)
 
   good_is : good_pdu own listener octets ≡ Some (pdu_octets far listener)
   good_is = ap (good_pdu own listener) packet ∙ heard_good whole from.setup own far listener understood
 
   own_line : has_own_line (good_pdu own listener octets) ≡ not (is_empty (pdu_sent far))
-  own_line = ap has_own_line good_is ∙ ap (λ pdu. not (is_empty pdu)) (body_heard far listener understood.llid ∙ pdu_is)
+  own_line = ap has_own_line good_is ∙ ap (λ pdu. not (is_empty pdu)) (body_heard far listener understood.llid) ∙ ap not empty_alike
 
   once : AreInAgreement (sent_ack far) (ack_of one)
   once = subst (λ a. AreInAgreement a (ack_of one)) (ack_sent now from) agreed

@@ -13,8 +13,8 @@ use Rattle.journal_packets.specs.link_model.Data.{is_empty}
 use Rattle.journal_packets.specs.link_model.OneLink.{AreInAgreement}
 use Rattle.link_calls.specs.Ranges.{HasRanges}
 use Rattle.link_calls.proofs.InRange.{sent_ranges}
-use Rattle.link_calls.proofs.Pieces.{sent_readable}
 use Rattle.journal_packets.proofs.link_model.Hearing.{IsHeardWhole}
+use Rattle.journal_packets.proofs.link_model.Llids.{past_llid}
 use Rattle.journal_packets.specs.link_model.Acknowledgement.{Acknowledgement}
 use Rattle.journal_packets.specs.link_model.Step.{PacketSent, PacketReceived}
 use Rattle.journal_packets.specs.open_links.OpenLinks.{OpenLink, facts_in, link_after, link_at}
@@ -23,16 +23,15 @@ use Rattle.journal_packets.specs.controller_model.Facts.{Facts, Sends, Listens}
 use Rattle.journal_packets.proofs.controller_model.Always.{IsAdvertisingChannel}
 use Rattle.journal_packets.proofs.controller_model.DataChannels.{link_channel}
 use Rattle.journal_packets.proofs.controller_model.Sent.{sends_well}
-use Rattle.journal_packets.specs.controller_model.Packets.{verdict_of}
 use Rattle.radio_replay.specs.declared.fates.Fate.{Fate}
 use Rattle.radio_replay.specs.Damage.{damaged_packet}
 use Rattle.link_calls.specs.run_model.Feeding.{AreDistinct}
-use Rattle.link_calls.specs.run_model.History.{Event, Transmitted, Hearing, fates_used, has_received, is_good, packet_received, past_of, turns_begun}
+use Rattle.link_calls.specs.run_model.History.{Event, Transmitted, Hearing, fates_used, has_received, is_good, is_handed, packet_received, past_of, turns_begun}
 use Rattle.link_calls.specs.run_model.Journal.{journal_of, side_of}
 use Rattle.link_calls.specs.run_model.LinkEnds.{HaveAddresses}
 use Rattle.link_calls.specs.run_model.Links.{is_advertising}
 use Rattle.link_calls.specs.run_model.Run.{Given, facts_at, fate_at, hearings_of, setup_at, unseen_in, use_at}
-use Rattle.link_calls.proofs.run_model.LinkEnds.{is_listener, received_event}
+use Rattle.link_calls.proofs.run_model.LinkEnds.{is_listener, received_own, received_packet}
 use Rattle.link_calls.proofs.run_model.Stations.{is_in, among, in_more_other, in_more_same, not_before}
 use Rattle.link_calls.proofs.run_model.Walk.{Place, AtPackets}
 use Rattle.journal_packets.specs.run_laws.Ends.{HaveOneConnectInd}
@@ -58,7 +57,8 @@ use Rattle.link_calls.proofs.LinkPhases.{IsPhased}
 use Rattle.link_calls.specs.Uses.{listens_under, sends_under}
 use Rattle.journal_acks.proofs.SentLines.{air_line}
 use Rattle.journal_acks.proofs.Standing.{AreOne, listener_role, listener_sends, listens_wanted, one_listened, other_listens, other_sends, phased_at, sender_role, sends_on, sends_other}
-use Rattle.journal_acks.proofs.TwoStations.{IsListening, IsOfTwo, after_air, air_of_link, air_quiet, good_begins, hearing_of, judged, link_listens, one_hearing, other_is, other_of, other_received, own_differs, own_received, same_number, sent_empty, side_differs, side_other, side_same, unchanged}
+use Rattle.journal_acks.proofs.Payloads.{payload_is, payload_short}
+use Rattle.journal_acks.proofs.TwoStations.{IsHearing, IsOfTwo, after_air, air_of_link, air_quiet, good_handed, handed_begins, hearing_of, link_hears, one_hearing, other_is, other_of, other_received, reached, same_number, sent_empty, side_differs, side_other, side_same, unchanged}
 
 -- ---- the counts of a side after a packet
 
@@ -290,6 +290,71 @@ module _ (whole : IsHeardWhole) (given : Given) (Q : Place → List Event → Ty
         sent_counted (packet_received station history) sent.handle (facts station).turn link_sent (exchange_at own_number history (side_of station)) on
         (listener_off sent.handle (facts station).turn on (listens_under sent.handle (facts station).turn.doing) refl) (before_sent sent.handle link_sent sent.is_open)
 
+    -- what the radio left of it
+    abbrev heard : List ℕ
+    heard = damaged_packet hearing.fate octets
+
+    -- what the other station hears
+    module _ (is_too : is_in other given.stations ≡ true) (differs : (other == station) ≡ false)
+        (silent : (one : ℕ) → is_in one given.stations ≡ true → (one == station) ≡ false → packet_received one history ≡ None) where
+      -- the other station hears it on a link
+      pub hears : is_handed hearing.verdict ≡ true → IsHearing (facts other) channel heard hearing.verdict
+      hears handed =
+          let is_reached = reached (use_at given other history) hearing.fate channel (facts other) heard handed in
+          subst (IsHearing (facts other) channel heard) (sym is_reached.verdict_is)
+          (link_hears (facts other) channel heard (subst (λ n. n < 37) (sym sent.channel_is) (link_channel sent.link))
+          (sends_well (setup_at given other) (six other) (past_of other history)).does (phased other is_too).uses.in_turn.listens (phased other is_too).uses.scans
+          (wanted_is given other history ∙ is_reached.listens) (ap is_handed (sym is_reached.verdict_is) ∙ handed))
+
+      -- the counts of an end that listens, before it hears the packet
+      pub before_heard : (handle : ℕ) (link : OpenLink) → link_at handle (facts other).links ≡ Some link → listens_under handle (facts other).turn.doing ≡ true
+          → IsCounted (exchange_at (number_at other handle history) history (side_of other)) (ack_of link)
+      before_heard handle link is_open listens =
+          plain (not (is_in other done)) (packet_received other history) handle (facts other).turn link (exchange_at (number_at other handle history) history (side_of other))
+          (listener_sends handle (facts other).turn.doing listens) (λ on. silent other is_too differs) (counted other handle link is_too is_open)
+
+      -- it was not changed
+      module _ (handed : is_handed hearing.verdict ≡ true) (same : heard ≡ octets) where
+        pub heard_at : IsHearing (facts other) channel heard hearing.verdict
+        heard_at = hears handed
+
+        -- the link on which it listens
+        module _ (handle : ℕ) (link : OpenLink) (is_open : link_at handle (facts other).links ≡ Some link) (listens : listens_under handle (facts other).turn.doing ≡ true) where
+          pub one_heard : AreOne handle heard_at.handle link heard_at.link
+          one_heard = one_listened (facts other).links (facts other).turn.doing handle heard_at.handle link heard_at.link listens heard_at.on is_open heard_at.is_open
+
+          begins : take 4 octets ≡ access_octets link.setup.link.fields.access
+          begins =
+              ap (take 4) (sym same)
+              ∙ subst (λ (l : OpenLink). take 4 heard ≡ access_octets l.setup.link.fields.access) (sym one_heard.links)
+              (handed_begins heard_at.link.setup (facts_in heard_at.link) heard (ap is_handed (sym heard_at.verdict_is) ∙ handed))
+
+          centrals : central_side link_sent.setup.link.role (side_of station) ≡ central_side link.setup.link.role (side_of other)
+          centrals =
+              one_central phases station link_sent.setup.link.role link.setup.link.role
+              (sender_role phases (facts station).links (facts station).turn.doing sent.handle link_sent (phased station is).phase sends_it sent.is_open)
+              (listener_role phases (facts other).links (facts other).turn.doing handle link (phased other is_too).phase listens is_open)
+
+          -- the journal has one number for both of its ends
+          pub heard_number : own_number ≡ number_at other handle history
+          heard_number =
+              let numbers : Some own_number ≡ Some (number_at other handle history) =
+              sym (known.fits here history q station sent.handle link_sent octets is sent.is_open (ap (take 4) sent.packet ∙ sent_begins sent.link.setup (facts_in sent.link)))
+              ∙ ap (λ s. first_number s octets 1 (links_begun (journal_of history))) centrals
+              ∙ known.fits here history q other handle link octets is_too is_open begins in cc
+
+          heard_begun : IsBegun history (number_at other handle history) other link.setup
+          heard_begun = known.begun here history q other handle link is_too is_open
+
+          heard_connect_ind : HaveOneConnectInd link_sent.setup link.setup
+          heard_connect_ind = one_begun history own_number (number_at other handle history) station other link_sent link heard_number (known.begun here history q station sent.handle link_sent is sent.is_open) heard_begun
+
+          heard_agreed : AreInAgreement (ack_of link_sent) (ack_of link)
+          heard_agreed =
+              let all = known.agree whole here history q station other is is_too (differs_back other station differs) in
+              let each = open_has (WithAll (facts other).links) 0 sent.handle (facts station).links link_sent all sent.is_open in
+              open_has (λ (l : OpenLink). Agree link_sent l) 0 handle (facts other).links link each is_open heard_connect_ind
+
     module _ (is_too : is_in other given.stations ≡ true) (differs : (other == station) ≡ false) (seen : unseen_in octets hearings ≡ None)
         (silent : (one : ℕ) → is_in one given.stations ≡ true → (one == station) ≡ false → packet_received one history ≡ None) where
       pub heard_it : has_received other hearings ≡ is_good hearing.verdict
@@ -307,57 +372,43 @@ module _ (whole : IsHeardWhole) (given : Given) (Q : Place → List Event → Ty
           (counted other handle link is_too is_open)
 
       module _ (good : is_good hearing.verdict ≡ true) where
-        pub listening : IsListening (facts other) channel octets
-        listening =
-            let is_judged = judged (use_at given other history) (fate_at fates (fates_used history)) channel (facts other) (damaged_packet (fate_at fates (fates_used history)) octets) good in
-            let same = unchanged octets hearing (ap (unseen_in octets) (sym has) ∙ seen) good in
-            link_listens (facts other) channel octets (subst (λ n. n < 37) (sym sent.channel_is) (link_channel sent.link))
-            (sends_well (setup_at given other) (six other) (past_of other history)).does (phased other is_too).uses.in_turn.listens (phased other is_too).uses.scans
-            (wanted_is given other history ∙ is_judged.listens) (subst (λ xs. is_good (verdict_of (facts other) xs) ≡ true) same is_judged.good)
+        pub handed : is_handed hearing.verdict ≡ true
+        handed = good_handed hearing.verdict good
+
+        pub same : heard ≡ octets
+        same = unchanged octets hearing (ap (unseen_in octets) (sym has) ∙ seen) good
+
+        abbrev pub listening : IsHearing (facts other) channel heard hearing.verdict
+        listening = heard_at is_too differs silent handed same
 
         -- the link on which it listens
         module _ (handle : ℕ) (link : OpenLink) (is_open : link_at handle (facts other).links ≡ Some link) (listens : listens_under handle (facts other).turn.doing ≡ true) where
           pub one : AreOne handle listening.handle link listening.link
-          one = one_listened (facts other).links (facts other).turn.doing handle listening.handle link listening.link listens listening.on is_open listening.is_open
+          one = one_heard is_too differs silent handed same handle link is_open listens
 
-          begins : take 4 octets ≡ access_octets link.setup.link.fields.access
-          begins = subst (λ (l : OpenLink). take 4 octets ≡ access_octets l.setup.link.fields.access) (sym one.links) (good_begins listening.link.setup (facts_in listening.link) octets listening.good)
-
-          centrals : central_side link_sent.setup.link.role (side_of station) ≡ central_side link.setup.link.role (side_of other)
-          centrals =
-              one_central phases station link_sent.setup.link.role link.setup.link.role
-              (sender_role phases (facts station).links (facts station).turn.doing sent.handle link_sent (phased station is).phase sends_it sent.is_open)
-              (listener_role phases (facts other).links (facts other).turn.doing handle link (phased other is_too).phase listens is_open)
-
-          -- the journal has one number for both of its ends
           pub one_number : own_number ≡ number_at other handle history
-          one_number =
-              let numbers : Some own_number ≡ Some (number_at other handle history) =
-              sym (known.fits here history q station sent.handle link_sent octets is sent.is_open (ap (take 4) sent.packet ∙ sent_begins sent.link.setup (facts_in sent.link)))
-              ∙ ap (λ s. first_number s octets 1 (links_begun (journal_of history))) centrals
-              ∙ known.fits here history q other handle link octets is_too is_open begins in cc
+          one_number = heard_number is_too differs silent handed same handle link is_open listens
 
           begun : IsBegun history (number_at other handle history) other link.setup
-          begun = known.begun here history q other handle link is_too is_open
+          begun = heard_begun is_too differs silent handed same handle link is_open listens
 
           connect_ind : HaveOneConnectInd link_sent.setup link.setup
-          connect_ind = one_begun history own_number (number_at other handle history) station other link_sent link one_number (known.begun here history q station sent.handle link_sent is sent.is_open) begun
+          connect_ind = heard_connect_ind is_too differs silent handed same handle link is_open listens
 
           agreed : AreInAgreement (ack_of link_sent) (ack_of link)
-          agreed =
-              let all = known.agree whole here history q station other is is_too (differs_back other station differs) in
-              let each = open_has (WithAll (facts other).links) 0 sent.handle (facts station).links link_sent all sent.is_open in
-              open_has (λ (l : OpenLink). Agree link_sent l) 0 handle (facts other).links link each is_open connect_ind
+          agreed = heard_agreed is_too differs silent handed same handle link is_open listens
+
+          on_channel_of : (facts_in sent.link).event.channel ≡ (facts_in link).event.channel
+          on_channel_of = sym sent.channel_is ∙ listening.channel_is ∙ ap (λ (l : OpenLink). (facts_in l).event.channel) (sym one.links)
 
           before_taken : IsCounted (exchange_at (number_at other handle history) history (side_of other)) (ack_of link)
-          before_taken =
-              plain (not (is_in other done)) (packet_received other history) handle (facts other).turn link (exchange_at (number_at other handle history) history (side_of other))
-              (listener_sends handle (facts other).turn.doing listens) (λ on. silent other is_too differs) (counted other handle link is_too is_open)
+          before_taken = before_heard is_too differs silent handle link is_open listens
 
           empty_is : carries_empty (link_numbered (number_at other handle history) (journal_of history)) channel octets ≡ is_empty (pdu_sent (facts_in sent.link))
           empty_is =
               ap (λ may. carries_empty may channel octets) begun.is_link
-              ∙ sent_empty whole sent.link.setup (facts_in sent.link) begun.link channel octets (sent_readable sent.link sender_ranges)
+              ∙ sent_empty whole sent.link.setup (facts_in sent.link) begun.link channel octets (past_llid sent.link.setup sent.link.past).1
+              (payload_short sent.link sender_ranges) (payload_is sent.link.setup sent.link.past)
               (begun.fields ∙ sym connect_ind.fields) sent.channel_is sent.packet
 
           abbrev waiting : Acknowledgement
@@ -370,7 +421,7 @@ module _ (whole : IsHeardWhole) (given : Given) (Q : Place → List Event → Ty
           tells : IsTold (ack_of link_sent) (ack_of link) (pdu_sent (facts_in sent.link)) waiting
           tells =
               told whole (facts other).turn.slot sent.slot link sent.link octets own_ranges sender_ranges connect_ind.fields sent.packet
-              (sym sent.channel_is ∙ listening.channel_is ∙ ap (λ (l : OpenLink). (facts_in l).event.channel) (sym one.links)) agreed
+              on_channel_of agreed
 
           sent_as : IsCounted (with_sent (exchange_at (number_at other handle history) history (side_of station))) (ack_of link_sent)
           sent_as = subst (λ n. IsCounted (with_sent (exchange_at n history (side_of station))) (ack_of link_sent)) one_number sender_counted
@@ -400,7 +451,7 @@ module _ (whole : IsHeardWhole) (given : Given) (Q : Place → List Event → Ty
               ∙ own_after (is_good hearing.verdict) (carries_empty (link_numbered number (journal_of history)) channel octets) station (exchange_at number history))
               ∙ sent_as.sent
               ∙ takes_all whole slot sent.slot link sent.link octets own_ranges sender_ranges connect_ind.fields sent.packet
-              (sym sent.channel_is ∙ listening.channel_is ∙ ap (λ (l : OpenLink). (facts_in l).event.channel) (sym one.links)) agreed room more
+              on_channel_of agreed room more
 
         -- a link on which it does not listen
         other_kept : (handle : ℕ) (link : OpenLink) → link_at handle (facts other).links ≡ Some link → listens_under handle (facts other).turn.doing ≡ false
@@ -444,10 +495,7 @@ module _ (whole : IsHeardWhole) (given : Given) (Q : Place → List Event → Ty
       other_sent off is_too differs seen silent (has_received other hearings) (sym (heard_it off is_too differs seen silent)) handle link is_open
 
   own_receives : packet_received station after ≡ packet_received station history
-  own_receives =
-      received_event station history (Transmitted station channel octets hearings)
-      ∙ ap (λ xs. if has_received station xs then Some octets else packet_received station history) has
-      ∙ ap (λ b. if b then Some octets else packet_received station history) (own_received station hearing (own_differs station))
+  own_receives = received_own given fates station channel octets history
 
   pub packet_counted : unseen_in octets hearings ≡ None → ((one : ℕ) → is_in one given.stations ≡ true → (one == station) ≡ false → packet_received one history ≡ None)
       → AreCountedSo given after (λ one. not (is_in one (done ++ station ∷ []))) (λ one. packet_received one after)
@@ -477,7 +525,7 @@ module _ (whole : IsHeardWhole) (given : Given) (Q : Place → List Event → Ty
           moved handle link (not (is_in other done)) (not (is_in other (done ++ station ∷ []))) (if has_received other hearings then Some octets else packet_received other history) (packet_received other after)
           (facts other).turn (facts_at given other after).turn
           (exchange_at (number_at other handle history) after (side_of other)) (exchange_at (number_at other handle after) after (side_of other))
-          (ap not (in_more_other other station done unlike)) (received_event other history (Transmitted station channel octets hearings)) (ap (λ (f : Facts). f.turn) (same_facts other))
+          (ap not (in_more_other other station done unlike)) (received_packet given fates other station channel octets history seen) (ap (λ (f : Facts). f.turn) (same_facts other))
           (ap (λ n. exchange_at n after (side_of other)) (number_sent other handle history station channel octets hearings))
           (other_aired (is_advertising channel) refl (subst (λ n. is_in n given.stations ≡ true) equal in_it) unlike seen silent handle link
           (subst (λ n. link_at handle (facts_at given n history).links ≡ Some link) equal is_open)))
@@ -537,7 +585,7 @@ module _ (whole : IsHeardWhole) (given : Given) (Q : Place → List Event → Ty
           (subst (λ n. link_at handle (facts_at given n history).links ≡ Some link) equal is_open)) in
           ap (λ n. (exchange_at n after (other_side (side_of one))).sent) (number_sent one handle history station channel octets hearings)
           ∙ take heard (ap (λ (f : Facts). listens_under handle f.turn.doing) (sym (same_facts one)) ∙ listens)
-          (sym (received_event one history (Transmitted station channel octets hearings)) ∙ some) slot room more
+          (sym (received_packet given fates one station channel octets history seen) ∙ some) slot room more
 
   -- ---- the other end of the link
 

@@ -5,6 +5,7 @@ use Rattle.std.specs.Option.{option_map}
 use Rattle.std.proofs.lemmas.List.Elements.{All-append, All-from_recursion, All-nil}
 use Rattle.ble_base.specs.declared.notes.Note.{Note}
 use Rattle.ble_base.specs.declared.notes.Note.TheVariants.{Up, Sent, Took}
+use Rattle.journal_packets.specs.controller_model.host_view.Links.{was_encrypted}
 use Rattle.journal_packets.specs.link_model.Setup.{Setup as EndSetup}
 use Rattle.journal_packets.specs.link_model.End.{notes_after as end_notes}
 use Rattle.journal_packets.specs.link_model.Packets.{good_pdu}
@@ -18,8 +19,8 @@ use Rattle.journal_packets.specs.controller_model.Step.{TurnBegins}
 use Rattle.journal_packets.specs.controller_model.Facts.{Setup, Facts}
 use Rattle.journal_packets.specs.controller_model.Heard.{events_received, has_room, link_heard, link_received, notes_taken, replies_in, reply_if}
 use Rattle.journal_packets.specs.controller_model.Events.{notes_of_events}
-use Rattle.journal_packets.specs.controller_model.Outcome.{facts_passed, notes_passed}
-use Rattle.journal_packets.specs.controller_model.Packets.{links_sending, notes_doing, notes_sent}
+use Rattle.journal_packets.specs.controller_model.Outcome.{Outcome, facts_passed, notes_passed}
+use Rattle.journal_packets.specs.controller_model.Packets.{facts_doing, links_sending, notes_doing, notes_sent}
 use Rattle.journal_packets.specs.controller_model.Radio.{outcome_begun}
 use Rattle.journal_packets.specs.controller_model.Side.{facts_after, notes_after}
 use Rattle.journal_packets.proofs.controller_model.Always.{begun_doing}
@@ -35,11 +36,13 @@ use Rattle.link_calls.proofs.CallNotes.{HasNoData, all_more, begin_noted, events
 use Rattle.link_calls.proofs.CallNotes.{OpensNone, opening_none}
 use Rattle.journal_acks.proofs.Exchanging.{number_at}
 use Rattle.journal_acks.proofs.FirstCounts.{IsCallOf, IsOnly, OfLink, OfNone}
-use Rattle.link_calls.proofs.LinkCalls.{begins_under, received_quiet, receiving_setup}
+use Rattle.link_calls.proofs.LinkCalls.{begins_under, received_quiet}
+use Rattle.link_calls.specs.Turns.{sent_if}
 use Rattle.link_calls.specs.Uses.{listens_under, sends_under}
 use Rattle.journal_acks.proofs.PhaseNotes.{IsOnLink, IsPhaseOf, IsPlainPhase, SendsFrom, SendsNothing, SendsOne, sends_from}
 use Rattle.link_calls.proofs.UnderHandles.{change_by}
 use Rattle.journal_acks.proofs.TwoStations.{same_number}
+use Rattle.journal_acks.proofs.Worded.{link_worded, received_setup_is, worded, worded_here, worded_setup}
 
 -- the link with a number began before this turn
 pub record IsBegunBefore (number : ℕ) (history : List Event) : Type 0 where
@@ -133,50 +136,76 @@ only_reply : (replies : Bool) (other : ℕ) (then_on : Facts) (link : OpenLink) 
 only_reply true other then_on link at same = subst (All (IsOnly other)) (sym (ap (notes_sent then_on.turn.slot) at)) (only_sent then_on.turn.slot other link same)
 only_reply false other then_on link at same = All-nil (IsOnly other)
 
+-- what the link under a handle is after it received a packet, and answered it or not
+pub taken_at : (setup : Setup) (facts : Facts) (other : ℕ) (octets : List ℕ) (link : OpenLink) → link_at other facts.links ≡ Some link
+    → link_at other (facts_passed (link_heard setup other octets facts)).links
+    ≡ Some (sent_if (sends_under other (link_heard setup other octets facts).next) facts.turn.slot (link_receiving other (has_room setup facts) octets facts link))
+taken_at setup facts other octets link at = by (replies_in facts.turn.slot room (link_at other facts.links) octets)
+  where
+    room : Bool
+    room = has_room setup facts
+
+    taken : OpenLink
+    taken = link_receiving other room octets facts link
+
+    by : (replies : Bool) → link_at other (facts_doing (reply_if replies other) (link_received other room octets facts)).links
+        ≡ Some (sent_if (sends_under other (reply_if replies other)) facts.turn.slot taken)
+    by false = received_at other octets room facts link at
+    by true =
+        sent_at facts.turn.slot other (PeripheralSends other) (link_received other room octets facts).links taken (same_number other) (received_at other octets room facts link at)
+        ∙ ap (λ b. Some (sent_if b facts.turn.slot taken)) (sym (same_number other))
+
 -- where there is no link nothing is noted
 pub unfound : (setup : Setup) (facts : Facts) (other : ℕ) (octets : List ℕ) → link_at other facts.links ≡ None → notes_passed (link_heard setup other octets facts) ≡ []
 unfound setup facts other octets none =
     let slot = facts.turn.slot in
     let room = has_room setup facts in
-    ap (λ found. notes_taken slot room found octets ++ notes_of_events facts.view (events_received other slot room found octets)
+    let encrypted = was_encrypted other facts.view.links in
+    ap (λ found. notes_taken slot room found octets ++ notes_of_events facts.view (events_received encrypted other slot room found octets)
     ++ notes_doing (reply_if (replies_in slot room found octets) other) (link_received other room octets facts)) none
 
-pub on_link_notes : (setup : Setup) (facts : Facts) (received : Option (List ℕ)) (other : ℕ) (octets : List ℕ) → received ≡ Some octets
-    → notes_after setup facts (step_of (Some octets)) ≡ notes_passed (link_heard setup other octets facts)
-    → notes_after setup facts (step_of received) ≡ notes_passed (link_heard setup other octets facts)
-on_link_notes setup facts received other octets some are = ap (λ may. notes_after setup facts (step_of may)) some ∙ are
+pub on_link_notes : (setup : Setup) (facts : Facts) (received : Option (List ℕ)) (octets : List ℕ) (outcome : Outcome) → received ≡ Some octets
+    → notes_after setup facts (step_of (Some octets)) ≡ notes_passed outcome → notes_after setup facts (step_of received) ≡ notes_passed outcome
+on_link_notes setup facts received octets outcome some are = ap (λ may. notes_after setup facts (step_of may)) some ∙ are
 
-pub on_link_facts : (setup : Setup) (facts : Facts) (received : Option (List ℕ)) (other : ℕ) (octets : List ℕ) → received ≡ Some octets
-    → facts_after setup facts (step_of (Some octets)) ≡ facts_passed (link_heard setup other octets facts)
-    → facts_after setup facts (step_of received) ≡ facts_passed (link_heard setup other octets facts)
-on_link_facts setup facts received other octets some are = ap (λ may. facts_after setup facts (step_of may)) some ∙ are
+pub on_link_facts : (setup : Setup) (facts : Facts) (received : Option (List ℕ)) (octets : List ℕ) (outcome : Outcome) → received ≡ Some octets
+    → facts_after setup facts (step_of (Some octets)) ≡ facts_passed outcome → facts_after setup facts (step_of received) ≡ facts_passed outcome
+on_link_facts setup facts received octets outcome some are = ap (λ may. facts_after setup facts (step_of may)) some ∙ are
 
 module _ (given : Given) (station : ℕ) (history : List Event) (received : Option (List ℕ)) (own : HaveOwnHandles (setup_at given station) (facts_at given station history))
     (old : is_on_link (facts_at given station history).turn.doing ≡ true → (handle : ℕ) (link : OpenLink) → link_at handle (facts_at given station history).links ≡ Some link
     → IsBegunBefore (number_at station handle history) history) where
   pub phase_call : IsPhaseOf (setup_at given station) (facts_at given station history) received → IsCallOf given station (step_of received) history
   phase_call (IsPlainPhase none plain) = OfNone plain
-  phase_call (IsOnLink other octets some listens heard_is) = by (link_at other (facts_at given station history).links) refl
+  phase_call (IsOnLink other words octets some listens heard_is) = by (link_at other (facts_at given station history).links) refl
     where
-      are : notes_after (setup_at given station) (facts_at given station history) (step_of received) ≡ notes_passed (link_heard (setup_at given station) other octets (facts_at given station history))
-      are = on_link_notes (setup_at given station) (facts_at given station history) received other octets some (ap notes_passed heard_is)
+      heard : Facts
+      heard = worded words (setup_at given station) other (facts_at given station history)
+
+      are : notes_after (setup_at given station) (facts_at given station history) (step_of received)
+          ≡ notes_passed (link_heard (setup_at given station) other octets (worded words (setup_at given station) other (facts_at given station history)))
+      are = on_link_notes (setup_at given station) (facts_at given station history) received octets (link_heard (setup_at given station) other octets heard) some (ap notes_passed heard_is)
 
       by : (found : Option OpenLink) → link_at other (facts_at given station history).links ≡ found → IsCallOf given station (step_of received) history
-      by None is = OfNone (subst (All HasNoData) (sym (are ∙ unfound (setup_at given station) (facts_at given station history) other octets is)) (All-nil HasNoData))
+      by None is =
+          OfNone (subst (All HasNoData) (sym (are ∙ unfound (setup_at given station) heard other octets (worded_here words (setup_at given station) other (facts_at given station history) None is)))
+          (All-nil HasNoData))
       by (Some link) is =
           let setup = setup_at given station in
           let facts = facts_at given station history in
-          let room = has_room setup facts in
-          let slot = facts.turn.slot in
-          let events = events_received other slot room (link_at other facts.links) octets in
-          let handle = handle_is 0 other facts.links link own.handles is in
+          let base = link_worded words setup facts link in
+          let base_is = worded_here words setup other facts (Some link) is in
+          let room = has_room setup heard in
+          let slot = heard.turn.slot in
+          let events = events_received (was_encrypted other heard.view.links) other slot room (link_at other heard.links) octets in
+          let handle = ap (λ (end : EndSetup). end.link.handle) (worded_setup setup facts link words) ∙ handle_is 0 other facts.links link own.handles is in
           let has = old (listens_on_link other facts.turn.doing (listens other ∙ same_number other)) other link is in
           OfLink other has.link has.is_link has.before
           (subst (All (IsOnly other)) (sym are)
-          (All-append (IsOnly other) (notes_taken slot room (link_at other facts.links) octets ++ notes_of_events facts.view events) _
-          (All-append (IsOnly other) (notes_taken slot room (link_at other facts.links) octets) (notes_of_events facts.view events)
-          (subst (λ found. All (IsOnly other) (notes_taken slot room found octets)) (sym is) (only_took slot other room octets link handle))
-          (all_more HasNoData (IsOnly other) (of_no_other other) _ (events_noted HasNoData no_data.feeds facts.view events)))
-          (only_reply (replies_in slot room (link_at other facts.links) octets) other (link_received other room octets facts) (link_receiving other room octets facts link)
-          (received_at other octets room facts link is) (ap (λ (end : EndSetup). end.link.handle) (receiving_setup other room octets facts link) ∙ handle))))
-          (subst (All (OpensNone other)) (sym are) (received_quiet other setup other octets facts))
+          (All-append (IsOnly other) (notes_taken slot room (link_at other heard.links) octets ++ notes_of_events heard.view events) _
+          (All-append (IsOnly other) (notes_taken slot room (link_at other heard.links) octets) (notes_of_events heard.view events)
+          (subst (λ found. All (IsOnly other) (notes_taken slot room found octets)) (sym base_is) (only_took slot other room octets base handle))
+          (all_more HasNoData (IsOnly other) (of_no_other other) _ (events_noted HasNoData no_data.feeds heard.view events)))
+          (only_reply (replies_in slot room (link_at other heard.links) octets) other (link_received other room octets heard) (link_receiving other room octets heard base)
+          (received_at other octets room heard base base_is) (ap (λ (end : EndSetup). end.link.handle) (received_setup_is other room octets heard base) ∙ handle))))
+          (subst (All (OpensNone other)) (sym are) (received_quiet other setup other octets heard))

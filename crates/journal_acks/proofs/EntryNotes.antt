@@ -29,7 +29,6 @@ use Rattle.journal_packets.specs.link_model.Hosts.{asked_unless, is_to_come}
 use Rattle.journal_packets.specs.link_model.Packets.{good_pdu, is_forged}
 use Rattle.journal_packets.specs.link_model.Receiving.{facts_received}
 use Rattle.journal_packets.specs.link_model.Step.{Step, EventEntered, PacketSent, PacketReceived, PduFixed, ProcedureAsked}
-use Rattle.journal_packets.proofs.link_model.KnownEnds.{IsPast, first_past, past_knows, step_past}
 use Rattle.journal_packets.proofs.open_links.Anchors.{IsInPlace, enters, one_more_entered, stays_in_place}
 use Rattle.journal_packets.proofs.controller_model.EndNotes.{received_each, sent_each}
 use Rattle.journal_packets.proofs.controller_model.Entries.{entered_track}
@@ -200,13 +199,13 @@ module _ (handle : ℕ) where
       (silent (entered + 1) (entered + 1) _ refl (quiet_began entry.began))
 
 -- a step that enters no event leaves the number of events and the last anchor
-pub stays_put : (setup : Setup) (facts : Facts) (step : Step) → IsPast setup facts → enters step ≡ false
+pub stays_put : (setup : Setup) (facts : Facts) (step : Step) → enters step ≡ false
     → IsInPlace facts.control.track (facts_after setup facts step).control.track
-stays_put setup facts step p none = stays_in_place setup facts step (past_knows setup facts p).phase none
+stays_put setup facts step none = stays_in_place setup facts step none
 
-step_numbered : (setup : Setup) (facts : Facts) (step : Step) → IsPast setup facts
+step_numbered : (setup : Setup) (facts : Facts) (step : Step)
     → IsNumbered facts.control.track.entered (facts_after setup facts step).control.track.entered (notes_after setup facts step)
-step_numbered setup facts (EventEntered slot) p = by (goes_on facts) refl
+step_numbered setup facts (EventEntered slot) = by (goes_on facts) refl
   where
     entry : EndEntry
     entry = entry_of slot (is_quiet_now facts) (held_of facts.control)
@@ -223,21 +222,21 @@ step_numbered setup facts (EventEntered slot) p = by (goes_on facts) refl
         subst (λ n. IsNumbered before.entered n (event_notes setup.link.handle event entry)) (sym (ap (λ (t : TrackFacts). t.entered) after ∙ more))
         (event_numbered setup.link.handle before.entered event entry number)
     by false goes = silent facts.control.track.entered facts.control.track.entered [] refl tt
-step_numbered setup facts step p =
+step_numbered setup facts step =
     silent facts.control.track.entered (facts_after setup facts step).control.track.entered (notes_after setup facts step)
-    (stays_put setup facts step p refl).entered (quiet_step setup facts step refl)
+    (stays_put setup facts step refl).entered (quiet_step setup facts step refl)
 
-steps_numbered : (setup : Setup) (facts : Facts) (steps : List Step) → IsPast setup facts
+steps_numbered : (setup : Setup) (facts : Facts) (steps : List Step)
     → IsNumbered facts.control.track.entered (fold (facts_after setup) facts steps).control.track.entered (notes_from setup facts steps)
-steps_numbered setup facts [] p = silent facts.control.track.entered facts.control.track.entered [] refl tt
-steps_numbered setup facts (step ∷ steps) p =
+steps_numbered setup facts [] = silent facts.control.track.entered facts.control.track.entered [] refl tt
+steps_numbered setup facts (step ∷ steps) =
     let next = facts_after setup facts step in
     both_numbered facts.control.track.entered next.control.track.entered (fold (facts_after setup) next steps).control.track.entered
-    (notes_after setup facts step) (notes_from setup next steps) (step_numbered setup facts step p) (steps_numbered setup next steps (step_past setup facts step p))
+    (notes_after setup facts step) (notes_from setup next steps) (step_numbered setup facts step) (steps_numbered setup next steps)
 
 pub end_numbered : (setup : Setup) (past : List Step) → IsNumbered 0 (facts_of setup past).control.track.entered (notes_of setup past)
 unfolding facts_of notes_of
-end_numbered setup past = steps_numbered setup (first_facts setup) past (first_past setup)
+end_numbered setup past = steps_numbered setup (first_facts setup) past
 
 -- ---- their channels
 
@@ -285,9 +284,9 @@ event_channel handle before event entry =
     ∙ (enters_none done (quiet_done handle entry.done)).channel (fold channel_noted before (applied ++ enter))
     ∙ fold-append channel_noted before applied enter
 
-step_channel : (setup : Setup) (facts : Facts) (step : Step) → IsPast setup facts
+step_channel : (setup : Setup) (facts : Facts) (step : Step)
     → fold channel_noted (channel_last facts) (notes_after setup facts step) ≡ channel_last (facts_after setup facts step)
-step_channel setup facts (EventEntered slot) p = by (goes_on facts) refl
+step_channel setup facts (EventEntered slot) = by (goes_on facts) refl
   where
     entry : EndEntry
     entry = entry_of slot (is_quiet_now facts) (held_of facts.control)
@@ -301,20 +300,20 @@ step_channel setup facts (EventEntered slot) p = by (goes_on facts) refl
         let more = ap (λ (t : TrackFacts). t.entered) (entered_track slot facts goes) ∙ one_more_entered before in
         event_channel setup.link.handle (channel_last facts) event entry ∙ ap (λ n. channel_if n event.channel) (one_more before.entered ∙ sym more)
     by false goes = refl
-step_channel setup facts step p =
+step_channel setup facts step =
     (enters_none (notes_after setup facts step) (quiet_step setup facts step refl)).channel (channel_last facts)
-    ∙ (λ i. channel_if (sym (stays_put setup facts step p refl).entered i) (sym (channel_stays setup facts step refl) i))
+    ∙ (λ i. channel_if (sym (stays_put setup facts step refl).entered i) (sym (channel_stays setup facts step refl) i))
 
-steps_channel : (setup : Setup) (facts : Facts) (steps : List Step) → IsPast setup facts
+steps_channel : (setup : Setup) (facts : Facts) (steps : List Step)
     → fold channel_noted (channel_last facts) (notes_from setup facts steps) ≡ channel_last (fold (facts_after setup) facts steps)
-steps_channel setup facts [] p = refl
-steps_channel setup facts (step ∷ steps) p =
+steps_channel setup facts [] = refl
+steps_channel setup facts (step ∷ steps) =
     let next = facts_after setup facts step in
     let more = notes_from setup next steps in
     fold-append channel_noted (channel_last facts) (notes_after setup facts step) more
-    ∙ ap (λ may. fold channel_noted may more) (step_channel setup facts step p) ∙ steps_channel setup next steps (step_past setup facts step p)
+    ∙ ap (λ may. fold channel_noted may more) (step_channel setup facts step) ∙ steps_channel setup next steps
 
 -- what an end notes has the channel of the event that it entered last
 pub past_channel : (setup : Setup) (past : List Step) → fold channel_noted None (notes_of setup past) ≡ channel_last (facts_of setup past)
 unfolding facts_of notes_of
-past_channel setup past = steps_channel setup (first_facts setup) past (first_past setup)
+past_channel setup past = steps_channel setup (first_facts setup) past

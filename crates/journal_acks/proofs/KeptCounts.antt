@@ -7,7 +7,10 @@ use Rattle.ble_base.specs.Side.{other_side}
 use Rattle.ble_base.specs.declared.notes.Note.{Note}
 use Rattle.ble_base.specs.declared.notes.Note.TheVariants.{Took}
 use Rattle.ble_base.specs.declared.roles.Side.{Side}
+use Rattle.journal_packets.specs.controller_model.host_view.Links.{was_encrypted}
 use Rattle.journal_packets.proofs.link_model.Hearing.{IsHeardWhole}
+use Rattle.journal_packets.specs.link_model.Acknowledgement.{Acknowledgement}
+use Rattle.journal_packets.specs.link_model.Setup.{Setup as EndSetup}
 use Rattle.journal_packets.specs.link_model.Step.{PacketReceived, PacketSent}
 use Rattle.journal_packets.specs.open_links.OpenLinks.{OpenLink, link_after, link_at}
 use Rattle.journal_packets.proofs.open_links.Handles.{handle_is}
@@ -16,7 +19,7 @@ use Rattle.journal_packets.specs.controller_model.declared.doing.Turn.{Turn}
 use Rattle.journal_packets.specs.controller_model.Step.{Step, HostOctet, TurnBegins, TurnEnds}
 use Rattle.journal_packets.specs.controller_model.Facts.{Setup, Facts, Sends}
 use Rattle.journal_packets.specs.controller_model.Events.{notes_of_events}
-use Rattle.journal_packets.specs.controller_model.Heard.{events_received, has_room, link_heard, link_received, notes_taken, replies_in, reply_if}
+use Rattle.journal_packets.specs.controller_model.Heard.{events_received, has_room, heard as phase_heard, link_heard, link_received, notes_taken, replies_in, reply_if}
 use Rattle.journal_packets.specs.controller_model.Outcome.{facts_passed, notes_passed}
 use Rattle.journal_packets.specs.controller_model.Packets.{notes_doing}
 use Rattle.journal_packets.proofs.controller_model.Places.{link_receiving}
@@ -24,13 +27,13 @@ use Rattle.journal_packets.specs.controller_model.Side.{facts_after, notes_after
 use Rattle.radio_replay.specs.declared.fates.Fate.{Fate}
 use Rattle.link_calls.specs.run_model.Due.{packet_in}
 use Rattle.link_calls.specs.run_model.Feeding.{AreDistinct}
-use Rattle.link_calls.specs.run_model.History.{Event, TurnBegan, HostFed, Transmitted, has_received, packet_received, turns_begun}
+use Rattle.link_calls.specs.run_model.History.{Event, TurnBegan, HostFed, Transmitted, packet_received, turns_begun}
 use Rattle.link_calls.specs.run_model.Journal.{side_of}
 use Rattle.link_calls.specs.run_model.LinkEnds.{HaveAddresses}
 use Rattle.link_calls.specs.run_model.Links.{is_advertising}
 use Rattle.link_calls.specs.run_model.Run.{Given, after_call, after_feed, after_octets, facts_at, hearings_of, octets_left, setup_at, step_of, use_at}
 use Rattle.link_calls.proofs.run_model.Calls.{same_station, turns_called}
-use Rattle.link_calls.proofs.run_model.LinkEnds.{received_by, received_event}
+use Rattle.link_calls.proofs.run_model.LinkEnds.{received_by, received_event, received_own}
 use Rattle.link_calls.proofs.run_model.Stations.{is_in, among, in_more_other, in_more_same, not_before}
 use Rattle.link_calls.proofs.run_model.Walk.{Place, NoTurn, AtFeeds, AtBegins, AfterPhases, AtPackets, AtListening, AtEnds, IsKept}
 use Rattle.journal_packets.proofs.run_laws.Agreed.{ack_of}
@@ -50,19 +53,20 @@ use Rattle.journal_acks.proofs.Acks.{link_sends}
 use Rattle.journal_acks.proofs.AirCounts.{advertises, any_sending, first_aired, packet_counted, packet_to_take}
 use Rattle.link_calls.proofs.CallNotes.{HasNoData, TakesNone, all_more, begin_noted, doing_noted, end_noted, events_noted, no_data, none_taken, octet_noted}
 use Rattle.journal_acks.proofs.Counting.{AreCountedSo, AreKnown, AreToTake, IsEndCounted, ahead_if, alike_counted, apart_numbers, counted_call, counted_event, counted_same, from_plain, from_sent, moved, none_to_take, plain, take_call, ack_taking}
-use Rattle.journal_acks.proofs.DataCalls.{begin_call, on_link_facts, on_link_notes, phase_call, unfound}
+use Rattle.journal_acks.proofs.DataCalls.{begin_call, on_link_facts, on_link_notes, phase_call, taken_at, unfound}
 use Rattle.link_calls.proofs.CallNotes.{OpensNone, opening_none}
 use Rattle.journal_acks.proofs.Exchanging.{exchange_at, exchange_called, exchange_took, feed_quiet, number_at, number_called, number_quiet, turn_quiet}
 use Rattle.journal_acks.proofs.FirstCounts.{AreFirst, IsCallOf, IsFirst, OfNone, first_called, first_event, first_event_at, first_of}
 use Rattle.link_calls.specs.Phases.{HasPassed, IsNew, Stays, Takes}
-use Rattle.link_calls.proofs.LinkCalls.{IsOpenedNow, base_ack, begins_under, passes_under, phase_quiet, receiving_ack}
+use Rattle.link_calls.proofs.LinkCalls.{IsOpenedNow, base_ack, begins_under, passes_under, phase_quiet}
 use Rattle.link_calls.specs.Uses.{listens_under, sends_under}
 use Rattle.journal_acks.proofs.PhaseNotes.{IsOnLink, IsPhaseOf, IsPlainPhase, IsTakenSo, Noted, Unnoted, phase_of, same_but, taken_so}
 use Rattle.journal_acks.proofs.SentLines.{air_line, feed_line, turn_line}
 use Rattle.journal_acks.proofs.Standing.{PhasedBy, fresh_counted, last_phase, phased_at, sending_on_link, silent_sends}
-use Rattle.journal_acks.proofs.TwoStations.{IsOfTwo, air_quiet, hearing_of, one_hearing, other_is, own_differs, own_received, side_same}
+use Rattle.journal_acks.proofs.TwoStations.{IsOfTwo, air_quiet, hearing_of, one_hearing, other_is, side_same}
 use Rattle.link_calls.proofs.UnderHandles.{end_under, octet_under}
 use Rattle.link_calls.specs.Turns.{sent_if}
+use Rattle.journal_acks.proofs.Worded.{link_worded, received_ack_is, worded, worded_ack, worded_heard, worded_here, worded_setup, worded_taking}
 
 -- a station still has to transmit what it wants to
 abbrev pub unsent : Place → ℕ → Bool
@@ -323,100 +327,156 @@ module _ (given : Given) (Q : Place → List Event → Type 0) (known : AreKnown
   abbrev room : Bool
   room = has_room setup facts
 
-  abbrev rest_heard : ℕ → List ℕ → List Note
-  rest_heard other octets =
-      notes_of_events facts.view (events_received other facts.turn.slot room (link_at other facts.links) octets)
-      ++ notes_doing (reply_if (replies_in facts.turn.slot room (link_at other facts.links) octets) other) (link_received other room octets facts)
+  abbrev heard_as : Bool → ℕ → Facts
+  heard_as words other = worded words setup other facts
 
-  notes_rest : (other : ℕ) (octets : List ℕ)
-      → notes_passed (link_heard setup other octets facts) ≡ notes_taken facts.turn.slot room (link_at other facts.links) octets ++ rest_heard other octets
-  notes_rest other octets = append_assoc (notes_taken facts.turn.slot room (link_at other facts.links) octets) _ _
+  abbrev rest_heard : Bool → ℕ → List ℕ → List Note
+  rest_heard words other octets =
+      notes_of_events facts.view (events_received (was_encrypted other facts.view.links) other facts.turn.slot room (link_at other (heard_as words other).links) octets)
+      ++ notes_doing (reply_if (replies_in facts.turn.slot room (link_at other (heard_as words other).links) octets) other) (link_received other room octets (heard_as words other))
 
-  rest_takes : (other : ℕ) (octets : List ℕ) → All TakesNone (rest_heard other octets)
-  rest_takes other octets =
-      All-append TakesNone _ _ (events_noted TakesNone none_taken.starts.feeds facts.view (events_received other facts.turn.slot room (link_at other facts.links) octets))
-      (doing_noted TakesNone (λ one number llid body. refl) (reply_if (replies_in facts.turn.slot room (link_at other facts.links) octets) other)
-      (link_received other room octets facts))
+  notes_rest : (words : Bool) (other : ℕ) (octets : List ℕ) → notes_passed (link_heard setup other octets (heard_as words other))
+      ≡ notes_taken facts.turn.slot room (link_at other (heard_as words other).links) octets ++ rest_heard words other octets
+  notes_rest words other octets = append_assoc (notes_taken facts.turn.slot room (link_at other (heard_as words other).links) octets) _ _
+
+  rest_takes : (words : Bool) (other : ℕ) (octets : List ℕ) → All TakesNone (rest_heard words other octets)
+  rest_takes words other octets =
+      All-append TakesNone _ _
+      (events_noted TakesNone none_taken.starts.feeds facts.view (events_received (was_encrypted other facts.view.links) other facts.turn.slot room (link_at other (heard_as words other).links) octets))
+      (doing_noted TakesNone (λ one number llid body. refl) (reply_if (replies_in facts.turn.slot room (link_at other (heard_as words other).links) octets) other)
+      (link_received other room octets (heard_as words other)))
+
+  -- the notes of a link that hears a packet
+  notes_here : (words : Bool) (other : ℕ) (octets : List ℕ) (base : OpenLink) → link_at other facts.links ≡ Some base
+      → notes ≡ notes_passed (link_heard setup other octets (heard_as words other))
+      → notes ≡ notes_taken facts.turn.slot room (Some (link_worded words setup facts base)) octets ++ rest_heard words other octets
+  notes_here words other octets base was are_notes =
+      are_notes ∙ notes_rest words other octets
+      ∙ ap (λ may. notes_taken facts.turn.slot room may octets ++ rest_heard words other octets) (worded_here words setup other facts (Some base) was)
+
+  own_handle : (words : Bool) (other : ℕ) (base : OpenLink) → link_at other facts.links ≡ Some base → (link_worded words setup facts base).setup.link.handle ≡ other
+  own_handle words other base was =
+      ap (λ (end : EndSetup). end.link.handle) (worded_setup setup facts base words) ∙ handle_is 0 other facts.links base station_is.own.handles was
 
   -- what is taken on another link
-  other_taken : (number other : ℕ) (two : OpenLink) (octets : List ℕ) → link_at other facts.links ≡ Some two → (number_at station other history == number) ≡ false → (rest : List Note)
+  other_taken : (number other : ℕ) (two : OpenLink) (octets : List ℕ) → two.setup.link.handle ≡ other → (number_at station other history == number) ≡ false → (rest : List Note)
       → notes ≡ notes_taken facts.turn.slot (has_room setup facts) (Some two) octets ++ rest → All TakesNone rest → IsTakenSo facts.turn.slot octets (has_room setup facts) two
       → exchange_at number after ≡ exchange_at number history
-  other_taken number other two octets found apart rest are_notes none (Unnoted nothing same) =
+  other_taken number other two octets own apart rest are_notes none (Unnoted nothing same) =
       exchange_called given number station (step_of received) history
       (subst (All TakesNone) (sym are_notes) (All-append TakesNone (notes_taken facts.turn.slot (has_room setup facts) (Some two) octets) rest nothing none))
-  other_taken number other two octets found apart rest are_notes none (Noted earlier later count llid body noted first opens last same) =
-      let own = handle_is 0 other facts.links two station_is.own.handles found in
+  other_taken number other two octets own apart rest are_notes none (Noted earlier later count llid body noted first opens last same) =
       exchange_took given number station (step_of received) history two.setup.link.handle count llid body earlier (later ++ rest)
       (are_notes ∙ ap (λ xs. xs ++ rest) noted ∙ append_assoc earlier (Took two.setup.link.handle count llid (record { items = body }) ∷ later) rest) first (opens two.setup.link.handle)
       (All-append TakesNone later rest last none)
       ∙ ap (λ b. if b then after_taking (side_of station) (exchange_at number history) else exchange_at number history) (ap (λ n. number_at station n history == number) own ∙ apart)
 
-  other_heard : (handle : ℕ) (link : OpenLink) → link_at handle facts.links ≡ Some link → (other : ℕ) (octets : List ℕ) → (other == handle) ≡ false
-      → next ≡ facts_passed (link_heard setup other octets facts) → notes ≡ notes_passed (link_heard setup other octets facts) → (found : Option OpenLink) → link_at other facts.links ≡ found
+  other_heard : (handle : ℕ) (link : OpenLink) → link_at handle facts.links ≡ Some link → (other : ℕ) (words : Bool) (octets : List ℕ) → (other == handle) ≡ false
+      → notes ≡ notes_passed (link_heard setup other octets (heard_as words other)) → (found : Option OpenLink) → link_at other facts.links ≡ found
       → exchange_at (number_at station handle history) after ≡ exchange_at (number_at station handle history) history
-  other_heard handle link at other octets differs heard_is are_notes None absent =
+  other_heard handle link at other words octets differs are_notes None absent =
       exchange_called given (number_at station handle history) station (step_of received) history
-      (subst (All TakesNone) (sym (are_notes ∙ unfound setup facts other octets absent)) (All-nil TakesNone))
-  other_heard handle link at other octets differs heard_is are_notes (Some two) found =
+      (subst (All TakesNone) (sym (are_notes ∙ unfound setup (heard_as words other) other octets (worded_here words setup other facts None absent))) (All-nil TakesNone))
+  other_heard handle link at other words octets differs are_notes (Some two) found =
       let apart = apart_numbers given Q known (AtListening phases done (station ∷ left)) history is.known station other handle two link in_it found at differs in
-      other_taken (number_at station handle history) other two octets found apart (rest_heard other octets)
-      (are_notes ∙ notes_rest other octets ∙ ap (λ may. notes_taken facts.turn.slot room may octets ++ rest_heard other octets) found)
-      (rest_takes other octets) (taken_so facts.turn.slot octets room two)
+      let base = link_worded words setup facts two in
+      other_taken (number_at station handle history) other base octets (own_handle words other two found) apart (rest_heard words other octets)
+      (notes_here words other octets two found are_notes) (rest_takes words other octets) (taken_so facts.turn.slot octets room base)
 
   -- the counts of a link on which nothing was received stay
   unmoved : (handle : ℕ) (link : OpenLink) → link_at handle facts.links ≡ Some link → (listens_under handle facts.turn.doing ≡ true → received ≡ None)
       → IsPhaseOf setup facts received → exchange_at (number_at station handle history) after ≡ exchange_at (number_at station handle history) history
   unmoved handle link at nothing (IsPlainPhase none plain) =
       exchange_called given (number_at station handle history) station (step_of received) history (all_more HasNoData TakesNone (λ note has. has.takes) notes plain)
-  unmoved handle link at nothing (IsOnLink other octets some listens heard_is) =
+  unmoved handle link at nothing (IsOnLink other words octets some listens heard_is) =
       let differs : (other == handle) ≡ false = false_from_ne_true (other == handle) (λ same.
       let h : Some octets ≡ None = sym some ∙ nothing (listens handle ∙ same) in absurd cc) in
-      other_heard handle link at other octets differs (on_link_facts setup facts received other octets some (ap facts_passed heard_is))
-      (on_link_notes setup facts received other octets some (ap notes_passed heard_is)) (link_at other facts.links) refl
+      other_heard handle link at other words octets differs
+      (on_link_notes setup facts received octets (link_heard setup other octets (heard_as words other)) some (ap notes_passed heard_is)) (link_at other facts.links) refl
 
   -- what it takes, it takes as it is noted
-  taken_by : (handle : ℕ) (base : OpenLink) (octets : List ℕ) → link_at handle facts.links ≡ Some base → received ≡ Some octets → listens_under handle facts.turn.doing ≡ true
-      → (rest : List Note) → notes ≡ notes_taken facts.turn.slot room (Some base) octets ++ rest → All TakesNone rest → IsTakenSo facts.turn.slot octets room base
+  taken_by : (words : Bool) (handle : ℕ) (base : OpenLink) (octets : List ℕ) → link_at handle facts.links ≡ Some base → received ≡ Some octets → listens_under handle facts.turn.doing ≡ true
+      → (rest : List Note) → notes ≡ notes_taken facts.turn.slot room (Some (link_worded words setup facts base)) octets ++ rest → All TakesNone rest
+      → IsTakenSo facts.turn.slot octets room (link_worded words setup facts base)
       → IsCounted (exchange_at (number_at station handle history) after (side_of station)) (ack_of (link_after (PacketReceived facts.turn.slot octets room) base))
-  taken_by handle base octets was some on rest are_notes none (Unnoted nothing same) =
+  taken_by words handle base octets was some on rest are_notes none (Unnoted nothing same) =
       let number = number_at station handle history in
       let end = exchange_at number history (side_of station) in
-      let quiet = subst (All TakesNone) (sym are_notes) (All-append TakesNone (notes_taken facts.turn.slot room (Some base) octets) rest nothing none) in
-      subst (λ e. IsCounted e (ack_of (link_after (PacketReceived facts.turn.slot octets room) base)))
+      let slot = facts.turn.slot in
+      let quiet = subst (All TakesNone) (sym are_notes) (All-append TakesNone (notes_taken slot room (Some (link_worded words setup facts base)) octets) rest nothing none) in
+      let same_base : ack_of (link_after (PacketReceived slot octets room) base) ≡ ack_taking true (Some octets) slot base =
+      sym (worded_heard setup facts base words slot octets room) ∙ same ∙ worded_taking setup facts base words slot octets in
+      subst (λ e. IsCounted e (ack_of (link_after (PacketReceived slot octets room) base)))
       (sym (ap (λ (ends : Side → Exchanged). ends (side_of station)) (exchange_called given number station (step_of received) history quiet)))
-      (subst (IsCounted end) (sym same) (was_taking received octets handle facts.turn base end on some (before_call handle base was)))
-  taken_by handle base octets was some on rest are_notes none (Noted earlier later count llid body noted first opens last same) =
+      (subst (IsCounted end) (sym same_base) (was_taking received octets handle facts.turn base end on some (before_call handle base was)))
+  taken_by words handle base octets was some on rest are_notes none (Noted earlier later count llid body noted first opens last same) =
       let number = number_at station handle history in
       let end = exchange_at number history (side_of station) in
       let from = exchange_at number history (other_side (side_of station)) in
-      let notes_are = are_notes ∙ ap (λ xs. xs ++ rest) noted ∙ append_assoc earlier (Took base.setup.link.handle count llid (record { items = body }) ∷ later) rest in
-      let own = handle_is 0 handle facts.links base station_is.own.handles was in
-      subst (λ e. IsCounted e (ack_of (link_after (PacketReceived facts.turn.slot octets room) base)))
-      (sym (ap (λ (ends : Side → Exchanged). ends (side_of station)) (exchange_took given number station (step_of received) history base.setup.link.handle count llid body earlier (later ++ rest) notes_are first
-      (opens base.setup.link.handle) (All-append TakesNone later rest last none)
+      let slot = facts.turn.slot in
+      let named = (link_worded words setup facts base).setup.link.handle in
+      let notes_are = are_notes ∙ ap (λ xs. xs ++ rest) noted ∙ append_assoc earlier (Took named count llid (record { items = body }) ∷ later) rest in
+      let more : length (ack_of (link_after (PacketReceived slot octets room) base)).accepted ≡ length (ack_of base).accepted + 1 =
+      ap (λ (a : Acknowledgement). length a.accepted) (sym (worded_heard setup facts base words slot octets room)) ∙ same
+      ∙ ap (λ (a : Acknowledgement). length a.accepted + 1) (worded_ack setup facts base words) in
+      subst (λ e. IsCounted e (ack_of (link_after (PacketReceived slot octets room) base)))
+      (sym (ap (λ (ends : Side → Exchanged). ends (side_of station)) (exchange_took given number station (step_of received) history named count llid body earlier (later ++ rest) notes_are first
+      (opens named) (All-append TakesNone later rest last none)
       ∙ ap (λ b. if b then after_taking (side_of station) (exchange_at number history) else exchange_at number history)
-      (ap (λ n. number_at station n history == number) own ∙ same_station number))
+      (ap (λ n. number_at station n history == number) (own_handle words handle base was) ∙ same_station number))
       ∙ ap (λ b. if b then with_taken from end else end) (side_same station)))
-      (noted_counted facts.turn.slot octets room base end from (is.to_take station handle base in_it was octets on some facts.turn.slot room same ∙ sym same)
+      (noted_counted slot octets room base end from (is.to_take station handle base in_it was octets on some slot room more ∙ sym more)
       (was_taking received octets handle facts.turn base end on some (before_call handle base was)))
 
-  -- the notes of what it takes, and of what it sends then
-  taken_notes : (handle : ℕ) (base : OpenLink) (octets : List ℕ) → link_at handle facts.links ≡ Some base → received ≡ Some octets → listens_under handle facts.turn.doing ≡ true
-      → IsPhaseOf setup facts received → IsCounted (exchange_at (number_at station handle history) after (side_of station)) (ack_of (link_after (PacketReceived facts.turn.slot octets room) base))
-  taken_notes handle base octets was some on (IsPlainPhase none plain) = absurd (let h : Some octets ≡ None = sym some ∙ none handle on in absurd cc)
-  taken_notes handle base octets was some on (IsOnLink other heard some_too listens heard_is) =
-      let same = eqb-true other handle (sym (listens handle) ∙ on) in
-      let told : Some heard ≡ Some octets = sym some_too ∙ some in
-      let equal : heard ≡ octets = cc in
-      let are_notes = on_link_notes setup facts received other heard some_too (ap notes_passed heard_is) in
-      let here : link_at other facts.links ≡ Some base = ap (λ n. link_at n facts.links) same ∙ was in
-      taken_by handle base octets was some on (rest_heard other octets)
-      (are_notes ∙ notes_rest other heard ∙ (λ i. notes_taken facts.turn.slot room (here i) (equal i) ++ rest_heard other (equal i)))
-      (rest_takes other octets) (taken_so facts.turn.slot octets room base)
+  -- a link that hears a packet, as it is after the call
+  pub link_then : (words : Bool) (other : ℕ) (octets : List ℕ) (link base : OpenLink) → received ≡ Some octets
+      → phase_heard setup facts.turn.doing octets facts ≡ link_heard setup other octets (heard_as words other)
+      → link_at other (facts_at given station after).links ≡ Some link → link_at other facts.links ≡ Some base
+      → link ≡ sent_if (sends_under other next.turn.doing) facts.turn.slot (link_receiving other room octets (heard_as words other) (link_worded words setup facts base))
+  link_then words other octets link base some heard_is at was =
+      let outcome = link_heard setup other octets (heard_as words other) in
+      let taken = link_receiving other room octets (heard_as words other) (link_worded words setup facts base) in
+      let passes = on_link_facts setup facts received octets outcome some (ap facts_passed heard_is) in
+      let now : Some link ≡ Some (sent_if (sends_under other outcome.next) facts.turn.slot taken) =
+      sym (own_at given station (step_of received) history other link at) ∙ ap (λ (f : Facts). link_at other f.links) passes
+      ∙ taken_at setup (heard_as words other) other octets (link_worded words setup facts base) (worded_here words setup other facts (Some base) was) in
+      let one : link ≡ sent_if (sends_under other outcome.next) facts.turn.slot taken = cc in
+      one ∙ ap (λ b. sent_if b facts.turn.slot taken) (ap (λ (f : Facts). sends_under other f.turn.doing) (sym passes))
+
+  takes : (words : Bool) (other : ℕ) (octets : List ℕ) (link base : OpenLink) → received ≡ Some octets → listens_under other facts.turn.doing ≡ true
+      → phase_heard setup facts.turn.doing octets facts ≡ link_heard setup other octets (heard_as words other)
+      → link_at other (facts_at given station after).links ≡ Some link → link_at other facts.links ≡ Some base → number_at station other after ≡ number_at station other history
+      → IsEndCounted true (packet_received station after) other (facts_at given station after).turn link (exchange_at (number_at station other after) after (side_of station))
+  takes words other octets link base some on heard_is at was number =
+      let end = exchange_at (number_at station other history) after (side_of station) in
+      let sends = sends_under other next.turn.doing in
+      let slot = facts.turn.slot in
+      let heard_base = link_worded words setup facts base in
+      let taken = link_receiving other room octets (heard_as words other) heard_base in
+      let are_notes = on_link_notes setup facts received octets (link_heard setup other octets (heard_as words other)) some (ap notes_passed heard_is) in
+      let counted = taken_by words other base octets was some on (rest_heard words other octets) (notes_here words other octets base was are_notes)
+      (rest_takes words other octets) (taken_so slot octets room heard_base) in
+      moved other link true true (packet_received station after) (packet_received station after) next.turn (facts_at given station after).turn end
+      (exchange_at (number_at station other after) after (side_of station)) refl refl
+      (ap (λ (f : Facts). f.turn) (own_facts given station (step_of received) history)) (ap (λ n. exchange_at n after (side_of station)) number)
+      (from_sent sends (packet_received station after) other next.turn link end refl (λ listens. none_after)
+      (subst (λ l. IsCounted (ahead_if sends end) (ack_of l)) (sym (link_then words other octets link base some heard_is at was))
+      (sent_counted sends slot taken end
+      (subst (IsCounted end) (sym (received_ack_is other room octets (heard_as words other) heard_base ∙ worded_heard setup facts base words slot octets room)) counted))))
+
+  taken_own : (handle : ℕ) (link base : OpenLink) (octets : List ℕ) → received ≡ Some octets → listens_under handle facts.turn.doing ≡ true
+      → link_at handle (facts_at given station after).links ≡ Some link → link_at handle facts.links ≡ Some base → number_at station handle after ≡ number_at station handle history
+      → IsPhaseOf setup facts received
+      → IsEndCounted true (packet_received station after) handle (facts_at given station after).turn link (exchange_at (number_at station handle after) after (side_of station))
+  taken_own handle link base octets some on at was number (IsPlainPhase none plain) = absurd (let h : Some octets ≡ None = sym some ∙ none handle on in absurd cc)
+  taken_own handle link base octets some on at was number (IsOnLink other words heard_octets some_too listens heard_is) =
+      subst (λ n. link_at n (facts_at given station after).links ≡ Some link → link_at n facts.links ≡ Some base → number_at station n after ≡ number_at station n history
+      → IsEndCounted true (packet_received station after) n (facts_at given station after).turn link (exchange_at (number_at station n after) after (side_of station)))
+      (eqb-true other handle (sym (listens handle) ∙ on))
+      (takes words other heard_octets link base some_too (listens other ∙ same_station other) heard_is) at was number
 
   passed : (handle : ℕ) (link : OpenLink) → link_at handle (facts_at given station after).links ≡ Some link → number_at station handle after ≡ number_at station handle history
-      → HasPassed facts room received handle next.turn.doing link
+      → HasPassed setup facts room received handle next.turn.doing link
       → IsEndCounted true (packet_received station after) handle (facts_at given station after).turn link (exchange_at (number_at station handle after) after (side_of station))
   passed handle link at number (IsNew end made opened off) = fresh handle link at (ap (λ (l : OpenLink). l.setup.opened) made ∙ opened)
   passed handle link at number (Stays was none nothing listened) =
@@ -426,16 +486,7 @@ module _ (given : Given) (Q : Place → List Event → Type 0) (known : AreKnown
       (from_plain true (packet_received station after) handle next.turn link end none (λ listens. none_after)
       (was_plain received handle facts.turn link end nothing (before_call handle link was)))
   passed handle link at number (Takes base octets was some on same) =
-      let end = exchange_at (number_at station handle history) after (side_of station) in
-      let sends = sends_under handle next.turn.doing in
-      let taken = taken_notes handle base octets was some on (phase_of setup facts received) in
-      moved handle link true true (packet_received station after) (packet_received station after) next.turn (facts_at given station after).turn end
-      (exchange_at (number_at station handle after) after (side_of station)) refl refl
-      (ap (λ (f : Facts). f.turn) (own_facts given station (step_of received) history)) (ap (λ n. exchange_at n after (side_of station)) number)
-      (from_sent sends (packet_received station after) handle next.turn link end refl (λ listens. none_after)
-      (subst (λ l. IsCounted (ahead_if sends end) (ack_of l)) (sym same)
-      (sent_counted sends facts.turn.slot (link_receiving handle room octets facts base) end
-      (subst (IsCounted end) (sym (receiving_ack handle room octets facts base)) taken))))
+      taken_own handle link base octets some on at was number (phase_of setup facts received)
 
   pub passes_own : (handle : ℕ) (link : OpenLink) → link_at handle (facts_at given station after).links ≡ Some link
       → IsEndCounted true (packet_received station after) handle (facts_at given station after).turn link (exchange_at (number_at station handle after) after (side_of station))
@@ -478,10 +529,8 @@ module _ (whole : IsHeardWhole) (given : Given) (Q : Place → List Event → Ty
   packet_silent phases done left station channel octets fates history in_it silent = λ other sender is_other is_sender differs out.
       let apart : (sender == station) ≡ false = later_sender sender done station out (sender == station) refl in
       let one = other_is given are_two sender station is_sender in_it (differs_back sender station apart) ∙ sym (other_is given are_two sender other is_sender is_other differs) in
-      received_event other history (Transmitted station channel octets (hearings_of given fates station channel octets history))
-      ∙ ap (λ xs. if has_received other xs then Some octets else packet_received other history) (one_hearing given are_two fates station channel octets history in_it)
-      ∙ ap (λ b. if b then Some octets else packet_received other history)
-      (ap (λ n. has_received n (hearing_of given fates station channel octets history ∷ [])) (sym one) ∙ own_received station (hearing_of given fates station channel octets history) (own_differs station))
+      subst (λ n. packet_received n (history ++ Transmitted station channel octets (hearings_of given fates station channel octets history) ∷ []) ≡ packet_received n history) one
+      (received_own given fates station channel octets history)
       ∙ silent other sender is_other is_sender differs (not_in_more sender done station out (sender == station) refl)
 
   -- a packet of a link is sent in a turn after that of its CONNECT_IND

@@ -12,15 +12,15 @@ use Rattle.journal_packets.specs.link_model.Controls.{pdu_fixed}
 use Rattle.journal_packets.specs.link_model.Sending.{sent_notes_if}
 use Rattle.journal_packets.specs.link_model.Facts.{Facts as EndFacts}
 use Rattle.journal_packets.proofs.link_model.Hearing.{IsHeardWhole}
-use Rattle.journal_packets.specs.link_model.Step.{PacketSent}
-use Rattle.journal_packets.specs.open_links.OpenLinks.{OpenLink, facts_in, link_at}
+use Rattle.journal_packets.specs.link_model.Step.{PacketReceived, PacketSent}
+use Rattle.journal_packets.specs.open_links.OpenLinks.{OpenLink, facts_in, link_after, link_at}
 use Rattle.journal_packets.proofs.open_links.Handles.{handle_is}
 use Rattle.journal_packets.specs.controller_model.declared.doing.Doing.{Doing}
 use Rattle.journal_packets.specs.controller_model.declared.doing.Doing.TheVariants.{Rests}
 use Rattle.journal_packets.specs.controller_model.Step.{Step, HostOctet, TurnBegins, TurnEnds}
 use Rattle.journal_packets.specs.controller_model.Facts.{Setup, Facts}
-use Rattle.journal_packets.specs.controller_model.Heard.{has_room, link_heard, link_received, replies_in, reply_if}
-use Rattle.journal_packets.specs.controller_model.Outcome.{Outcome, notes_passed}
+use Rattle.journal_packets.specs.controller_model.Heard.{has_room, heard as phase_heard, link_heard, link_received, replies_in, reply_if}
+use Rattle.journal_packets.specs.controller_model.Outcome.{Outcome, facts_passed, notes_passed}
 use Rattle.journal_packets.specs.controller_model.Packets.{notes_doing}
 use Rattle.journal_packets.specs.controller_model.Radio.{outcome_begun}
 use Rattle.journal_packets.specs.controller_model.Side.{facts_after, notes_after}
@@ -44,23 +44,24 @@ use Rattle.journal_packets.specs.Belonging.{is_side}
 use Rattle.journal_acks.specs.Carried.{SentLine, pdu_carried}
 use Rattle.link_calls.proofs.CallNotes.{HasNoData, SendsNone, all_more, begin_noted, end_noted, no_data, notes_starting, octet_noted, start_noted}
 use Rattle.journal_acks.proofs.Counting.{AreCountedSo, AreKnown, HaveOwnNumbers, apart_numbers, facts_event, plain}
-use Rattle.journal_acks.proofs.DataCalls.{on_link_notes, own_begun, received_at, unfound}
+use Rattle.journal_acks.proofs.DataCalls.{on_link_facts, on_link_notes, own_begun, received_at, unfound}
 use Rattle.link_calls.proofs.CallNotes.{OpensNone, opening_none}
 use Rattle.journal_acks.proofs.Exchanging.{exchange_at, number_at, number_called, number_other, number_quiet, number_sent}
 use Rattle.journal_acks.proofs.FirstCounts.{first_called, first_of}
 use Rattle.link_calls.specs.Ranges.{HasRanges}
 use Rattle.link_calls.proofs.InRange.{ranges_before}
 use Rattle.link_calls.proofs.Pieces.{fixed_whole}
-use Rattle.journal_acks.proofs.KeptCounts.{AreCountedAt, before_call, call_is, counts_kept, own_at, phased, station_is, was_taking}
-use Rattle.link_calls.proofs.LinkCalls.{HasBegun, IsOpenedNow, base_ack, begins_under, begun_before, passes_under, phase_quiet, received_noted, receiving_ack, receiving_setup, taking_opens, taking_sends}
+use Rattle.journal_acks.proofs.KeptCounts.{AreCountedAt, before_call, call_is, counts_kept, link_then, own_at, phased, station_is, was_taking}
+use Rattle.link_calls.proofs.LinkCalls.{HasBegun, IsOpenedNow, base_ack, begins_under, begun_before, passes_under, phase_quiet, received_noted, taking_opens, taking_sends}
 use Rattle.link_calls.specs.Phases.{HasPassed, IsNew, Stays, Takes}
 use Rattle.link_calls.specs.Uses.{listens_under, sends_under}
 use Rattle.journal_acks.proofs.PhaseNotes.{IsOnLink, IsPhaseOf, IsPlainPhase, HasSentSame, SendsFrom, SendsNothing, SendsOne, doing_notes, notes_when, phase_of, same_but, sends_from, sent_same}
 use Rattle.journal_acks.proofs.SentLines.{air_line, feed_line, line_called, line_other, line_sent, sent_line_at, turn_line}
 use Rattle.journal_acks.proofs.Standing.{PhasedBy, phased_at, reply_under, sends_once}
-use Rattle.journal_acks.proofs.TwoStations.{IsOfTwo, other_is, side_differs}
+use Rattle.journal_acks.proofs.TwoStations.{IsOfTwo, other_is, same_number, side_differs}
 use Rattle.link_calls.proofs.UnderHandles.{end_under, octet_under}
 use Rattle.link_calls.specs.Turns.{sent_if}
+use Rattle.journal_acks.proofs.Worded.{link_worded, received_ack_is, received_setup_is, worded, worded_heard, worded_here, worded_setup}
 
 -- the PDU that an end has sent last is that of the line, if no other was sent since, and else an empty one
 pub record IsLined (line : Option SentLine) (ack : Acknowledgement) : Type 0 where
@@ -375,30 +376,49 @@ module _ (given : Given) (Q : Place → List Event → Type 0) (known : AreKnown
   abbrev room : Bool
   room = has_room setup facts
 
+  abbrev heard_as : Bool → ℕ → Facts
+  heard_as words other = worded words setup other facts
+
+  -- a link that hears a packet, as it is to answer
+  module _ (words : Bool) (other : ℕ) (octets : List ℕ) (base : OpenLink) (was : link_at other facts.links ≡ Some base) where
+    abbrev heard_base : OpenLink
+    heard_base = link_worded words setup facts base
+
+    abbrev taken : OpenLink
+    taken = link_receiving other room octets (heard_as words other) heard_base
+
+    taken_now : link_at other (link_received other room octets (heard_as words other)).links ≡ Some taken
+    taken_now = received_at other octets room (heard_as words other) heard_base (worded_here words setup other facts (Some base) was)
+
+    taken_handle : taken.setup.link.handle ≡ other
+    taken_handle =
+        ap (λ (end : EndSetup). end.link.handle) (received_setup_is other room octets (heard_as words other) heard_base ∙ worded_setup setup facts base words)
+        ∙ handle_is 0 other facts.links base (station_is given Q known distinct phases done left station history are is q holds).own.handles was
+
+    taken_ack : ack_of taken ≡ ack_of (link_after (PacketReceived facts.turn.slot octets room) base)
+    taken_ack = received_ack_is other room octets (heard_as words other) heard_base ∙ worded_heard setup facts base words facts.turn.slot octets room
+
   -- what another link is to send, where it received a packet
-  other_line : (handle : ℕ) (link : OpenLink) → link_at handle facts.links ≡ Some link → (other : ℕ) (octets : List ℕ) → (other == handle) ≡ false
-      → notes ≡ notes_passed (link_heard setup other octets facts) → (found : Option OpenLink) → link_at other facts.links ≡ found
+  other_line : (handle : ℕ) (link : OpenLink) → link_at handle facts.links ≡ Some link → (other : ℕ) (words : Bool) (octets : List ℕ) → (other == handle) ≡ false
+      → notes ≡ notes_passed (link_heard setup other octets (heard_as words other)) → (found : Option OpenLink) → link_at other facts.links ≡ found
       → sent_line_at (number_at station handle history) after (side_of station) ≡ sent_line_at (number_at station handle history) history (side_of station)
-  other_line handle link at other octets differs are_notes None absent =
+  other_line handle link at other words octets differs are_notes None absent =
       line_called given (number_at station handle history) station (step_of received) history (side_of station)
-      (subst (All SendsNone) (sym (are_notes ∙ unfound setup facts other octets absent)) (All-nil SendsNone))
-  other_line handle link at other octets differs are_notes (Some two) found =
-      let reply = reply_if (replies_in facts.turn.slot room (link_at other facts.links) octets) other in
-      let after_it = link_received other room octets facts in
-      let taken = link_receiving other room octets facts two in
-      let own = ap (λ (end : EndSetup). end.link.handle) (receiving_setup other room octets facts two)
-      ∙ handle_is 0 other facts.links two (station_is given Q known distinct phases done left station history are is q holds).own.handles found in
-      let now = received_at other octets room facts two found in
+      (subst (All SendsNone) (sym (are_notes ∙ unfound setup (heard_as words other) other octets (worded_here words setup other facts None absent))) (All-nil SendsNone))
+  other_line handle link at other words octets differs are_notes (Some two) found =
+      let heard = heard_as words other in
+      let replies = replies_in facts.turn.slot room (link_at other heard.links) octets in
+      let after_it = link_received other room octets heard in
       let apart = apart_numbers given Q known (AtListening phases done (station ∷ left)) history is.known station other handle two link in_it found at differs in
-      others_send given station (step_of received) history (number_at station handle history) (link_heard setup other octets facts).notes
-      (received_noted SendsNone taking_sends setup other octets facts) (λ one. received_noted (OpensNone one) (taking_opens one) setup other octets facts)
-      reply after_it
+      others_send given station (step_of received) history (number_at station handle history) (link_heard setup other octets heard).notes
+      (received_noted SendsNone taking_sends setup other octets heard) (λ one. received_noted (OpensNone one) (taking_opens one) setup other octets heard)
+      (reply_if replies other) after_it
       (λ third three on_third at_third.
-      let same = reply_under (replies_in facts.turn.slot room (link_at other facts.links) octets) other third on_third in
-      let equal : Some taken ≡ Some three = sym now ∙ ap (λ n. link_at n after_it.links) (sym same) ∙ at_third in
-      let one : taken ≡ three = cc in
+      let same = reply_under replies other third on_third in
+      let equal : Some (taken words other octets two found) ≡ Some three = sym (taken_now words other octets two found) ∙ ap (λ n. link_at n after_it.links) (sym same) ∙ at_third in
+      let one : taken words other octets two found ≡ three = cc in
       ap (λ (l : OpenLink). number_at station l.setup.link.handle history == number_at station handle history) (sym one)
-      ∙ ap (λ n. number_at station n history == number_at station handle history) own ∙ apart)
+      ∙ ap (λ n. number_at station n history == number_at station handle history) (taken_handle words other octets two found) ∙ apart)
       are_notes
 
   -- the line of a link on which nothing was received stays
@@ -407,49 +427,57 @@ module _ (given : Given) (Q : Place → List Event → Type 0) (known : AreKnown
       → sent_line_at (number_at station handle history) after (side_of station) ≡ sent_line_at (number_at station handle history) history (side_of station)
   line_stays handle link at nothing (IsPlainPhase none plain_too) =
       line_called given (number_at station handle history) station (step_of received) history (side_of station) (all_more HasNoData SendsNone (λ note has. has.sends) notes plain_too)
-  line_stays handle link at nothing (IsOnLink other octets some listens heard_is) =
+  line_stays handle link at nothing (IsOnLink other words octets some listens heard_is) =
       let differs : (other == handle) ≡ false = false_from_ne_true (other == handle) (λ same.
       let h : Some octets ≡ None = sym some ∙ nothing (listens handle ∙ same) in absurd cc) in
-      other_line handle link at other octets differs (on_link_notes setup facts received other octets some (ap notes_passed heard_is)) (link_at other facts.links) refl
+      other_line handle link at other words octets differs
+      (on_link_notes setup facts received octets (link_heard setup other octets (heard_as words other)) some (ap notes_passed heard_is)) (link_at other facts.links) refl
 
-  takes : (handle : ℕ) (link base : OpenLink) (octets : List ℕ) → HasRanges link → number_at station handle after ≡ number_at station handle history
-      → link_at handle facts.links ≡ Some base → received ≡ Some octets → listens_under handle facts.turn.doing ≡ true
-      → link ≡ sent_if (sends_under handle next.turn.doing) facts.turn.slot (link_receiving handle room octets facts base)
-      → IsPhaseOf setup facts received → IsLined (sent_line_at (number_at station handle after) after (side_of station)) (ack_of link)
-  takes handle link base octets ranges number_is was some on same (IsPlainPhase none plain_too) = absurd (let h : Some octets ≡ None = sym some ∙ none handle on in absurd cc)
-  takes handle link base octets ranges number_is was some on same (IsOnLink other heard some_too listens heard_is) =
-      let equal = eqb-true other handle (sym (listens handle) ∙ on) in
-      let told : Some heard ≡ Some octets = sym some_too ∙ some in
-      let octets_are : heard ≡ octets = cc in
+  takes : (words : Bool) (other : ℕ) (octets : List ℕ) (link base : OpenLink) → HasRanges link → received ≡ Some octets → listens_under other facts.turn.doing ≡ true
+      → phase_heard setup facts.turn.doing octets facts ≡ link_heard setup other octets (heard_as words other)
+      → link_at other (facts_at given station after).links ≡ Some link → link_at other facts.links ≡ Some base → number_at station other after ≡ number_at station other history
+      → IsLined (sent_line_at (number_at station other after) after (side_of station)) (ack_of link)
+  takes words other octets link base ranges some on heard_is at was number_is =
+      let heard = heard_as words other in
       let slot = facts.turn.slot in
-      let replies = replies_in slot room (link_at other facts.links) heard in
+      let replies = replies_in slot room (link_at other heard.links) octets in
       let reply = reply_if replies other in
-      let after_it = link_received other room heard facts in
-      let taken = link_receiving handle room octets facts base in
-      let is_station = station_is given Q known distinct phases done left station history are is q holds in
-      let now : link_at handle after_it.links ≡ Some taken =
-      ap (λ n. link_at handle (link_received n room heard facts).links) equal ∙ ap (λ xs. link_at handle (link_received handle room xs facts).links) octets_are
-      ∙ received_at handle octets room facts base was in
-      let doing : next.turn.doing ≡ reply = ap (λ may. (facts_after setup facts (step_of may)).turn.doing) some_too ∙ ap (λ (o : Outcome). o.next) heard_is in
-      let counts = was_taking received octets handle facts.turn base (exchange_at (number_at station handle history) history (side_of station)) on some
-      (before_call given Q known distinct phases done left station history are is q holds handle base was) in
-      let ack = receiving_ack handle room octets facts base in
+      let after_it = link_received other room octets heard in
+      let outcome = link_heard setup other octets heard in
+      let it = taken words other octets base was in
+      let passes = on_link_facts setup facts received octets outcome some (ap facts_passed heard_is) in
+      let doing : next.turn.doing ≡ reply = ap (λ (f : Facts). f.turn.doing) passes in
+      let same = link_then given Q known distinct phases done left station history are is q holds words other octets link base some heard_is at was in
+      let counts = was_taking received octets other facts.turn base (exchange_at (number_at station other history) history (side_of station)) on some
+      (before_call given Q known distinct phases done left station history are is q holds other base was) in
+      let ack = taken_ack words other octets base was in
       subst (λ n. IsLined (sent_line_at n after (side_of station)) (ack_of link)) (sym number_is)
-      (sends_own given station (step_of received) history handle taken (link_heard setup other heard facts).notes
-      (received_noted SendsNone taking_sends setup other heard facts) (received_noted (OpensNone handle) (taking_opens handle) setup other heard facts)
-      (ap (λ (end : EndSetup). end.link.handle) (receiving_setup handle room octets facts base) ∙ handle_is 0 handle facts.links base is_station.own.handles was)
-      (unsent_ranges (sends_under handle next.turn.doing) slot taken (subst HasRanges same ranges))
-      (lined_same (sent_line_at (number_at station handle history) history (side_of station)) (ack_of base) (ack_of taken)
-      (subst (λ a. HasSentSame a (ack_of base)) (sym ack) (sent_same slot octets room base)) (lines station handle base in_it was))
+      (sends_own given station (step_of received) history other it outcome.notes
+      (received_noted SendsNone taking_sends setup other octets heard) (received_noted (OpensNone other) (taking_opens other) setup other octets heard)
+      (taken_handle words other octets base was)
+      (unsent_ranges (sends_under other next.turn.doing) slot it (subst HasRanges same ranges))
+      (lined_same (sent_line_at (number_at station other history) history (side_of station)) (ack_of base) (ack_of it)
+      (subst (λ a. HasSentSame a (ack_of base)) (sym ack) (sent_same slot octets room base)) (lines station other base in_it was))
       (counts.acked ∙ (same_but slot octets false room base).acked ∙ ap (λ (a : Acknowledgement). a.acked) (sym ack))
-      (sends_under handle next.turn.doing) slot link same
-      (on_link_notes setup facts received other heard some_too (ap notes_passed heard_is)
-      ∙ ap (λ xs. (link_heard setup other heard facts).notes ++ xs)
-      (doing_notes reply after_it handle taken (λ third three on_third at_third. reply_under replies other third on_third ∙ equal) now
-      ∙ ap (λ d. notes_when (sends_under handle d) taken) (sym doing))))
+      (sends_under other next.turn.doing) slot link same
+      (on_link_notes setup facts received octets outcome some (ap notes_passed heard_is)
+      ∙ ap (λ xs. outcome.notes ++ xs)
+      (doing_notes reply after_it other it (λ third three on_third at_third. reply_under replies other third on_third) (taken_now words other octets base was)
+      ∙ ap (λ d. notes_when (sends_under other d) it) (sym doing))))
+
+  taken_own : (handle : ℕ) (link base : OpenLink) (octets : List ℕ) → HasRanges link → received ≡ Some octets → listens_under handle facts.turn.doing ≡ true
+      → link_at handle (facts_at given station after).links ≡ Some link → link_at handle facts.links ≡ Some base → number_at station handle after ≡ number_at station handle history
+      → IsPhaseOf setup facts received → IsLined (sent_line_at (number_at station handle after) after (side_of station)) (ack_of link)
+  taken_own handle link base octets ranges some on at was number_is (IsPlainPhase none plain_too) =
+      absurd (let h : Some octets ≡ None = sym some ∙ none handle on in absurd cc)
+  taken_own handle link base octets ranges some on at was number_is (IsOnLink other words heard some_too listens heard_is) =
+      subst (λ n. link_at n (facts_at given station after).links ≡ Some link → link_at n facts.links ≡ Some base → number_at station n after ≡ number_at station n history
+      → IsLined (sent_line_at (number_at station n after) after (side_of station)) (ack_of link))
+      (eqb-true other handle (sym (listens handle) ∙ on))
+      (takes words other heard link base ranges some_too (listens other ∙ same_number other) heard_is) at was number_is
 
   passed : (handle : ℕ) (link : OpenLink) → link_at handle (facts_at given station after).links ≡ Some link → number_at station handle after ≡ number_at station handle history
-      → HasPassed facts room received handle next.turn.doing link
+      → HasPassed setup facts room received handle next.turn.doing link
       → IsLined (sent_line_at (number_at station handle after) after (side_of station)) (ack_of link)
   passed handle link at number_is (IsNew end made opened off) = fresh handle link at (ap (λ (l : OpenLink). l.setup.opened) made ∙ opened)
   passed handle link at number_is (Stays was none nothing listened) =
@@ -457,7 +485,7 @@ module _ (given : Given) (Q : Place → List Event → Type 0) (known : AreKnown
       (subst (λ line. IsLined line (ack_of link)) (sym (line_stays handle link was nothing (phase_of setup facts received))) (lines station handle link in_it was))
   passed handle link at number_is (Takes base octets was some on same) =
       let ranges = known.ranges (AtListening phases (done ++ station ∷ []) left) after q station handle link in_it at in
-      takes handle link base octets ranges number_is was some on same (phase_of setup facts received)
+      taken_own handle link base octets ranges some on at was number_is (phase_of setup facts received)
 
   passes_own : (handle : ℕ) (link : OpenLink) → link_at handle (facts_at given station after).links ≡ Some link
       → IsLined (sent_line_at (number_at station handle after) after (side_of station)) (ack_of link)

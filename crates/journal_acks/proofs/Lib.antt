@@ -1,5 +1,6 @@
 -- The lemmas of this crate.
 pub mod Bounds
+pub mod Payloads
 pub mod Exchanging
 pub mod Acks
 pub mod TwoStations
@@ -7,6 +8,7 @@ pub mod SentLines
 pub mod Counting
 pub mod FirstCounts
 pub mod Standing
+pub mod Worded
 pub mod PhaseNotes
 pub mod DataCalls
 pub mod AirCounts
@@ -20,6 +22,7 @@ pub mod EntryLines
 pub mod FixedPdus
 pub mod KeptLines
 pub mod LinkPackets
+pub mod HeardPackets
 pub mod NewPdus
 pub mod EventsInOrder
 pub mod HeardLines

@@ -2,27 +2,25 @@
 use Rattle.std.proofs.Common.{◌≡◌, ℕ, zero, suc, ◌+◌, false, true, Some, None, Option, replicate, List, [], ◌∷◌, ◌++◌, length, refl, sym, ap, subst, ◌∙◌}
 use Rattle.std.specs.Prelude.{nat_lt}
 use Rattle.ble_base.specs.declared.roles.Side.{Side}
-use Rattle.ack_bit.specs.AckBits.{header_of, is_odd}
+use Rattle.ack_bit.specs.AckBits.{is_odd}
 use Rattle.air_frame.specs.Packet.{on_air}
 use Rattle.journal.specs.declared.entries.Entry.{Entry}
 use Rattle.journal.specs.declared.entries.Mark.{Mark}
 use Rattle.ble_base.specs.declared.verdicts.Verdict.{Verdict}
-use Rattle.data_pdu.specs.Header.{octets_of}
-use Rattle.journal_packets.proofs.link_model.Plain.{past_payload}
 use Rattle.journal_packets.proofs.link_model.Hearing.{IsHeardWhole}
-use Rattle.journal_packets.specs.link_model.Acknowledgement.{Acknowledgement, Pdu, bits_of as ack_bits}
-use Rattle.journal_packets.specs.link_model.Packets.{more_sent, packet_sent, pdu_sent}
+use Rattle.journal_packets.specs.link_model.Acknowledgement.{Acknowledgement, Pdu}
+use Rattle.journal_packets.specs.link_model.Packets.{more_sent, packet_sent, payload_sent, pdu_sent}
 use Rattle.journal_packets.specs.link_model.Step.{PacketSent}
 use Rattle.journal_packets.specs.open_links.OpenLinks.{OpenLink, facts_in, has_entered, link_after}
 use Rattle.journal_packets.specs.controller_model.Facts.{Sends}
 use Rattle.journal_packets.specs.controller_model.Side.{facts_of}
 use Rattle.link_calls.specs.run_model.Entries.{IsAired}
 use Rattle.link_calls.specs.run_model.Feeding.{AreDistinct}
-use Rattle.link_calls.specs.run_model.History.{Event, past_of}
+use Rattle.link_calls.specs.run_model.History.{Event, Hearing, Transmitted, past_of}
 use Rattle.link_calls.specs.run_model.Journal.{journal_of, side_of}
 use Rattle.link_calls.specs.run_model.LinkEnds.{HaveAddresses}
 use Rattle.link_calls.specs.run_model.Links.{is_advertising}
-use Rattle.link_calls.specs.run_model.Run.{Given, facts_at, setup_at, use_at}
+use Rattle.link_calls.specs.run_model.Run.{Given, facts_at, history_of, run_of, setup_at, use_at}
 use Rattle.link_calls.proofs.run_model.LinkEnds.{AreTaken, IsUnderstood}
 use Rattle.link_calls.proofs.run_model.Stations.{among}
 use Rattle.link_calls.proofs.run_model.Walk.{Place, NoTurn, AtPackets}
@@ -32,9 +30,10 @@ use Rattle.journal_packets.proofs.run_laws.OpenSteps.{none_open, open_has}
 use Rattle.journal_packets.specs.Senders.{IsOfSendersLink}
 use Rattle.journal_packets.proofs.AccessOrder.{AreNth}
 use Rattle.journal_packets.proofs.SoFar.{IsBelongingSoFar}
-use Rattle.journal_acks.specs.Carried.{IsLinkPacket, bits_of, carried_of, pdu_octets}
+use Rattle.journal_acks.specs.Carried.{IsLinkPacket, IsPayload, air_pdu, bits_of, carried_of}
 use Rattle.journal_acks.specs.Counted.{IsCounted}
 use Rattle.journal_acks.specs.Exchange.{Exchanged, with_sent}
+use Rattle.journal_acks.specs.Held.{HasPayloadOfEnd}
 use Rattle.journal_acks.proofs.AirCounts.{link_sent, own_number, sender_counted, sends_it}
 use Rattle.journal_acks.proofs.Counting.{AreKnown}
 use Rattle.link_calls.proofs.Exchanging.{sender_entered}
@@ -48,6 +47,7 @@ use Rattle.journal_acks.proofs.Exchanging.{exchange_at, number_at}
 use Rattle.journal_acks.proofs.FixedPdus.{sent_out}
 use Rattle.journal_acks.proofs.KeptLines.{AreLined, AreLinedAt, lines_kept}
 use Rattle.journal_acks.proofs.Known.{known_of}
+use Rattle.journal_acks.proofs.Payloads.{payload_is, payload_out}
 use Rattle.journal_acks.proofs.RunCounts.{counts_first}
 use Rattle.journal_acks.proofs.Seen.{seen_packet}
 use Rattle.journal_acks.proofs.TwoStations.{IsOfTwo}
@@ -68,21 +68,20 @@ on_its_channel slot link may channel entered on is =
 -- the packet, by the counts and the lines of the journal
 packet_is : (link : OpenLink) (end : Exchanged) (pdu : Pdu) (channel access init : ℕ) → channel ≡ (facts_in link).event.channel → access ≡ link.setup.link.fields.access
     → init ≡ link.setup.link.fields.crc_init → end.acked ≡ (ack_of link).acked → end.accepted ≡ length (ack_of link).accepted → pdu ≡ pdu_sent (facts_in link)
-    → packet_sent link.setup (facts_in link) ≡ on_air channel access init (pdu_octets (bits_of end) (more_sent (facts_in link)) pdu)
+    → packet_sent link.setup (facts_in link)
+    ≡ on_air channel access init (air_pdu (bits_of end) pdu.llid (more_sent (facts_in link)) (payload_sent (facts_in link)))
 unfolding packet_sent
 packet_is link end pdu channel access init on has begins acked accepted same =
-    let facts = facts_in link in
-    ap (λ payload. on_air facts.event.channel link.setup.link.fields.access link.setup.link.fields.crc_init
-    (octets_of (header_of (ack_bits facts.acknowledgement) (pdu_sent facts).llid (more_sent facts) (length payload)) ++ payload))
-    (past_payload link.setup link.past)
-    ∙ (λ i. on_air (sym on i) (sym has i) (sym begins i)
-    (pdu_octets (record { sn = is_odd (sym acked i); nesn = is_odd (sym accepted i) }) (more_sent (facts_in link)) (sym same i)))
+    λ i. on_air (sym on i) (sym has i) (sym begins i)
+    (air_pdu (record { sn = is_odd (sym acked i); nesn = is_odd (sym accepted i) }) (sym same i).llid (more_sent (facts_in link)) (payload_sent (facts_in link)))
 
 -- a packet of the link that its sender has open, with the MD of its end
 pub record IsPacketOf (given : Given) (history : List Event) (station channel : ℕ) (octets : List ℕ) (from : IsOfSendersLink given history station channel octets) : Type 0 where
   pub packet : IsLinkPacket (journal_of history) (side_of station) channel octets
   pub number_is : packet.number ≡ number_at station from.handle history
   pub more_is : packet.md ≡ more_sent (facts_in from.link)
+  pub pdu_is : carried_of packet.number (journal_of history) (side_of station) ≡ pdu_sent (facts_in from.link)
+  pub payload_is : packet.payload ≡ payload_sent (facts_in from.link)
 
 module _ (whole : IsHeardWhole) (given : Given) (Q : Place → List Event → Type 0) (known : AreKnown given Q) (are_two : IsOfTwo given) (six : HaveAddresses given)
     (distinct : AreDistinct given.stations) where
@@ -107,6 +106,8 @@ module _ (whole : IsHeardWhole) (given : Given) (Q : Place → List Event → Ty
       let acked = counted.acked ∙ ap (λ (a : Acknowledgement). a.acked) (ack_sent from.slot from.link) in
       let last = (lined.lines station from.handle sender in_it from.is_open).last end.acked
       (ap (λ n. n + 1) acked ∙ sent_out from.link ∙ ap (λ (a : Acknowledgement). length a.sent) (sym (ack_sent from.slot from.link))) in
+      let carried : carried_of number (journal_of history) (side_of station) ≡ pdu_sent (facts_in from.link) =
+      sym last ∙ ap (λ (a : Acknowledgement). a.last) (ack_sent from.slot from.link) in
       record {
         packet = record {
           number = number;
@@ -116,19 +117,20 @@ module _ (whole : IsHeardWhole) (given : Given) (Q : Place → List Event → Ty
           in_event = on_its_channel from.slot from.link (channel_at number station history) channel entered from.channel_is
               (channel_read (journal_of history) station number sender (known.lines place history has.known station from.handle sender in_it from.is_open));
           md = more_sent (facts_in from.link);
+          payload = payload_sent (facts_in from.link);
           carries = from.packet ∙ packet_is from.link end (carried_of number (journal_of history) (side_of station)) channel begun.link.fields.access begun.link.fields.crc_init from.channel_is
               (ap (λ f. f.access) begun.fields) (ap (λ f. f.crc_init) begun.fields) acked
               (counted.accepted ∙ ap (λ (a : Acknowledgement). length a.accepted) (ack_sent from.slot from.link))
-              (sym last ∙ ap (λ (a : Acknowledgement). a.last) (ack_sent from.slot from.link));
+              carried;
+          is_payload = subst (λ pdu. IsPayload pdu (payload_sent (facts_in from.link))) (sym carried) (payload_is from.link.setup from.link.past);
         };
         number_is = refl;
         more_is = refl;
+        pdu_is = carried;
+        payload_is = refl;
       }
 
 -- ---- in a run of a pair
-
-abbrev AreLinkPackets : List Event → ℕ → ℕ → List ℕ → Type 0
-AreLinkPackets history station channel octets = is_advertising channel ≡ false → IsLinkPacket (journal_of history) (side_of station) channel octets
 
 none_lined : (given : Given) → AreLined given []
 unfolding facts_of
@@ -138,16 +140,36 @@ none_lined given = λ station handle link in_it at.
 pub lines_first : (given : Given) → AreLinedAt given (IsBelongingSoFar given) NoTurn []
 lines_first given = record { counts = counts_first given; lines = none_lined given }
 
-pub packet_of_line : IsHeardWhole → IsUnderstood → AreTaken → AreNth → AreApart → (given : Given) → IsOfTwo given → HaveAddresses given → AreDistinct given.stations
-    → (front : List Entry) (side : Side) (channel : ℕ) (octets : List ℕ) (fate : Mark) (verdict : Verdict) → IsAired given front side channel octets fate verdict
-    → is_advertising channel ≡ false → IsLinkPacket front side channel octets
-packet_of_line whole understood taken nth apart given are_two six distinct front side channel octets fate verdict aired off =
-    let Q = IsBelongingSoFar given in
-    let known = known_of understood taken nth apart given are_two six in
-    let seen = seen_packet given (AreLinedAt given Q) (lines_kept whole given Q known are_two six distinct) (λ history. Unit {0}) AreLinkPackets
-    (record {
-      turn = λ history has. tt;
-      packet = λ phases done left station sent_on sent_octets history are wanted has off.
-          (link_packet whole given Q known are_two six distinct phases done left station sent_on sent_octets history are wanted has off).packet;
-    }) (lines_first given) aired.before aired.after aired.station channel octets (aired.hearing ∷ aired.others) aired.is_at off in
-    subst (λ xs. IsLinkPacket xs side channel octets) (sym aired.front_is) (subst (λ s. IsLinkPacket (journal_of aired.before) s channel octets) (sym aired.side_is) seen)
+-- and each has the payload of the end that sends it
+abbrev HavePayloads : Given → List Event → ℕ → ℕ → List ℕ → Type 0
+HavePayloads given history station channel octets = is_advertising channel ≡ false → HasPayloadOfEnd given history station channel octets
+
+module _ (whole : IsHeardWhole) (understood : IsUnderstood) (taken : AreTaken) (nth : AreNth) (apart : AreApart) (given : Given) (are_two : IsOfTwo given) (six : HaveAddresses given)
+    (distinct : AreDistinct given.stations) where
+  pub payload_of_packet : (before rest : List Event) (station channel : ℕ) (octets : List ℕ) (hearings : List Hearing)
+      → history_of (run_of given) ≡ before ++ Transmitted station channel octets hearings ∷ rest → is_advertising channel ≡ false
+      → HasPayloadOfEnd given before station channel octets
+  payload_of_packet before rest station channel octets hearings at off =
+      let Q = IsBelongingSoFar given in
+      let known = known_of understood taken nth apart given are_two six in
+      seen_packet given (AreLinedAt given Q) (lines_kept whole given Q known are_two six distinct) (λ history. Unit {0}) (HavePayloads given)
+      (record {
+        turn = λ history has. tt;
+        packet = λ phases done left sender sent_on sent_octets history are wanted has off_air.
+            let from = known.sends phases done left sender history are has.counts.known sent_on sent_octets wanted off_air in
+            let is = link_packet whole given Q known are_two six distinct phases done left sender sent_on sent_octets history are wanted has off_air in record {
+              sent = from;
+              packet = is.packet;
+              number_is = is.number_is;
+              pdu_is = is.pdu_is;
+              payload_is = is.payload_is;
+              kept = is.payload_is ∙ sym (payload_out from.link.setup (facts_in from.link) from.slot)
+                  ∙ sym (ap (λ (f : EndFacts). f.outgoing.payload) (step_facts from.link (PacketSent from.slot)));
+            };
+      }) (lines_first given) before rest station channel octets hearings at off
+
+  pub packet_of_line : (front : List Entry) (side : Side) (channel : ℕ) (octets : List ℕ) (fate : Mark) (verdict : Verdict) → IsAired given front side channel octets fate verdict
+      → is_advertising channel ≡ false → IsLinkPacket front side channel octets
+  packet_of_line front side channel octets fate verdict aired off =
+      let seen = payload_of_packet aired.before aired.after aired.station channel octets (aired.hearing ∷ aired.others) aired.is_at off in
+      subst (λ xs. IsLinkPacket xs side channel octets) (sym aired.front_is) (subst (λ s. IsLinkPacket (journal_of aired.before) s channel octets) (sym aired.side_is) seen.packet)

@@ -54,12 +54,13 @@ use Rattle.journal_acks.proofs.FirstCounts.{IsCallOf, IsOnly, OfLink, OfNone}
 use Rattle.journal_acks.proofs.KeptCounts.{AreCountedAt, before_call, begun_call, call_is, counts_kept, station_is, was_taking}
 use Rattle.journal_acks.proofs.KeptLines.{rests_deaf, rests_none}
 use Rattle.journal_acks.proofs.Known.{known_of}
-use Rattle.link_calls.proofs.LinkCalls.{IsOfTakes, base_ack, begins_under, received_noted, receiving_ack, receiving_setup}
+use Rattle.link_calls.proofs.LinkCalls.{IsOfTakes, base_ack, begins_under, received_noted}
 use Rattle.link_calls.specs.Uses.{listens_under}
 use Rattle.journal_acks.proofs.PhaseNotes.{IsOnLink, IsPhaseOf, IsPlainPhase, SendsFrom, SendsNothing, SendsOne, phase_of, same_but, sends_from}
 use Rattle.journal_acks.proofs.RunCounts.{counts_first}
 use Rattle.journal_acks.proofs.Standing.{PhasedBy, phased_at}
 use Rattle.journal_acks.proofs.TwoStations.{IsOfTwo, same_number}
+use Rattle.journal_acks.proofs.Worded.{link_worded, received_ack_is, received_setup_is, worded, worded_heard, worded_here, worded_setup}
 
 -- ---- the notes of a call
 
@@ -201,40 +202,50 @@ module _ (given : Given) (Q : Place → List Event → Type 0) (known : AreKnown
   abbrev room : Bool
   room = has_room (setup_at given station) facts
 
-  reply_new : (other : ℕ) (octets : List ℕ) (base : OpenLink) (replies : Bool) → link_at other facts.links ≡ Some base → received ≡ Some octets → listens_under other facts.turn.doing ≡ true
-      → All (IsNewNote history station) (notes_doing (reply_if replies other) (link_received other room octets facts))
-  reply_new other octets base false was some on = All-nil (IsNewNote history station)
-  reply_new other octets base true was some on =
+  abbrev heard_as : Bool → ℕ → Facts
+  heard_as words other = worded words (setup_at given station) other facts
+
+  reply_new : (words : Bool) (other : ℕ) (octets : List ℕ) (base : OpenLink) (replies : Bool) → link_at other facts.links ≡ Some base → received ≡ Some octets
+      → listens_under other facts.turn.doing ≡ true → All (IsNewNote history station) (notes_doing (reply_if replies other) (link_received other room octets (heard_as words other)))
+  reply_new words other octets base false was some on = All-nil (IsNewNote history station)
+  reply_new words other octets base true was some on =
+      let setup = setup_at given station in
       let slot = facts.turn.slot in
-      let taken = link_receiving other room octets facts base in
+      let heard_base = link_worded words setup facts base in
+      let taken = link_receiving other room octets (heard_as words other) heard_base in
       let end = exchange_at (number_at station other history) history (side_of station) in
       let counts = was_taking received octets other facts.turn base end on some (before_call given Q known distinct phases done left station history are is q holds other base was) in
       let but = same_but slot octets false room base in
-      let same = receiving_ack other room octets facts base in
-      subst (All (IsNewNote history station)) (sym (ap (notes_sent slot) (received_at other octets room facts base was)))
+      let same = received_ack_is other room octets (heard_as words other) heard_base ∙ worded_heard setup facts base words slot octets room in
+      subst (All (IsNewNote history station))
+      (sym (ap (notes_sent slot) (received_at other octets room (heard_as words other) heard_base (worded_here words setup other facts (Some base) was))))
       (new_sent history station other taken
-      (ap (λ (one : EndSetup). one.link.handle) (receiving_setup other room octets facts base)
+      (ap (λ (one : EndSetup). one.link.handle) (received_setup_is other room octets (heard_as words other) heard_base ∙ worded_setup setup facts base words)
       ∙ handle_is 0 other facts.links base (station_is given Q known distinct phases done left station history are is q holds).own.handles was)
       (counts.acked ∙ but.acked ∙ ap (λ (a : Acknowledgement). a.acked) (sym same)) (counts.sent ∙ ap length but.sent ∙ ap (λ (a : Acknowledgement). length a.sent) (sym same)))
 
   phase_new : AreNew given history station (step_of received)
   phase_new = by (phase_of (setup_at given station) facts received)
     where
-      found_new : (other : ℕ) (octets : List ℕ) → packet_received station history ≡ Some octets → listens_under other (facts_at given station history).turn.doing ≡ true
-          → (found : Option OpenLink) → link_at other (facts_at given station history).links ≡ found
-          → All (IsNewNote history station) (notes_passed (link_heard (setup_at given station) other octets (facts_at given station history)))
-      found_new other octets some on None absent = subst (All (IsNewNote history station)) (sym (unfound (setup_at given station) facts other octets absent)) (All-nil (IsNewNote history station))
-      found_new other octets some on (Some base) was =
+      found_new : (words : Bool) (other : ℕ) (octets : List ℕ) → packet_received station history ≡ Some octets
+          → listens_under other (facts_at given station history).turn.doing ≡ true → (found : Option OpenLink) → link_at other (facts_at given station history).links ≡ found
+          → All (IsNewNote history station) (notes_passed (link_heard (setup_at given station) other octets (worded words (setup_at given station) other (facts_at given station history))))
+      found_new words other octets some on None absent =
+          subst (All (IsNewNote history station))
+          (sym (unfound (setup_at given station) (heard_as words other) other octets (worded_here words (setup_at given station) other facts None absent))) (All-nil (IsNewNote history station))
+      found_new words other octets some on (Some base) was =
           let setup = setup_at given station in
-          All-append (IsNewNote history station) (link_heard setup other octets facts).notes _
-          (received_noted (IsNewNote history station) (taking_new history station) setup other octets facts)
-          (reply_new other octets base (replies_in facts.turn.slot room (link_at other facts.links) octets) was some on)
+          let heard = heard_as words other in
+          All-append (IsNewNote history station) (link_heard setup other octets heard).notes _
+          (received_noted (IsNewNote history station) (taking_new history station) setup other octets heard)
+          (reply_new words other octets base (replies_in facts.turn.slot room (link_at other heard.links) octets) was some on)
 
       by : IsPhaseOf (setup_at given station) (facts_at given station history) (packet_received station history) → AreNew given history station (step_of (packet_received station history))
       by (IsPlainPhase none plain_too) = all_more HasNoData (IsNewNote history station) (old_note history station) _ plain_too
-      by (IsOnLink other octets some listens heard_is) =
-          subst (All (IsNewNote history station)) (sym (on_link_notes (setup_at given station) facts received other octets some (ap notes_passed heard_is)))
-          (found_new other octets some (listens other ∙ same_number other) (link_at other facts.links) refl)
+      by (IsOnLink other words octets some listens heard_is) =
+          subst (All (IsNewNote history station))
+          (sym (on_link_notes (setup_at given station) facts received octets (link_heard (setup_at given station) other octets (heard_as words other)) some (ap notes_passed heard_is)))
+          (found_new words other octets some (listens other ∙ same_number other) (link_at other facts.links) refl)
 
 -- ---- at each place of a run
 

@@ -23,11 +23,11 @@ use Rattle.journal_packets.specs.link_model.Controls.{is_procedure_pdu}
 use Rattle.journal_packets.specs.link_model.Entering.{done_notes}
 use Rattle.journal_packets.specs.link_model.Receiving.{accepts, acked_kind, acks_control, facts_before_taking, facts_received, given_if, given_notes, has_acknowledged, kept_given_if, received_notes, refused_notes, took_notes_if}
 use Rattle.journal_packets.specs.control_end.declared.answers.Taken.{Taken}
-use Rattle.journal_packets.proofs.link_model.Acknowledging.{ack_heard, forged_leaves}
+use Rattle.journal_packets.proofs.link_model.Acknowledging.{ack_heard}
 use Rattle.journal_packets.specs.link_model.End.{notes_after as end_notes}
 use Rattle.journal_packets.specs.link_model.Sending.{sent_notes}
 use Rattle.journal_packets.specs.link_model.Facts.{Facts as EndFacts}
-use Rattle.journal_packets.specs.link_model.Packets.{good_pdu, has_new_pdu, is_forged}
+use Rattle.journal_packets.specs.link_model.Packets.{good_pdu, has_new_pdu}
 use Rattle.journal_packets.specs.link_model.Verdicts.{pdu_of}
 use Rattle.journal_packets.specs.link_model.Step.{PacketReceived, PacketSent}
 use Rattle.journal_packets.specs.link_model.declared.setup.LinkSetup.{LinkSetup}
@@ -47,12 +47,14 @@ use Rattle.journal_packets.specs.controller_model.Outcome.{Outcome, notes_passed
 use Rattle.journal_packets.specs.controller_model.Packets.{notes_doing, notes_sent, pdu_heard}
 use Rattle.journal_packets.specs.controller_model.Side.{notes_after}
 use Rattle.link_calls.specs.run_model.Run.{step_of}
-use Rattle.journal_packets.proofs.run_laws.Agreed.{ack_of, step_facts}
+use Rattle.journal_packets.proofs.run_laws.Agreed.{ack_of}
 use Rattle.journal_acks.proofs.Acks.{empty_is_no_data}
 use Rattle.journal_acks.proofs.Counting.{accepted_before, ack_taking, has_own_line}
 use Rattle.link_calls.proofs.CallNotes.{HasNoData, OpensNone, TakesNone, events_noted, no_data}
+use Rattle.link_calls.proofs.Worded.{received_ack}
 use Rattle.link_calls.specs.Uses.{listens_under, sends_under}
 use Rattle.journal_acks.proofs.TwoStations.{same_number}
+use Rattle.journal_acks.proofs.Worded.{worded}
 
 -- ---- what is noted of a PDU that a link receives
 
@@ -67,13 +69,6 @@ pub data IsTakenSo (slot : ℕ) (octets : List ℕ) (room : Bool) (link : OpenLi
       → All TakesNone earlier → ((handle : ℕ) → All (OpensNone handle) earlier) → All TakesNone later
       → length (ack_of (link_after (PacketReceived slot octets room) link)).accepted ≡ length (ack_of link).accepted + 1
       → IsTakenSo slot octets room link
-
-received_ack : (slot : ℕ) (octets : List ℕ) (room : Bool) (link : OpenLink) (found : Option (List ℕ)) → good_pdu link.setup (facts_in link) octets ≡ found
-    → ack_of (link_after (PacketReceived slot octets room) link) ≡ (facts_received link.setup.link.role slot room found (facts_in link)).acknowledgement
-received_ack slot octets room link found is =
-    ap (λ (f : EndFacts). f.acknowledgement) (step_facts link (PacketReceived slot octets room))
-    ∙ forged_leaves (is_forged link.setup (facts_in link) octets) (facts_received link.setup.link.role slot room (good_pdu link.setup (facts_in link) octets) (facts_in link))
-    ∙ ap (λ may. (facts_received link.setup.link.role slot room may (facts_in link)).acknowledgement) is
 
 -- all but what is accepted is the same with room and without
 pub record IsSameBut (one other : Acknowledgement) : Type 0 where
@@ -352,9 +347,9 @@ pub data IsPhaseOf (setup : Setup) (facts : Facts) (received : Option (List ℕ)
   -- nothing is received on a link
   IsPlainPhase : ((handle : ℕ) → listens_under handle facts.turn.doing ≡ true → received ≡ None) → All HasNoData (notes_after setup facts (step_of received))
       → IsPhaseOf setup facts received
-  -- octets are received on the link under this handle
-  IsOnLink : (other : ℕ) (octets : List ℕ) → received ≡ Some octets → ((handle : ℕ) → listens_under handle facts.turn.doing ≡ (other == handle))
-      → heard setup facts.turn.doing octets facts ≡ link_heard setup other octets facts → IsPhaseOf setup facts received
+  -- octets are received on the link under this handle, which was given words before, or was not
+  IsOnLink : (other : ℕ) (words : Bool) (octets : List ℕ) → received ≡ Some octets → ((handle : ℕ) → listens_under handle facts.turn.doing ≡ (other == handle))
+      → heard setup facts.turn.doing octets facts ≡ link_heard setup other octets (worded words setup other facts) → IsPhaseOf setup facts received
 
 plain_by : (setup : Setup) (facts : Facts) (octets : List ℕ) (doing : Doing) → facts.turn.doing ≡ doing → ((handle : ℕ) → listens_under handle doing ≡ false)
     → IsPlain (heard setup doing octets facts) → IsPhaseOf setup facts (Some octets)
@@ -364,9 +359,9 @@ plain_by setup facts octets doing is none plain =
 
 phase_by : (setup : Setup) (facts : Facts) (octets : List ℕ) (doing : Doing) → facts.turn.doing ≡ doing → IsPhaseOf setup facts (Some octets)
 phase_by setup facts octets (CentralListens other) is =
-    IsOnLink other octets refl (λ handle. ap (listens_under handle) is) (ap (λ (d : Doing). heard setup d octets facts) is)
+    IsOnLink other false octets refl (λ handle. ap (listens_under handle) is) (ap (λ (d : Doing). heard setup d octets facts) is)
 phase_by setup facts octets (PeripheralListens other) is =
-    IsOnLink other octets refl (λ handle. ap (listens_under handle) is) (ap (λ (d : Doing). heard setup d octets facts) is)
+    IsOnLink other true octets refl (λ handle. ap (listens_under handle) is) (ap (λ (d : Doing). heard setup d octets facts) is)
 phase_by setup facts octets (AwaitsRequest channel) is =
     plain_by setup facts octets (AwaitsRequest channel) is (λ handle. refl)
     (pdu_plain (pdu_heard channel octets) facts _ (λ pdu. advertiser_plain facts.advertising.on channel pdu facts))

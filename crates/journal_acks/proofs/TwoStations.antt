@@ -7,8 +7,11 @@ use Rattle.std.proofs.lemmas.Bool.Decides.{nat_tests}
 use Rattle.std.proofs.lemmas.Slice.Eq.{bytes_eq-Decides}
 use Rattle.ble_base.specs.Side.{other_side}
 use Rattle.ble_base.specs.declared.roles.Side.{Side}
+use Rattle.ble_base.specs.declared.verdicts.Verdict.{Verdict}
+use Rattle.ble_base.specs.declared.verdicts.Verdict.TheVariants.{Missed, Forged, Good}
+use Rattle.ble_base.specs.declared.verdicts.Verdict.TheVariants.{Broken as IsBroken}
 use Rattle.air_frame.specs.Hearing.{heard_in}
-use Rattle.air_frame.specs.Packet.{IsPdu, access_octets, is_packet, pdu_in}
+use Rattle.air_frame.specs.Packet.{access_octets, is_packet, pdu_in}
 use Rattle.air_frame.specs.declared.Heard.TheVariants.{NotOurs, Broken, Whole}
 use Rattle.data_pdu.specs.Header.{counts_as_empty, octets_of}
 use Rattle.journal_packets.specs.link_model.Data.{is_empty}
@@ -18,7 +21,6 @@ use Rattle.journal_packets.specs.link_model.Packets.{header_sent, is_forged_pdu,
 use Rattle.journal_packets.specs.link_model.Payload.{opens_now}
 use Rattle.journal_packets.specs.link_model.Verdicts.{verdict_by as verdict_by_end}
 use Rattle.journal_packets.specs.link_model.Setup.{Setup as EndSetup}
-use Rattle.link_calls.specs.Ranges.{IsReadable}
 use Rattle.journal_packets.proofs.link_model.Hearing.{IsHeardWhole}
 use Rattle.journal_packets.proofs.link_model.Received.{has_header}
 use Rattle.journal_packets.specs.open_links.OpenLinks.{OpenLink, facts_in, link_at}
@@ -31,7 +33,7 @@ use Rattle.journal_packets.proofs.controller_model.Always.{IsAdvertisingChannel}
 use Rattle.journal_packets.proofs.controller_model.Sent.{DoingFits}
 use Rattle.radio_replay.specs.declared.fates.Fate.{Fate}
 use Rattle.radio_replay.specs.Damage.{damaged_packet}
-use Rattle.link_calls.specs.run_model.History.{Event, Transmitted, Hearing, fates_used, has_received, is_good}
+use Rattle.link_calls.specs.run_model.History.{Event, Transmitted, Hearing, fates_used, has_received, is_good, is_handed}
 use Rattle.link_calls.specs.run_model.Journal.{air_entries, journal_of, mark_of, side_of}
 use Rattle.link_calls.specs.run_model.Links.{is_advertising}
 use Rattle.link_calls.specs.run_model.Run.{Given, fate_at, hearing_at, hearings_from, hearings_of, is_lost, others_than, reaches, unseen_in, verdict_where}
@@ -41,6 +43,7 @@ use Rattle.link_calls.proofs.run_model.Stations.{is_in}
 use Rattle.journal_packets.proofs.run_laws.TurnSteps.{IsListening as IsListeningFor}
 use Rattle.journal_packets.specs.journal_links.Begun.{LinkBegun, link_numbered}
 use Rattle.journal_packets.specs.Belonging.{is_side, link_of_packet}
+use Rattle.journal_acks.specs.Carried.{IsPayload}
 use Rattle.journal_acks.specs.Exchange.{Exchanged, after_packet, carries_empty, exchange_of, is_empty_in, is_number}
 use Rattle.journal_acks.proofs.Exchanging.{exchange_at, exchange_more}
 use Rattle.link_calls.proofs.LinkUses.{IsScanning}
@@ -119,25 +122,44 @@ not_received false good is = refl
 pub own_received : (station : ℕ) (hearing : Hearing) → (station == hearing.listener) ≡ false → has_received station (hearing ∷ []) ≡ false
 own_received station hearing differs = not_received (station == hearing.listener) (is_good hearing.verdict) differs
 
--- a good verdict is that of a station that listens on the channel
-pub record IsJudged (wanted : Use) (channel : ℕ) (facts : Facts) (octets : List ℕ) : Type 0 where
+-- what is handed on was judged by a station that listens on the channel
+pub record IsReached (wanted : Use) (channel : ℕ) (facts : Facts) (octets : List ℕ) (verdict : Verdict) : Type 0 where
   pub listens : wanted ≡ Listens channel
-  pub good : is_good (verdict_of facts octets) ≡ true
+  pub verdict_is : verdict ≡ verdict_of facts octets
 
-judged_by : (reached : Bool) (fate : Fate) (listened channel : ℕ) (facts : Facts) (octets : List ℕ) → (not (is_lost fate) && (listened == channel)) ≡ reached
-    → is_good (verdict_where reached facts octets) ≡ true → IsJudged (Listens listened) channel facts octets
-judged_by true fate listened channel facts octets is good = record { listens = ap Listens (eqb-true listened channel (second (not (is_lost fate)) (listened == channel) is)); good = good }
+reached_by : (reached : Bool) (fate : Fate) (listened channel : ℕ) (facts : Facts) (octets : List ℕ) → (not (is_lost fate) && (listened == channel)) ≡ reached
+    → is_handed (verdict_where reached facts octets) ≡ true → IsReached (Listens listened) channel facts octets (verdict_where reached facts octets)
+reached_by true fate listened channel facts octets is handed =
+    record { listens = ap Listens (eqb-true listened channel (second (not (is_lost fate)) (listened == channel) is)); verdict_is = refl }
   where
     second : (one other : Bool) → (one && other) ≡ true → other ≡ true
     second true other both = both
     second false other both = absurd cc
-judged_by false fate listened channel facts octets is good = absurd cc
+reached_by false fate listened channel facts octets is handed = absurd cc
+
+pub reached : (wanted : Use) (fate : Fate) (channel : ℕ) (facts : Facts) (octets : List ℕ)
+    → is_handed (verdict_where (reaches fate channel (channel_listened wanted)) facts octets) ≡ true
+    → IsReached wanted channel facts octets (verdict_where (reaches fate channel (channel_listened wanted)) facts octets)
+reached (Sends other sent) fate channel facts octets handed = absurd cc
+reached Idle fate channel facts octets handed = absurd cc
+reached (Listens listened) fate channel facts octets handed = reached_by (not (is_lost fate) && (listened == channel)) fate listened channel facts octets refl handed
+
+pub good_handed : (verdict : Verdict) → is_good verdict ≡ true → is_handed verdict ≡ true
+good_handed Good good = refl
+good_handed Missed good = absurd cc
+good_handed IsBroken good = absurd cc
+good_handed Forged good = absurd cc
+
+-- so is a good verdict
+pub record IsJudged (wanted : Use) (channel : ℕ) (facts : Facts) (octets : List ℕ) : Type 0 where
+  pub listens : wanted ≡ Listens channel
+  pub good : is_good (verdict_of facts octets) ≡ true
 
 pub judged : (wanted : Use) (fate : Fate) (channel : ℕ) (facts : Facts) (octets : List ℕ)
     → is_good (verdict_where (reaches fate channel (channel_listened wanted)) facts octets) ≡ true → IsJudged wanted channel facts octets
-judged (Sends other sent) fate channel facts octets good = absurd cc
-judged Idle fate channel facts octets good = absurd cc
-judged (Listens listened) fate channel facts octets good = judged_by (not (is_lost fate) && (listened == channel)) fate listened channel facts octets refl good
+judged wanted fate channel facts octets good =
+    let is = reached wanted fate channel facts octets (good_handed (verdict_where (reaches fate channel (channel_listened wanted)) facts octets) good) in
+    record { listens = is.listens; good = ap is_good (sym is.verdict_is) ∙ good }
 
 -- what is judged good was not changed
 pub unchanged : (octets : List ℕ) (hearing : Hearing) → unseen_in octets (hearing ∷ []) ≡ None → is_good hearing.verdict ≡ true → damaged_packet hearing.fate octets ≡ octets
@@ -149,7 +171,52 @@ unchanged octets hearing seen good =
     same true false is none = absurd cc
     same false e is none = absurd cc
 
--- ---- a station that judges a packet on a data channel to be good listens on a link
+-- ---- a station that judges a packet on a data channel to be good or forged listens on a link
+
+pub record IsHearing (facts : Facts) (channel : ℕ) (octets : List ℕ) (verdict : Verdict) : Type 0 where
+  pub handle : ℕ
+  pub on : listens_under handle facts.turn.doing ≡ true
+  pub link : OpenLink
+  pub is_open : link_at handle facts.links ≡ Some link
+  pub channel_is : channel ≡ (facts_in link).event.channel
+  pub verdict_is : verdict ≡ verdict_of_end link.setup (facts_in link) octets
+
+pub same_number : (n : ℕ) → (n == n) ≡ true
+same_number n = grind arith
+
+open_hears : (facts : Facts) (channel handle : ℕ) (octets : List ℕ) (found : Option OpenLink) → listens_under handle facts.turn.doing ≡ true → link_at handle facts.links ≡ found
+    → facts.wanted ≡ listens_on found → facts.wanted ≡ Listens channel → is_handed (verdict_of_link found octets) ≡ true → IsHearing facts channel octets (verdict_of_link found octets)
+open_hears facts channel handle octets None on is wanted listens handed = absurd cc
+open_hears facts channel handle octets (Some link) on is wanted listens handed =
+    let one : Listens channel ≡ Listens (facts_in link).event.channel = sym listens ∙ wanted in
+    let same : channel ≡ (facts_in link).event.channel = cc in
+    record { handle = handle; on = on; link = link; is_open = is; channel_is = same; verdict_is = refl }
+
+not_here : (facts : Facts) (channel other : ℕ) (X : Type 0) → channel < 37 → IsAdvertisingChannel other → facts.wanted ≡ Listens other → facts.wanted ≡ Listens channel → X
+not_here facts channel other X below above wanted listens =
+    let one : Listens other ≡ Listens channel = sym wanted ∙ listens in
+    let same : other ≡ channel = cc in
+    let from = above.0 in absurd (omega (arith, below, from, same))
+
+hears_by : (facts : Facts) (channel : ℕ) (octets : List ℕ) (doing : Doing) → facts.turn.doing ≡ doing → channel < 37 → DoingFits doing
+    → IsListeningFor facts doing → IsScanning facts doing → facts.wanted ≡ Listens channel → is_handed (verdict_doing facts.links doing octets) ≡ true
+    → IsHearing facts channel octets (verdict_doing facts.links doing octets)
+hears_by facts channel octets (AwaitsRequest other) doing below fits listening scanning listens handed = not_here facts channel other _ below fits listening listens
+hears_by facts channel octets (Scans other) doing below fits listening scanning listens handed = not_here facts channel other _ below fits scanning listens
+hears_by facts channel octets (AwaitsResponse other) doing below fits listening scanning listens handed = not_here facts channel other _ below fits scanning listens
+hears_by facts channel octets (Initiates other) doing below fits listening scanning listens handed = not_here facts channel other _ below fits listening listens
+hears_by facts channel octets (CentralListens handle) doing below fits listening scanning listens handed =
+    open_hears facts channel handle octets (link_at handle facts.links) (ap (listens_under handle) doing ∙ same_number handle) refl listening listens handed
+hears_by facts channel octets (PeripheralListens handle) doing below fits listening scanning listens handed =
+    open_hears facts channel handle octets (link_at handle facts.links) (ap (listens_under handle) doing ∙ same_number handle) refl listening listens handed
+hears_by facts channel octets (Advertises other) doing below fits listening scanning listens handed = absurd cc
+hears_by facts channel octets other doing below fits listening scanning listens handed = absurd cc
+
+pub link_hears : (facts : Facts) (channel : ℕ) (octets : List ℕ) → channel < 37 → DoingFits facts.turn.doing → IsListeningFor facts facts.turn.doing
+    → IsScanning facts facts.turn.doing → facts.wanted ≡ Listens channel → is_handed (verdict_of facts octets) ≡ true → IsHearing facts channel octets (verdict_of facts octets)
+unfolding verdict_of
+link_hears facts channel octets below fits listening scanning listens handed =
+    hears_by facts channel octets facts.turn.doing refl below fits listening scanning listens handed
 
 pub record IsListening (facts : Facts) (channel : ℕ) (octets : List ℕ) : Type 0 where
   pub handle : ℕ
@@ -159,52 +226,21 @@ pub record IsListening (facts : Facts) (channel : ℕ) (octets : List ℕ) : Typ
   pub channel_is : channel ≡ (facts_in link).event.channel
   pub good : is_good (verdict_of_end link.setup (facts_in link) octets) ≡ true
 
-pub same_number : (n : ℕ) → (n == n) ≡ true
-same_number n = grind arith
-
-open_listens : (facts : Facts) (channel handle : ℕ) (octets : List ℕ) (found : Option OpenLink) → listens_under handle facts.turn.doing ≡ true → link_at handle facts.links ≡ found
-    → facts.wanted ≡ listens_on found → facts.wanted ≡ Listens channel → is_good (verdict_of_link found octets) ≡ true → IsListening facts channel octets
-open_listens facts channel handle octets None on is wanted listens good = absurd cc
-open_listens facts channel handle octets (Some link) on is wanted listens good =
-    let one : Listens channel ≡ Listens (facts_in link).event.channel = sym listens ∙ wanted in
-    let same : channel ≡ (facts_in link).event.channel = cc in
-    record { handle = handle; on = on; link = link; is_open = is; channel_is = same; good = good }
-
-not_here : (facts : Facts) (channel other : ℕ) (X : Type 0) → channel < 37 → IsAdvertisingChannel other → facts.wanted ≡ Listens other → facts.wanted ≡ Listens channel → X
-not_here facts channel other X below above wanted listens =
-    let one : Listens other ≡ Listens channel = sym wanted ∙ listens in
-    let same : other ≡ channel = cc in
-    let from = above.0 in absurd (omega (arith, below, from, same))
-
-listens_by : (facts : Facts) (channel : ℕ) (octets : List ℕ) (doing : Doing) → facts.turn.doing ≡ doing → channel < 37 → DoingFits doing
-    → IsListeningFor facts doing → IsScanning facts doing → facts.wanted ≡ Listens channel → is_good (verdict_doing facts.links doing octets) ≡ true
-    → IsListening facts channel octets
-listens_by facts channel octets (AwaitsRequest other) doing below fits listening scanning listens good = not_here facts channel other _ below fits listening listens
-listens_by facts channel octets (Scans other) doing below fits listening scanning listens good = not_here facts channel other _ below fits scanning listens
-listens_by facts channel octets (AwaitsResponse other) doing below fits listening scanning listens good = not_here facts channel other _ below fits scanning listens
-listens_by facts channel octets (Initiates other) doing below fits listening scanning listens good = not_here facts channel other _ below fits listening listens
-listens_by facts channel octets (CentralListens handle) doing below fits listening scanning listens good =
-    open_listens facts channel handle octets (link_at handle facts.links) (ap (listens_under handle) doing ∙ same_number handle) refl listening listens good
-listens_by facts channel octets (PeripheralListens handle) doing below fits listening scanning listens good =
-    open_listens facts channel handle octets (link_at handle facts.links) (ap (listens_under handle) doing ∙ same_number handle) refl listening listens good
-listens_by facts channel octets (Advertises other) doing below fits listening scanning listens good = absurd cc
-listens_by facts channel octets other doing below fits listening scanning listens good = absurd cc
-
 pub link_listens : (facts : Facts) (channel : ℕ) (octets : List ℕ) → channel < 37 → DoingFits facts.turn.doing → IsListeningFor facts facts.turn.doing
     → IsScanning facts facts.turn.doing → facts.wanted ≡ Listens channel → is_good (verdict_of facts octets) ≡ true → IsListening facts channel octets
-unfolding verdict_of
 link_listens facts channel octets below fits listening scanning listens good =
-    listens_by facts channel octets facts.turn.doing refl below fits listening scanning listens good
+    let is = link_hears facts channel octets below fits listening scanning listens (good_handed (verdict_of facts octets) good) in
+    record { handle = is.handle; on = is.on; link = is.link; is_open = is.is_open; channel_is = is.channel_is; good = ap is_good (sym is.verdict_is) ∙ good }
 
 -- ---- the access address of a packet
 
-pub good_begins : (setup : EndSetup) (facts : EndFacts) (octets : List ℕ) → is_good (verdict_of_end setup facts octets) ≡ true
+pub handed_begins : (setup : EndSetup) (facts : EndFacts) (octets : List ℕ) → is_handed (verdict_of_end setup facts octets) ≡ true
     → take 4 octets ≡ access_octets setup.link.fields.access
 unfolding verdict_of_end heard_in
-good_begins setup facts octets good = by (bytes_eq (take 4 octets) (access_octets setup.link.fields.access)) refl good
+handed_begins setup facts octets handed = by (bytes_eq (take 4 octets) (access_octets setup.link.fields.access)) refl handed
   where
     by : (same : Bool) → bytes_eq (take 4 octets) (access_octets setup.link.fields.access) ≡ same
-        → is_good (verdict_by_end setup.link.max_rx (opens_now facts.encryption.end) (is_forged_pdu facts) (if same
+        → is_handed (verdict_by_end setup.link.max_rx (opens_now facts.encryption.end) (is_forged_pdu facts) (if same
         then (if is_packet facts.event.channel setup.link.fields.access setup.link.fields.crc_init octets then Whole (record { items = pdu_in facts.event.channel octets }) else Broken)
         else NotOurs)) ≡ true
         → take 4 octets ≡ access_octets setup.link.fields.access
@@ -249,16 +285,13 @@ air_of_link number other station channel octets history hearings hearing are off
 in_form : (count : ℕ) → count ≤ 255 → (nat_le 2 (suc (suc count)) && nat_le (suc (suc count)) 257 && (suc (suc count) == 2 + count)) ≡ true
 in_form count short = grind (arith, nat_tests)
 
-readable_in_form : (facts : EndFacts) → IsReadable facts → IsPdu (octets_of (header_sent facts) ++ payload_sent facts)
-readable_in_form facts form = let short = form.short in in_form (length (payload_sent facts)) (omega (arith, short))
-
-pub sent_empty : IsHeardWhole → (setup : EndSetup) (facts : EndFacts) (link : LinkBegun) (channel : ℕ) (octets : List ℕ) → IsReadable facts
-    → link.fields ≡ setup.link.fields → channel ≡ facts.event.channel → octets ≡ packet_sent setup facts
+pub sent_empty : IsHeardWhole → (setup : EndSetup) (facts : EndFacts) (link : LinkBegun) (channel : ℕ) (octets : List ℕ) → (pdu_sent facts).llid < 4
+    → length (payload_sent facts) ≤ 255 → IsPayload (pdu_sent facts) (payload_sent facts) → link.fields ≡ setup.link.fields → channel ≡ facts.event.channel → octets ≡ packet_sent setup facts
     → carries_empty (Some link) channel octets ≡ is_empty (pdu_sent facts)
 unfolding packet_sent
-sent_empty whole setup facts link channel octets form fields on packet =
+sent_empty whole setup facts link channel octets two_bits short is fields on packet =
     let pdu = octets_of (header_sent facts) ++ payload_sent facts in
     (λ i. is_empty_in (heard_in (on i) ((fields i).access) ((fields i).crc_init) (packet i)))
-    ∙ ap is_empty_in (whole facts.event.channel setup.link.fields.access setup.link.fields.crc_init pdu (readable_in_form facts form))
-    ∙ ap counts_as_empty (has_header facts facts form.llid (payload_sent facts)).read
-    ∙ ap (λ (payload : List ℕ). (pdu_sent facts).llid == 0 || length payload == 0) form.opened
+    ∙ ap is_empty_in (whole facts.event.channel setup.link.fields.access setup.link.fields.crc_init pdu (in_form (length (payload_sent facts)) short))
+    ∙ ap counts_as_empty (has_header facts facts two_bits (payload_sent facts)).read
+    ∙ is.empty

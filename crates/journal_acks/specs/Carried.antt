@@ -1,5 +1,5 @@
 -- What a packet of a link carries (Core 5.2, volume 6 part B, sections 2.1, 2.4 and 4.5.9).
-use Rattle.std.specs.Prelude.{◌≡◌, ℕ, ◌==◌, ◌&&◌, Bool, false, List, [], ◌∷◌, ◌++◌, fold, length, Option, Some, None, if◌then◌else◌}
+use Rattle.std.specs.Prelude.{◌≡◌, ◌⊎◌, ℕ, ◌+◌, ◌==◌, ◌&&◌, Bool, false, List, [], ◌∷◌, ◌++◌, fold, length, Option, Some, None, if◌then◌else◌}
 use Rattle.ble_base.specs.declared.roles.Side.{Side}
 use Rattle.ack_bit.specs.AckBits.{AckBits, header_of, is_odd}
 use Rattle.air_frame.specs.Packet.{on_air}
@@ -56,18 +56,31 @@ pdu_carried (Some line) acked = if line.acked == acked then line.pdu else empty_
 abbrev pub carried_of : ℕ → List Entry → Side → Pdu
 carried_of number front side = pdu_carried (sent_line_of number front side) (exchange_of number front side).acked
 
+-- ---- its payload on the air
+
+-- what the payload of a PDU is on the air, whatever the keys are: it is the body of the PDU, or has an integrity code of
+-- four octets more, and only that of an empty PDU is empty (section 2.4, and part E, section 2)
+pub record IsPayload (pdu : Pdu) (payload : List ℕ) : Type 0 where
+  pub empty : is_empty (record { llid = pdu.llid; body = payload }) ≡ is_empty pdu
+  pub octets : (payload ≡ pdu.body) ⊎ (length payload ≡ length pdu.body + 4)
+
 -- ---- the packet
 
 -- SN is the number of its acknowledged PDUs, and NESN that of the PDUs that it accepted, both modulo 2
 abbrev pub bits_of : Exchanged → AckBits
 bits_of end = record { sn = is_odd end.acked; nesn = is_odd end.accepted }
 
--- the octets of a PDU with these bits and this MD
+-- the octets of a PDU with these bits, this LLID, this MD and this payload on the air
+abbrev pub air_pdu : AckBits → ℕ → Bool → List ℕ → List ℕ
+air_pdu bits llid md payload = octets_of (header_of bits llid md (length payload)) ++ payload
+
+-- and of one whose payload on the air is its body
 abbrev pub pdu_octets : AckBits → Bool → Pdu → List ℕ
-pdu_octets bits md pdu = octets_of (header_of bits pdu.llid md (length pdu.body)) ++ pdu.body
+pdu_octets bits md pdu = air_pdu bits pdu.llid md pdu.body
 
 -- a packet that a side sends after these entries is of this link, on the channel of the event that it is in. It has the
--- access address and CRCInit of the CONNECT_IND, and carries the PDU and the bits that the lines before it give
+-- access address and CRCInit of the CONNECT_IND, and carries the PDU and the bits that the lines before it give, the PDU
+-- in clear or sealed
 pub record IsLinkPacket (front : List Entry) (side : Side) (channel : ℕ) (octets : List ℕ) : Type 0 where
   pub number : ℕ
   pub belongs : link_of_packet front side octets ≡ Some number
@@ -75,9 +88,11 @@ pub record IsLinkPacket (front : List Entry) (side : Side) (channel : ℕ) (octe
   pub is_link : link_numbered number front ≡ Some link
   pub in_event : channel_entered number side front ≡ Some channel
   pub md : Bool
+  pub payload : List ℕ
   pub carries : octets
       ≡ on_air channel link.fields.access link.fields.crc_init
-      (pdu_octets (bits_of (exchange_of number front side)) md (carried_of number front side))
+      (air_pdu (bits_of (exchange_of number front side)) (carried_of number front side).llid md payload)
+  pub is_payload : IsPayload (carried_of number front side) payload
 
 -- a PDU that a side sends as a new one after these entries is not empty, and all that it sent before are acknowledged
 pub record IsNewPdu (number : ℕ) (front : List Entry) (side : Side) (pdu : Pdu) : Type 0 where

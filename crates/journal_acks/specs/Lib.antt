@@ -1,6 +1,8 @@
 -- The definitions of this crate.
 pub mod Exchange
 pub mod Carried
+pub mod Held
+pub mod HeardBy
 pub mod Counted
 pub mod EventOrder
 pub mod Shut

@@ -18,10 +18,11 @@ use crate::stations::links_of_two_stations_keep_to_the_journal;
 /// In the journal of a run of a pair, each packet off the advertising channels is one of a link
 /// whose CONNECT_IND comes before it, on the channel that its side entered last on that link, with
 /// the access address and CRCInit of that CONNECT_IND. It carries the PDU of the last `Sent` line
-/// of its side on that link until a PDU of that side is acknowledged, and else an empty one. SN is
-/// the number of PDUs of its side that are acknowledged, and NESN that of the PDUs that its side
+/// of its side on that link until a PDU of that side is acknowledged, and else an empty one. Its
+/// payload on the air is the body of that PDU, or is sealed and four octets longer. SN is the
+/// number of PDUs of its side that are acknowledged, and NESN that of the PDUs that its side
 /// accepted, both modulo 2, as the lines before it say (Core 5.2, volume 6 part B, sections 2.1,
-/// 2.4 and 4.5.9).
+/// 2.4 and 4.5.9, and part E, section 2).
 pub fn each_link_packet_carries_what_the_journal_says()
     ensures { (a b : List ℕ) (script : Script) (front rest : List Entry) (side : Side)
         (channel : ℕ) (octets : List ℕ) (fate : Mark) (verdict : Verdict)

@@ -15,7 +15,8 @@ use Rattle.data_pdu.specs.declared.ctrl.Ctrl.{Ctrl}
 use Rattle.data_pdu.specs.declared.ctrl.CtrlRead.{CtrlRead}
 use Rattle.data_pdu.specs.declared.ctrl.CtrlRead.TheVariants.{Known}
 use Rattle.data_pdu.specs.declared.ctrl.Ctrl.TheVariants.{ConnectionParamReq, PhyReq}
-use Rattle.exclusive_stages.specs.Kinds.{kind_of}
+use Rattle.collision_steps.specs.CentralPart.{central_of}
+use Rattle.exclusive_stages.specs.Kinds.{central_kind, kind_of}
 use Rattle.exclusive_stages.specs.declared.pdus.Exclusive.{Exclusive}
 use Rattle.exclusive_stages.specs.declared.pdus.Exclusive.TheVariants.{Map, Phy, Request, Update}
 use Rattle.journal.specs.declared.entries.Entry.{Entry}
@@ -52,7 +53,6 @@ use Rattle.journal_endings.proofs.journal_indications.journal_data.journal_links
 use Rattle.journal_endings.proofs.journal_indications.journal_data.journal_links.OfTwo.{are_distinct, of_two_stations}
 use Rattle.journal_endings.proofs.journal_indications.journal_data.journal_packets.AccessOrder.{AreNth}
 use Rattle.journal_endings.proofs.journal_indications.journal_data.link_model.Hearing.{IsHeardWhole}
-use Rattle.journal_endings.proofs.journal_indications.journal_data.link_model.Plain.{past_plain as end_plain}
 use Rattle.journal_endings.proofs.journal_indications.journal_data.link_model.Pasts.{notes_grow}
 use Rattle.journal_endings.proofs.journal_indications.journal_data.open_links.Handles.{handle_is}
 use Rattle.journal_endings.proofs.journal_indications.journal_data.run_laws.DistinctAccess.{AreApart}
@@ -271,7 +271,7 @@ module _ (whole_heard : IsHeardWhole) (understood : IsUnderstood) (taken : AreTa
   runs_now : runs_at p (seen setup facts.turn.slot heard.octets (facts_in heard.link)) ≡ true
   runs_now =
       sym (runs_seen call.earlier heard.rest call.handle count llid body setup role facts.turn.slot room (facts_in heard.link)
-      (end_plain setup heard.link.past) heard.octets p heard.notes_are)
+      (record { past = heard.link.past; is = refl }) heard.octets p heard.notes_are)
       ∙ ap (λ b. fold (note_runs p) b call.earlier) (sym (past_goes setup heard.link.past p))
       ∙ sym (fold-append (note_runs p) false (notes_opened_on setup heard.link.past) call.earlier)
       ∙ sym (lines_run link.central number p false (notes_opened_on setup heard.link.past ++ call.earlier))
@@ -315,3 +315,7 @@ module _ (whole_heard : IsHeardWhole) (understood : IsUnderstood) (taken : AreTa
       (good_taken setup (facts_in heard.link) heard.octets facts.turn.slot room call.earlier heard.rest
       (TookNote call.handle count llid (record { items = body })) heard.notes_are))
       colliding
+
+  -- its own procedure goes on
+  pub runs_still : central_kind (central_of (received setup facts.turn.slot heard.octets room (facts_in heard.link)).control.table).own ≡ Some excludes.kind
+  runs_still = ap central_kind prevails.own ∙ colliding.runs

@@ -1,15 +1,17 @@
 -- A link that is open at a controller goes on under its handle, call by call, until it is shut.
 use Rattle.std.proofs.Common.{◌≡◌, ℕ, suc, ◌+◌, ◌<◌, ◌≤◌, ◌==◌, Bool, true, false, Option, Some, None, List, [], ◌∷◌, ◌++◌, refl, sym, ap, subst, ◌∙◌, append-nil, append_assoc, arith, if◌then◌else◌}
 use Rattle.std.proofs.lemmas.List.Sums.{fold-append}
+use Rattle.journal_endings.specs.controller_model.declared.doing.Doing.{Doing}
 use Rattle.journal_endings.specs.controller_model.Facts.{Facts, Setup}
 use Rattle.journal_endings.specs.controller_model.Heard.{has_room}
 use Rattle.journal_endings.specs.controller_model.Side.{facts_after, facts_of}
 use Rattle.journal_endings.specs.controller_model.Step.{Step, HostOctet, TurnBegins, PacketHeard, NothingHeard, TurnEnds}
-use Rattle.journal_endings.specs.link_calls.Phases.{HasPassed, IsNew, Stays, Takes}
+use Rattle.journal_endings.specs.link_calls.Phases.{HasPassed, IsNew, Stays, Takes, link_worded}
 use Rattle.journal_endings.specs.link_calls.Uses.{listens_under, sends_under}
 use Rattle.journal_endings.proofs.link_calls.LinkCalls.{phase_under}
+use Rattle.journal_endings.proofs.link_calls.Worded.{each_worded, worded_setup}
 use Rattle.journal_endings.proofs.link_calls.UnderHandles.{WasAlike, end_under, octet_under}
-use Rattle.journal_endings.specs.journal_indications.journal_data.link_model.Step.{Step as EndStep, PacketReceived}
+use Rattle.journal_endings.specs.journal_indications.journal_data.link_model.Step.{Step as EndStep, PacketReceived, WordsGiven}
 use Rattle.journal_endings.specs.journal_indications.journal_data.open_links.OpenLinks.{Links, OpenLink, link_at}
 use Rattle.journal_endings.specs.journal_indications.journal_data.run_model.Run.{step_of}
 use Rattle.journal_endings.proofs.journal_indications.journal_data.run_laws.Entering.{IsInTurn, turn_first, turn_kept}
@@ -99,9 +101,20 @@ module _ (setup : Setup) where
   was_alike facts handle link alike =
       record { was = alike.link; was_open = alike.was; setup_is = alike.setup; steps = alike.more; past_is = alike.past }
 
+  -- it may be given words
+  record HasWords (link base : OpenLink) : Type 0 where
+    setup_is : base.setup ≡ link.setup
+    steps : List EndStep
+    past_is : base.past ≡ link.past ++ steps
+
+  worded_on : (facts : Facts) (doing : Doing) (link : OpenLink) → HasWords link (link_worded setup facts doing link)
+  worded_on facts doing link =
+      each_worded (HasWords link) setup facts doing link (record { setup_is = refl; steps = []; past_is = sym (append-nil link.past) })
+      (λ skd_s iv_s. record { setup_is = refl; steps = WordsGiven skd_s iv_s ∷ []; past_is = refl })
+
   passed_on : (past : List Step) (phases begun bound : ℕ) (received : Option (List ℕ)) (handle : ℕ) (link : OpenLink)
       → standing past ≡ Some (at_stage (Within phases) begun) → bound + 1 ≤ begun → link.setup.opened < bound
-      → HasPassed (facts_of setup past) (has_room setup (facts_of setup past)) received handle
+      → HasPassed setup (facts_of setup past) (has_room setup (facts_of setup past)) received handle
       (facts_after setup (facts_of setup past) (step_of received)).turn.doing link
       → Continues (facts_of setup past).links handle link
   passed_on past phases begun bound received handle link stands more small (IsNew end made opened off) =
@@ -111,14 +124,17 @@ module _ (setup : Setup) where
       record { was = link; was_open = was; setup_is = refl; steps = []; past_is = sym (append-nil link.past) }
   passed_on past phases begun bound received handle link stands more small (Takes base octets was some on same) =
       let facts = facts_of setup past in
+      let held = link_worded setup facts facts.turn.doing base in
+      let words = worded_on facts facts.turn.doing base in
       let taken = taken_grown (sends_under handle (facts_after setup facts (step_of received)).turn.doing) handle
-      (has_room setup facts) octets facts base link same in
+      (has_room setup facts) octets facts held link same in
+      let heard = PacketReceived facts.turn.slot octets (has_room setup facts) ∷ taken.steps in
       record {
         was = base;
         was_open = was;
-        setup_is = taken.setup_is;
-        steps = PacketReceived facts.turn.slot octets (has_room setup facts) ∷ taken.steps;
-        past_is = taken.past_is;
+        setup_is = taken.setup_is ∙ words.setup_is;
+        steps = words.steps ++ heard;
+        past_is = taken.past_is ∙ ap (λ (xs : List EndStep). xs ++ heard) words.past_is ∙ append_assoc base.past words.steps heard;
       }
 
   phased_on : (past : List Step) (stage : Stage) (begun bound : ℕ) (received : Option (List ℕ)) (at : Standing) (handle : ℕ) (link : OpenLink)
@@ -185,7 +201,8 @@ module _ (setup : Setup) where
   module _ (past : List Step) (phases begun : ℕ) (octets : List ℕ) (handle : ℕ) (one : OpenLink)
       (stands : standing past ≡ Some (at_stage (Within phases) begun)) (is_open : link_at handle (facts_of setup past).links ≡ Some one)
       (listens : listens_under handle (facts_of setup past).turn.doing ≡ true) (old : one.setup.opened < (facts_of setup past).turn.slot)
-      (single : (other : ℕ) (found : OpenLink) → link_at other (facts_of setup past).links ≡ Some found → found.setup.opened ≡ one.setup.opened → handle ≡ other) where
+      (single : (other : ℕ) (found : OpenLink) → link_at other (facts_of setup past).links ≡ Some found → found.setup.opened ≡ one.setup.opened → handle ≡ other)
+      (unworded : link_worded setup (facts_of setup past) (facts_of setup past).turn.doing one ≡ one) where
     abbrev facts : Facts
     facts = facts_of setup past
 
@@ -199,7 +216,7 @@ module _ (setup : Setup) where
     not_heard X is = absurd cc
 
     received_first : (other : ℕ) (link : OpenLink) → link.setup.opened ≡ one.setup.opened
-        → HasPassed facts (has_room setup facts) (Some octets) other (facts_after setup facts (PacketHeard octets)).turn.doing link
+        → HasPassed setup facts (has_room setup facts) (Some octets) other (facts_after setup facts (PacketHeard octets)).turn.doing link
         → IsSince facts octets handle other one link
     received_first other link same (IsNew end made opened off) =
         too_late _ link.setup.opened facts.turn.slot begun facts.turn.slot (subst (λ n. n < facts.turn.slot) (sym same) old)
@@ -207,18 +224,20 @@ module _ (setup : Setup) where
     received_first other link same (Stays was none nothing listened) =
         not_heard _ (nothing (subst (λ n. listens_under n facts.turn.doing ≡ true) (single other link was same) listens))
     received_first other link same (Takes base heard was some on is) =
+        let held = link_worded setup facts facts.turn.doing base in
         let taken = taken_grown (sends_under other (facts_after setup facts (PacketHeard octets)).turn.doing) other
-        (has_room setup facts) heard facts base link is in
-        let here = single other base was (ap (λ s. s.opened) (sym taken.setup_is) ∙ same) in
+        (has_room setup facts) heard facts held link is in
+        let here = single other base was (ap (λ s. s.opened) (sym (taken.setup_is ∙ worded_setup setup facts facts.turn.doing base)) ∙ same) in
         let found : Some base ≡ Some one = sym was ∙ ap (λ n. link_at n facts.links) (sym here) ∙ is_open in
         let base_is : base ≡ one = cc in
+        let held_is : held ≡ one = ap (link_worded setup facts facts.turn.doing) base_is ∙ unworded in
         let octets_are : octets ≡ heard = cc in
         record {
           handle_is = here;
-          setup_is = taken.setup_is ∙ ap (λ (l : OpenLink). l.setup) base_is;
+          setup_is = taken.setup_is ∙ ap (λ (l : OpenLink). l.setup) held_is;
           steps = taken.steps;
           past_is = taken.past_is
-              ∙ (λ i. (base_is i).past ++ PacketReceived facts.turn.slot (sym octets_are i) (has_room setup facts) ∷ taken.steps);
+              ∙ (λ i. (held_is i).past ++ PacketReceived facts.turn.slot (sym octets_are i) (has_room setup facts) ∷ taken.steps);
         }
 
     since_on : (other : ℕ) (base link : OpenLink) (more : List EndStep) → link.setup ≡ base.setup → link.past ≡ base.past ++ more

@@ -2,12 +2,10 @@
 use Rattle.std.proofs.Common.{◌≡◌, ℕ, ◌+◌, ◌<◌, ◌%◌, ◌&&◌, not, Bool, true, false, List, [], ◌∷◌, ◌++◌, Option, None, Some, is_some, is_none, refl, ap, sym, ◌∙◌, subst, arith, if◌then◌else◌}
 use Rattle.std.specs.Prelude.{⊤, Result, Ok, Err}
 use Rattle.ble_base.specs.declared.error_codes.ErrCode.{ErrCode}
-use Rattle.ble_base.specs.declared.roles.Role.{Role}
 use Rattle.ble_base.specs.declared.roles.Role.TheVariants.{Central}
-use Rattle.data_pdu.specs.declared.ctrl.CtrlRead.{CtrlRead}
 use Rattle.instants.specs.declared.indications.Indication.{Indication}
 use Rattle.instants.specs.Track.{event_of, next_number}
-use Rattle.journal_endings.specs.link_runs.link_pairs.control_model.Control.{Answers, Asks, Control, Disconnects, Enters, SeesAcknowledged, Sends, Step as ControlStep, Takes, after, after_all, following, goes_out, indicated_by, is_to_come, table_if, taken, went}
+use Rattle.journal_endings.specs.link_runs.link_pairs.control_model.Control.{Answers, Asks, Control, Disconnects, Enters, Owes, SeesAcknowledged, Sends, Step as ControlStep, Takes, after, following, goes_out, indicated_by, is_to_come, table_if, taken, went}
 use Rattle.journal_endings.specs.link_runs.link_pairs.procedure_stages.Closing.{is_disconnecting, is_open}
 use Rattle.journal_endings.specs.link_runs.link_pairs.procedure_stages.Queue.{QueueFacts, waiting_in, next_after_rejections, next_by, next_disconnect, with_reply}
 use Rattle.journal_endings.specs.link_runs.link_pairs.procedure_stages.Steps.{closing_after}
@@ -19,17 +17,18 @@ use Rattle.journal_endings.specs.link_runs.link_pairs.procedure_stages.declared.
 use Rattle.journal_endings.specs.link_runs.link_pairs.procedure_values.declared.asks.Ask.{Ask}
 use Rattle.journal_endings.specs.link_runs.link_pairs.procedure_values.declared.asks.Ask.TheVariants.{Length, Update}
 use Rattle.journal_endings.specs.link_runs.link_pairs.procedure_values.declared.drafts.Draft.{Draft}
+use Rattle.journal_endings.specs.link_runs.link_pairs.procedure_values.declared.drafts.Draft.TheVariants.{Cipher}
 use Rattle.journal_endings.specs.link_runs.link_pairs.procedure_values.declared.drafts.Outgoing.{Outgoing}
 use Rattle.journal_endings.specs.link_runs.link_pairs.procedure_values.declared.drafts.Rejection.{Rejection as TheRejection}
-use Rattle.journal_endings.specs.link_runs.link_pairs.procedures.Beginning.{ask_at, ask_step, begin_at, first_draft, place_to_begin, with_first_draft}
-use Rattle.journal_endings.specs.link_runs.link_pairs.procedures.Going.{entered_step, host_answer_step, is_answer, terminate_step}
+use Rattle.journal_endings.specs.link_runs.link_pairs.procedures.Beginning.{ask_at, ask_step, begin_at, begin_step, first_draft, place_to_begin, with_first_draft}
+use Rattle.journal_endings.specs.link_runs.link_pairs.procedures.Going.{closing_given, entered_step, host_answer_step, is_answer, owe_step, terminate_step}
 use Rattle.journal_endings.specs.link_runs.link_pairs.procedures.Sending.{acked_step}
 use Rattle.journal_endings.specs.link_runs.link_pairs.procedures.Table.{TableFacts}
 use Rattle.journal_endings.specs.link_runs.link_pairs.procedures.Taking.{facts_with, outcome_of}
 use Rattle.procedure_values.specs.Drafts.{is_out}
 use Rattle.journal_endings.specs.link_runs.link_pairs.procedure_stages.declared.reply.Reply.{Reply}
 use Rattle.journal_endings.specs.link_runs.link_pairs.procedure_stages.declared.reply.Reply.TheVariants.{Answer, Nothing as no_reply, Reject}
-use Rattle.std.specs.List.{AllByRecursion, list_any}
+use Rattle.std.specs.List.{list_any}
 use Rattle.std.proofs.lemmas.Bool.{and_parts, or_parts}
 use Rattle.std.proofs.lemmas.List.Folds.{list_any-append}
 use Rattle.ble_base.specs.declared.notes.Note.TheVariants.{Sent}
@@ -40,12 +39,9 @@ use Rattle.wire_fields.specs.Field.{little_endian}
 use Rattle.procedure_values.specs.Drafts.{ctrl_of_outgoing}
 use Rattle.journal_endings.proofs.link_calls.CallNotes.{is_sending}
 use Rattle.journal_endings.specs.journal_indications.journal_data.link_model.Acknowledgement.{empty_pdu, is_acked}
-use Rattle.journal_endings.specs.journal_indications.journal_data.link_model.ControlSteps.{control_steps_in, step_if, steps_received}
-use Rattle.journal_endings.specs.journal_indications.journal_data.link_model.Controls.{goes_on, is_procedure_pdu, is_quiet_now, next_control, pdu_fixed, pdu_of_control, read_of}
-use Rattle.journal_endings.specs.journal_indications.journal_data.link_model.Plain.{IsPlain, plain_before_taking}
-use Rattle.journal_endings.specs.journal_indications.journal_data.link_model.Receiving.{accepts, acks_control, has_acknowledged}
-use Rattle.journal_endings.specs.journal_indications.journal_data.link_model.Verdicts.{pdu_of}
-use Rattle.data_pdu.specs.Header.{header_in}
+use Rattle.journal_endings.specs.journal_indications.journal_data.link_model.Controls.{goes_on, is_quiet_now, next_control, pdu_fixed, pdu_of_control}
+use Rattle.journal_endings.specs.journal_indications.journal_data.link_model.phased_control.Phased.{is_encrypt}
+use Rattle.journal_endings.specs.journal_indications.journal_data.link_model.phased_control.table_laws.Encrypting.{has_encryption}
 use Rattle.journal_endings.specs.journal_indications.journal_data.link_model.Fixing.{data_cut, data_fixed_by, data_goes, facts_fixed, fixed_anew}
 use Rattle.arrayvec.specs.ArrayVec.{ArrayVec}
 use Rattle.data_pdu.specs.Layouts.{IsCtrl}
@@ -56,15 +52,19 @@ use Rattle.journal_endings.specs.link_runs.link_pairs.procedure_stages.Kinds.{ro
 use Rattle.journal_endings.specs.journal_indications.journal_data.link_model.Data.{is_control, is_empty, numbered}
 use Rattle.journal_endings.specs.journal_indications.journal_data.link_model.End.{facts_after, notes_after, notes_from}
 use Rattle.journal_endings.specs.journal_indications.journal_data.link_model.Facts.{Facts}
-use Rattle.journal_endings.specs.journal_indications.journal_data.link_model.Hosts.{is_to_come as asks_to_come}
-use Rattle.journal_endings.specs.journal_indications.journal_data.link_model.Packets.{good_pdu}
-use Rattle.journal_endings.specs.journal_indications.journal_data.link_model.Sending.{sent_notes, sent_notes_if, takes_leave}
+use Rattle.journal_endings.specs.journal_indications.journal_data.link_model.Sending.{control_gone_if, sent_notes, sent_notes_if, takes_leave}
 use Rattle.journal_endings.specs.journal_indications.journal_data.link_model.Setup.{Setup}
 use Rattle.journal_endings.specs.journal_indications.journal_data.link_model.Step.{DataGiven, DataReported, Disconnected, EventEntered, KeyAnswered, PacketReceived, PacketSent, PduFixed, ProcedureAsked, RequestAnswered, Step, WordsGiven}
-use Rattle.journal_endings.proofs.journal_indications.journal_data.link_model.ControlSteps.{one_step}
-use Rattle.journal_endings.proofs.journal_indications.journal_data.link_model.Plain.{quiet_plain, step_plain}
+use Rattle.journal_endings.proofs.journal_indications.journal_data.link_model.KnownEnds.{IsPast, step_past}
+use Rattle.journal_endings.proofs.journal_indications.journal_data.link_model.Views.{stays_ended}
+use Rattle.journal_endings.proofs.journal_indications.journal_data.link_model.phased_end.keyed_control.phased_control.Requests.{fewer, is_entering}
+use Rattle.journal_endings.proofs.journal_indications.journal_data.link_model.phased_end.keyed_control.phased_control.Tables.{begins_encryption, leaves_entering}
+use Rattle.journal_endings.proofs.link_calls.control_model.Moving.{same_role}
+use Rattle.journal_endings.proofs.link_runs.link_pairs.joint_controls.EachEnd.{Keeps}
 use Rattle.run_collisions.specs.Prevailing.{next_outgoing}
 use Rattle.run_collisions.specs.Waiting.{facts_from, sends_control}
+use Rattle.journal_collisions.proofs.EachStep.{step_kept}
+use Rattle.journal_collisions.proofs.QuietCentrals.{quiet_there}
 use Rattle.journal_collisions.proofs.Waits.{ends_go}
 use Rattle.journal_endings.proofs.link_runs.link_pairs.TakingNothing.{draft_left, rejection_left}
 use Rattle.journal_endings.proofs.link_calls.control_model.Calls.{any_step, either_way, took_by}
@@ -80,6 +80,12 @@ shut_by : (closing : Closing) → is_disconnecting closing ≡ true → is_open 
 shut_by Open is = absurd cc
 shut_by Closed is = refl
 shut_by Disconnecting is = refl
+
+given_after : (ctrl : Ctrl) (closing : Closing) → is_disconnecting closing ≡ true → is_disconnecting (closing_given ctrl closing) ≡ true
+given_after (TerminateInd code) Open is = absurd (cc)
+given_after (TerminateInd code) Closed is = absurd (cc)
+given_after (TerminateInd code) Disconnecting is = refl
+given_after ctrl closing is = is
 
 ends_after : (effect : Effect) (closing : Closing) → is_disconnecting closing ≡ true → is_disconnecting (closing_after effect closing) ≡ true
 ends_after (PeerEnds code) Open is = absurd (cc)
@@ -141,16 +147,17 @@ module _ (d : Option ErrCode) where
   taken_ends g (Some indication) c now before = either_way IsEnding (is_to_come c.track indication) _ _ now before
 
   -- steps in which it sends no control PDU
-  abbrev pub IsUnsent : ControlStep → Type 0
+  abbrev IsUnsent : ControlStep → Type 0
   IsUnsent (Enters slot quiet) = ⊤
   IsUnsent (Asks ask) = ⊤
   IsUnsent (Answers answer) = ⊤
   IsUnsent (Disconnects reason) = ⊤
   IsUnsent SeesAcknowledged = ⊤
   IsUnsent (Takes read slot quiet) = ⊤
-  IsUnsent step = ⊥
+  IsUnsent (Owes ctrl) = ⊤
+  IsUnsent (Sends slot quiet) = ⊥
 
-  pub step_ends : (step : ControlStep) (c : Control) → IsUnsent step → IsEnding c → IsEnding (after step c)
+  step_ends : (step : ControlStep) (c : Control) → IsUnsent step → IsEnding c → IsEnding (after step c)
   step_ends (Enters slot quiet) c unsent ends =
       let f = (entered_step c.table (is_some (next_number c.track))).0 in
       any_step IsEnding (Enters slot quiet) c
@@ -171,59 +178,64 @@ module _ (d : Option ErrCode) where
       (taken_ends (facts_with c.table slot outcome) (indicated_by outcome.step.effect) c
       (same_queue c.table (facts_with c.table slot outcome) (ends_after outcome.step.effect c.table.closing ends.closing)
       (reply_left c.table.closing (shut_by c.table.closing ends.closing) outcome.reply c.table.queue) ends) ends)) ends
+  step_ends (Owes ctrl) c unsent ends =
+      any_step IsEnding (Owes ctrl) c
+      (same_queue c.table (owe_step c.table ctrl) (given_after ctrl c.table.closing ends.closing)
+      (draft_left c.table.closing (shut_by c.table.closing ends.closing) c.table.queue (Cipher ctrl)) ends) ends
   step_ends (Sends slot quiet) c unsent ends = absurd unsent
-  step_ends other c unsent ends = absurd unsent
 
--- ---- an end
+-- ---- a central with this Disconnect runs no encryption, and begins none any more
 
-to_end : (d : Option ErrCode) (steps : List ControlStep) (c : Control) → AllByRecursion (IsUnsent d) steps → EndsWith d c.table
-    → EndsWith d (after_all steps c).table
-to_end d [] c unsent ends = ends
-to_end d (step ∷ steps) c unsent ends = to_end d steps (after step c) unsent.1 (step_ends d step c unsent.0 ends)
+pub record Ending (d : Option ErrCode) (c : Control) : Type 0 where
+  pub table : EndsWith d c.table
+  pub role : role_of c.table.progress ≡ Central
+  pub alone : has_encryption c.table.progress ≡ false
 
-one_if_taken : (d : Option ErrCode) (taken_now : Bool) (step : ControlStep) → IsUnsent d step → AllByRecursion (IsUnsent d) (step_if taken_now step)
-one_if_taken d true step is = (is, tt)
-one_if_taken d false step is = tt
+module _ (d : Option ErrCode) where
+  still_alone : (step : ControlStep) (c : Control) → is_entering step ≡ false → Ending d c → has_encryption (after step c).table.progress ≡ false
+  still_alone step c other ending = by (has_encryption (after step c).table.progress) refl
+    where
+      by : (b : Bool) → has_encryption (after step c).table.progress ≡ b → b ≡ false
+      by false is = refl
+      by true is = sym (fewer step c other ending.role is) ∙ ending.alone
 
-both_unsent : (d : Option ErrCode) (steps more : List ControlStep) → AllByRecursion (IsUnsent d) steps → AllByRecursion (IsUnsent d) more
-    → AllByRecursion (IsUnsent d) (steps ++ more)
-both_unsent d [] more one other = other
-both_unsent d (step ∷ steps) more one other = (one.0, both_unsent d steps more one.1 other)
+  still_ending : (step : ControlStep) (c : Control) → is_entering step ≡ false → IsUnsent d step → Ending d c → Ending d (after step c)
+  still_ending step c other unsent ending = record {
+    table = step_ends d step c unsent ending.table;
+    role = same_role Central step c ending.role;
+    alone = still_alone step c other ending;
+  }
 
-module _ (d : Option ErrCode) (setup : Setup) (is_central : setup.link.role ≡ Central) where
-  received_unsent : (slot : ℕ) (room : Bool) (pdu : Option (List ℕ)) (facts : Facts) → AllByRecursion (IsUnsent d) (steps_received Central slot room pdu facts)
-  received_unsent slot room None facts = tt
-  received_unsent slot room (Some octets) facts =
-      let header = header_in octets in
-      let pdu = pdu_of octets in
-      let now = plain_before_taking Central slot header facts in
-      let acks = acks_control (has_acknowledged facts header) facts in
-      let takes = accepts room header pdu now && is_procedure_pdu pdu in
-      both_unsent d (step_if acks SeesAcknowledged ++ []) (step_if takes (Takes (read_of pdu) slot true))
-      (both_unsent d (step_if acks SeesAcknowledged) [] (one_if_taken d acks SeesAcknowledged tt) tt)
-      (one_if_taken d takes (Takes (read_of pdu) slot true) tt)
+  entered_alone : (slot : ℕ) (quiet : Bool) (c : Control) → Ending d c → has_encryption (after (Enters slot quiet) c).table.progress ≡ false
+  entered_alone slot quiet c ending =
+      leaves_entering slot quiet c (by (is_encrypt (begin_step (entered_step c.table (is_some (next_number c.track))).0 slot quiet).1) refl) ∙ ending.alone
+    where
+      shut : is_open (entered_step c.table (is_some (next_number c.track))).0.closing ≡ false
+      shut = shut_by _ (entered_ends d c.table (is_some (next_number c.track)) ending.table).closing
 
-  step_unsent : (step : Step) (facts : Facts) → sends_control facts step ≡ false → AllByRecursion (IsUnsent d) (control_steps_in setup facts step)
-  step_unsent (DataGiven start body) facts none = tt
-  step_unsent (ProcedureAsked ask) facts none = one_if_taken d (not (asks_to_come ask facts)) (Asks ask) tt
-  step_unsent (RequestAnswered answer) facts none = (tt, tt)
-  step_unsent (KeyAnswered key slot) facts none = tt
-  step_unsent (Disconnected reason slot) facts none = (tt, tt)
-  step_unsent (EventEntered slot) facts none = one_if_taken d (goes_on facts) (Enters slot true) tt
-  step_unsent PduFixed facts none = tt
-  step_unsent (PacketSent slot) facts none =
-      subst (λ (b : Bool). AllByRecursion (IsUnsent d) (step_if b (Sends slot true))) (sym none) tt
-  step_unsent (WordsGiven skd_s iv_s) facts none = tt
-  step_unsent (PacketReceived slot octets room) facts none =
-      subst (λ (role : Role). AllByRecursion (IsUnsent d) (steps_received role slot room (good_pdu setup facts octets) facts)) (sym is_central)
-      (received_unsent slot room (good_pdu setup facts octets) facts)
-  step_unsent DataReported facts none = tt
+      by : (b : Bool) → is_encrypt (begin_step (entered_step c.table (is_some (next_number c.track))).0 slot quiet).1 ≡ b → b ≡ false
+      by false is = refl
+      by true is = sym (begins_encryption (entered_step c.table (is_some (next_number c.track))).0 slot quiet is).lasts ∙ shut
 
-  pub end_step : (step : Step) (facts : Facts) → IsPlain setup.link.role facts → sends_control facts step ≡ false → EndsWith d facts.control.table
-      → EndsWith d (facts_after setup facts step).control.table
-  end_step step facts plain none ends =
-      subst (λ (c : Control). EndsWith d c.table) (sym (one_step setup facts step plain))
-      (to_end d (control_steps_in setup facts step) facts.control (step_unsent step facts none) ends)
+  ending_keeps : Keeps (Ending d)
+  ending_keeps = record {
+    enters = λ slot quiet c h. record {
+      table = step_ends d (Enters slot quiet) c tt h.table;
+      role = same_role Central (Enters slot quiet) c h.role;
+      alone = entered_alone slot quiet c h;
+    };
+    asks = λ ask c h. still_ending (Asks ask) c refl tt h;
+    answers = λ answer c h. still_ending (Answers answer) c refl tt h;
+    disconnects = λ reason c h. still_ending (Disconnects reason) c refl tt h;
+    acks = λ c h. still_ending SeesAcknowledged c refl tt h;
+    owes = λ ctrl c h. still_ending (Owes ctrl) c refl tt h;
+    takes = λ read slot quiet c h. still_ending (Takes read slot quiet) c refl tt h;
+    ends = λ code c h. record { table = h.table; role = h.role; alone = h.alone };
+  }
+
+  pub end_step : (setup : Setup) → setup.link.role ≡ Central → (step : Step) (facts : Facts) → sends_control facts step ≡ false → Ending d facts.control
+      → Ending d (facts_after setup facts step).control
+  end_step setup is_central step facts none ending = step_kept (Ending d) ending_keeps setup is_central step facts none ending
 
 -- ---- what it sends next
 
@@ -237,59 +249,59 @@ next_at d c ends =
     (λ i. next_by (ends.rejections i) (next_after_rejections (ends.closing i && true) c.table.progress (event_of c.track) c.table.queue))
     ∙ ap next_disconnect ends.disconnect
 
-next_by_end : (d : Option ErrCode) (role : Role) (facts : Facts) → IsPlain role facts → EndsWith d facts.control.table → next_outgoing facts ≡ next_disconnect d
-next_by_end d role facts plain ends =
-    ap (λ quiet. outgoing_by quiet facts.control) (quiet_plain role facts plain) ∙ next_at d facts.control ends
+next_by_end : (d : Option ErrCode) (facts : Facts) → is_quiet_now facts ≡ true → EndsWith d facts.control.table → next_outgoing facts ≡ next_disconnect d
+next_by_end d facts quiet ends = ap (λ b. outgoing_by b facts.control) quiet ∙ next_at d facts.control ends
 
 -- LL_TERMINATE_IND waits until it is sent
 module _ (code : ErrCode) (setup : Setup) (is_central : setup.link.role ≡ Central) where
-  control_next : (facts : Facts) → IsPlain setup.link.role facts → EndsWith (Some code) facts.control.table → goes_on facts ≡ true → next_control facts ≡ Some (TerminateInd code.0)
-  control_next facts plain ends goes =
-      (λ i. if goes i then ctrl_of_outgoing (next_by_end (Some code) setup.link.role facts plain ends i) (event_of facts.control.track) facts.control.track.params.latency else None)
+  control_next : (facts : Facts) → is_quiet_now facts ≡ true → EndsWith (Some code) facts.control.table → goes_on facts ≡ true → next_control facts ≡ Some (TerminateInd code.0)
+  control_next facts quiet ends goes =
+      (λ i. if goes i then ctrl_of_outgoing (next_by_end (Some code) facts quiet ends i) (event_of facts.control.track) facts.control.track.params.latency else None)
 
   full : not (is_empty (pdu_of_control (Some (TerminateInd code.0)))) ≡ true
   unfolding little_endian
   full = refl
 
-  goes_out_so : (facts : Facts) → IsPlain setup.link.role facts → EndsWith (Some code) facts.control.table → goes_on facts ≡ true → takes_leave facts ≡ true
+  goes_out_so : (facts : Facts) → is_quiet_now facts ≡ true → EndsWith (Some code) facts.control.table → goes_on facts ≡ true → takes_leave facts ≡ true
       → sent_notes setup facts
       ≡ Sent setup.link.handle (numbered facts.acknowledgement.sent + 1) 3 (record { items = written (TerminateInd code.0) }) ∷ []
-  goes_out_so facts plain ends goes leaves =
+  goes_out_so facts quiet ends goes leaves =
       let both = and_parts (is_acked facts.acknowledgement) facts.fixes_control leaves in
       let fixed : pdu_fixed facts ≡ pdu_of_control (Some (TerminateInd code.0)) =
-      (λ i. if both.1 i then pdu_of_control (control_next facts plain ends goes i) else facts.outgoing.fixed) in
+      (λ i. if both.1 i then pdu_of_control (control_next facts quiet ends goes i) else facts.outgoing.fixed) in
       (λ i. sent_notes_if (both.0 i && not (is_empty (fixed i))) setup.link.handle (numbered facts.acknowledgement.sent) (fixed i))
       ∙ ap (λ (b : Bool). sent_notes_if b setup.link.handle (numbered facts.acknowledgement.sent) (pdu_of_control (Some (TerminateInd code.0)))) full
 
-  unsent_one : (step : Step) (facts : Facts) → IsPlain setup.link.role facts → EndsWith (Some code) facts.control.table → facts.control.ends ≡ None
+  unsent_one : (step : Step) (facts : Facts) → is_quiet_now facts ≡ true → EndsWith (Some code) facts.control.table → facts.control.ends ≡ None
       → list_any is_sending (notes_after setup facts step) ≡ false → sends_control facts step ≡ false
-  unsent_one (PacketSent slot) facts plain ends goes none = by (takes_leave facts) refl
+  unsent_one (PacketSent slot) facts quiet ends goes none = by (takes_leave facts) refl
     where
       by : (leaves : Bool) → takes_leave facts ≡ leaves → leaves ≡ false
       by false leaves = refl
       by true leaves =
-          absurd (let h : true ≡ false = ap (list_any is_sending) (sym (goes_out_so facts plain ends (ap (λ (e : Option ErrCode). is_none e) goes) leaves))
+          absurd (let h : true ≡ false = ap (list_any is_sending) (sym (goes_out_so facts quiet ends (ap (λ (e : Option ErrCode). is_none e) goes) leaves))
           ∙ none in absurd cc)
-  unsent_one (DataGiven start body) facts plain ends goes none = refl
-  unsent_one (ProcedureAsked ask) facts plain ends goes none = refl
-  unsent_one (RequestAnswered answer) facts plain ends goes none = refl
-  unsent_one (KeyAnswered key slot) facts plain ends goes none = refl
-  unsent_one (Disconnected reason slot) facts plain ends goes none = refl
-  unsent_one (EventEntered slot) facts plain ends goes none = refl
-  unsent_one PduFixed facts plain ends goes none = refl
-  unsent_one (WordsGiven skd_s iv_s) facts plain ends goes none = refl
-  unsent_one (PacketReceived slot octets room) facts plain ends goes none = refl
-  unsent_one DataReported facts plain ends goes none = refl
+  unsent_one (DataGiven start body) facts quiet ends goes none = refl
+  unsent_one (ProcedureAsked ask) facts quiet ends goes none = refl
+  unsent_one (RequestAnswered answer) facts quiet ends goes none = refl
+  unsent_one (KeyAnswered key slot) facts quiet ends goes none = refl
+  unsent_one (Disconnected reason slot) facts quiet ends goes none = refl
+  unsent_one (EventEntered slot) facts quiet ends goes none = refl
+  unsent_one PduFixed facts quiet ends goes none = refl
+  unsent_one (WordsGiven skd_s iv_s) facts quiet ends goes none = refl
+  unsent_one (PacketReceived slot octets room) facts quiet ends goes none = refl
+  unsent_one DataReported facts quiet ends goes none = refl
 
-  pub ending_still : (steps : List Step) (facts : Facts) → IsPlain setup.link.role facts → EndsWith (Some code) facts.control.table → (facts_from setup facts steps).control.ends ≡ None
-      → list_any is_sending (notes_from setup facts steps) ≡ false → EndsWith (Some code) (facts_from setup facts steps).control.table
-  ending_still [] facts plain ends goes none = ends
-  ending_still (step ∷ steps) facts plain ends goes none =
+  pub ending_still : (steps : List Step) (facts : Facts) → IsPast setup facts → Ending (Some code) facts.control → (facts_from setup facts steps).control.ends ≡ None
+      → list_any is_sending (notes_from setup facts steps) ≡ false → Ending (Some code) (facts_from setup facts steps).control
+  ending_still [] facts p ending goes none = ending
+  ending_still (step ∷ steps) facts p ending goes none =
       let after_step = facts_after setup facts step in
       let parts = or_parts (list_any is_sending (notes_after setup facts step)) (list_any is_sending (notes_from setup after_step steps))
       (sym (list_any-append is_sending (notes_after setup facts step) (notes_from setup after_step steps)) ∙ none) in
-      let unsent = unsent_one step facts plain ends (ends_go setup facts (step ∷ steps) plain goes) parts.0 in
-      ending_still steps after_step (step_plain setup facts step plain) (end_step (Some code) setup is_central step facts plain unsent ends) goes parts.1
+      let goes_now = ends_go setup facts (step ∷ steps) p goes in
+      let unsent = unsent_one step facts (quiet_there setup facts p goes_now ending.alone) ending.table goes_now parts.0 in
+      ending_still steps after_step (step_past setup facts step p) (end_step (Some code) setup is_central step facts unsent ending) goes parts.1
 
   same_pdu : (handle count other counted llid : ℕ) (body items : List ℕ)
       → Sent handle count 3 (record { items = items }) ∷ [] ≡ Sent other counted llid (record { items = body }) ∷ [] → (llid ≡ 3) × (body ≡ items)
@@ -300,10 +312,10 @@ module _ (code : ErrCode) (setup : Setup) (is_central : setup.link.role ≡ Cent
       (sym llids, ap (λ (v : ArrayVec ℕ). v.items) (sym bodies))
 
   -- the next PDU that it sends is LL_TERMINATE_IND
-  pub sent_ending : (facts : Facts) → IsPlain setup.link.role facts → is_control facts.outgoing.fixed ≡ false → EndsWith (Some code) facts.control.table → facts.control.ends ≡ None
+  pub sent_ending : (facts : Facts) → is_quiet_now facts ≡ true → is_control facts.outgoing.fixed ≡ false → EndsWith (Some code) facts.control.table → facts.control.ends ≡ None
       → (handle count llid : ℕ) (body : List ℕ) → sent_notes setup (facts_fixed facts) ≡ Sent handle count llid (record { items = body }) ∷ []
       → (llid ≡ 3) × (body ≡ written (TerminateInd code.0))
-  sent_ending facts plain none ends lasts handle count llid body sent = by (is_acked facts.acknowledgement) refl
+  sent_ending facts quiet none ends lasts handle count llid body sent = by (is_acked facts.acknowledgement) refl
     where
       notes : sent_notes setup (fixed_anew facts) ≡ Sent handle count llid (record { items = body }) ∷ []
       notes = ap (sent_notes setup) (sym (ap (λ (b : Bool). if b then facts else fixed_anew facts) none)) ∙ sent
@@ -313,9 +325,8 @@ module _ (code : ErrCode) (setup : Setup) (is_central : setup.link.role ≡ Cent
 
       by : (acked : Bool) → is_acked facts.acknowledgement ≡ acked → (llid ≡ 3) × (body ≡ written (TerminateInd code.0))
       by true acked =
-          let fixes = ap (λ (c : Option Ctrl). is_some c) (control_next facts plain ends goes) in
-          let plain_anew : IsPlain setup.link.role (fixed_anew facts) = record { encryption = plain.encryption; control = plain.control } in
-          let out = goes_out_so (fixed_anew facts) plain_anew ends goes (λ i. acked i && fixes i) in
+          let fixes = ap (λ (c : Option Ctrl). is_some c) (control_next facts quiet ends goes) in
+          let out = goes_out_so (fixed_anew facts) quiet ends goes (λ i. acked i && fixes i) in
           same_pdu setup.link.handle (numbered facts.acknowledgement.sent + 1) handle count llid body (written (TerminateInd code.0)) (sym out ∙ notes)
       by false acked =
           absurd (let h : [] ≡ Sent handle count llid (record { items = body }) ∷ [] =
@@ -325,40 +336,46 @@ module _ (code : ErrCode) (setup : Setup) (is_central : setup.link.role ≡ Cent
 -- ---- after LL_TERMINATE_IND nothing goes
 
 module _ (setup : Setup) (is_central : setup.link.role ≡ Central) where
-  sends_none : (slot : ℕ) (c : Control) → goes_out true c ≡ false → EndsWith None c.table → EndsWith None (after (Sends slot true) c).table
-  sends_none slot c none ends =
-      any_step (λ (k : Control). EndsWith None k.table) (Sends slot true) c
-      (subst (λ (b : Bool). EndsWith None
-      (if b then following (role_of c.table.progress) (went slot true c).1 (record c { table = (went slot true c).0 }) else c).table) (sym none) ends) ends
+  sends_none : (slot : ℕ) (quiet : Bool) (c : Control) → goes_out quiet c ≡ false → Ending None c → Ending None (after (Sends slot quiet) c)
+  sends_none slot quiet c none ending =
+      any_step (Ending None) (Sends slot quiet) c
+      (subst (λ (b : Bool). Ending None
+      (if b then following (role_of c.table.progress) (went slot quiet c).1 (record c { table = (went slot quiet c).0 }) else c)) (sym none) ending) ending
 
-  none_next : (facts : Facts) → EndsWith None facts.control.table → goes_out true facts.control ≡ false
-  none_next facts ends =
-      ap (λ (o : Outgoing). is_some (ctrl_of_outgoing o (event_of facts.control.track) facts.control.track.params.latency)) (next_at None facts.control ends)
+  none_next : (facts : Facts) → is_quiet_now facts ≡ true → EndsWith None facts.control.table → goes_out (is_quiet_now facts) facts.control ≡ false
+  none_next facts quiet ends =
+      ap (λ (o : Outgoing). is_some (ctrl_of_outgoing o (event_of facts.control.track) facts.control.track.params.latency)) (next_by_end None facts quiet ends)
 
-  end_any : (step : Step) (facts : Facts) → IsPlain setup.link.role facts → EndsWith None facts.control.table → EndsWith None (facts_after setup facts step).control.table
-  end_any (PacketSent slot) facts plain ends =
-      subst (λ (c : Control). EndsWith None c.table) (sym (one_step setup facts (PacketSent slot) plain)) (by (takes_leave facts))
+  gone_none : (slot : ℕ) (facts : Facts) → IsPast setup facts → Ending None facts.control → Ending None (after (Sends slot (is_quiet_now facts)) facts.control)
+  gone_none slot facts p ending = by facts.control.ends refl
     where
-      by : (leaves : Bool) → EndsWith None (after_all (step_if leaves (Sends slot true)) facts.control).table
-      by true = sends_none slot facts.control (none_next facts ends) ends
-      by false = ends
-  end_any (DataGiven start body) facts plain ends = end_step None setup is_central (DataGiven start body) facts plain refl ends
-  end_any (ProcedureAsked ask) facts plain ends = end_step None setup is_central (ProcedureAsked ask) facts plain refl ends
-  end_any (RequestAnswered answer) facts plain ends = end_step None setup is_central (RequestAnswered answer) facts plain refl ends
-  end_any (KeyAnswered key slot) facts plain ends = end_step None setup is_central (KeyAnswered key slot) facts plain refl ends
-  end_any (Disconnected reason slot) facts plain ends = end_step None setup is_central (Disconnected reason slot) facts plain refl ends
-  end_any (EventEntered slot) facts plain ends = end_step None setup is_central (EventEntered slot) facts plain refl ends
-  end_any PduFixed facts plain ends = end_step None setup is_central PduFixed facts plain refl ends
-  end_any (WordsGiven skd_s iv_s) facts plain ends = end_step None setup is_central (WordsGiven skd_s iv_s) facts plain refl ends
-  end_any (PacketReceived slot octets room) facts plain ends =
-      end_step None setup is_central (PacketReceived slot octets room) facts plain refl ends
-  end_any DataReported facts plain ends = end_step None setup is_central DataReported facts plain refl ends
+      by : (ends : Option ErrCode) → facts.control.ends ≡ ends → Ending None (after (Sends slot (is_quiet_now facts)) facts.control)
+      by None is =
+          sends_none slot (is_quiet_now facts) facts.control (none_next facts (quiet_there setup facts p is ending.alone) ending.table) ending
+      by (Some code) is =
+          subst (Ending None) (sym (stays_ended (Sends slot (is_quiet_now facts)) facts.control (ap (λ (e : Option ErrCode). is_none e) is))) ending
 
-  pub nothing_still : (steps : List Step) (facts : Facts) → IsPlain setup.link.role facts → EndsWith None facts.control.table
-      → EndsWith None (facts_from setup facts steps).control.table
-  nothing_still [] facts plain ends = ends
-  nothing_still (step ∷ steps) facts plain ends =
-      nothing_still steps (facts_after setup facts step) (step_plain setup facts step plain) (end_any step facts plain ends)
+  end_any : (step : Step) (facts : Facts) → IsPast setup facts → Ending None facts.control → Ending None (facts_after setup facts step).control
+  end_any (PacketSent slot) facts p ending = by (takes_leave facts)
+    where
+      by : (leaves : Bool) → Ending None (control_gone_if leaves slot facts).control
+      by true = gone_none slot facts p ending
+      by false = ending
+  end_any (DataGiven start body) facts p ending = end_step None setup is_central (DataGiven start body) facts refl ending
+  end_any (ProcedureAsked ask) facts p ending = end_step None setup is_central (ProcedureAsked ask) facts refl ending
+  end_any (RequestAnswered answer) facts p ending = end_step None setup is_central (RequestAnswered answer) facts refl ending
+  end_any (KeyAnswered key slot) facts p ending = end_step None setup is_central (KeyAnswered key slot) facts refl ending
+  end_any (Disconnected reason slot) facts p ending = end_step None setup is_central (Disconnected reason slot) facts refl ending
+  end_any (EventEntered slot) facts p ending = end_step None setup is_central (EventEntered slot) facts refl ending
+  end_any PduFixed facts p ending = end_step None setup is_central PduFixed facts refl ending
+  end_any (WordsGiven skd_s iv_s) facts p ending = end_step None setup is_central (WordsGiven skd_s iv_s) facts refl ending
+  end_any (PacketReceived slot octets room) facts p ending = end_step None setup is_central (PacketReceived slot octets room) facts refl ending
+  end_any DataReported facts p ending = end_step None setup is_central DataReported facts refl ending
+
+  pub nothing_still : (steps : List Step) (facts : Facts) → IsPast setup facts → Ending None facts.control → Ending None (facts_from setup facts steps).control
+  nothing_still [] facts p ending = ending
+  nothing_still (step ∷ steps) facts p ending =
+      nothing_still steps (facts_after setup facts step) (step_past setup facts step p) (end_any step facts p ending)
 
   if_none : (b : Bool) → ◌≡◌ {A = Option Ctrl} (if b then None else None) None
   if_none true = refl
@@ -368,13 +385,13 @@ module _ (setup : Setup) (is_central : setup.link.role ≡ Central) where
   none_noted true handle number = refl
   none_noted false handle number = refl
 
-  pub sent_nothing : (X : Type 0) (facts : Facts) → IsPlain setup.link.role facts → is_control facts.outgoing.fixed ≡ false → EndsWith None facts.control.table
+  pub sent_nothing : (X : Type 0) (facts : Facts) → is_quiet_now facts ≡ true → is_control facts.outgoing.fixed ≡ false → EndsWith None facts.control.table
       → (handle count llid : ℕ) (body : List ℕ) → sent_notes setup (facts_fixed facts) ≡ Sent handle count llid (record { items = body }) ∷ [] → X
-  sent_nothing X facts plain none ends handle count llid body sent =
+  sent_nothing X facts quiet none ends handle count llid body sent =
       let next : next_control facts ≡ None =
       ap (λ (o : Outgoing). if goes_on facts then ctrl_of_outgoing o (event_of facts.control.track) facts.control.track.params.latency else None)
-      (next_by_end None setup.link.role facts plain ends) ∙ if_none (goes_on facts) in
-      let stays : data_goes facts ≡ false = (λ i. quiet_plain setup.link.role facts plain i && not (ends.closing i)) in
+      (next_by_end None facts quiet ends) ∙ if_none (goes_on facts) in
+      let stays : data_goes facts ≡ false = (λ i. quiet i && not (ends.closing i)) in
       let fixed : pdu_fixed (fixed_anew facts) ≡ empty_pdu =
       (λ i. if is_some (next i) then pdu_of_control (next_control facts)
       else (data_fixed_by (is_some (next i)) (waiting_in facts.control.table.queue) (is_quiet_now facts) (stays i) (data_cut facts)).fixed) in
@@ -406,90 +423,72 @@ terminate_read n =
 
 -- ---- as it takes a PDU
 
-disconnecting_kept : (read : CtrlRead) (slot : ℕ) (c : Control) → is_disconnecting c.table.closing ≡ true
-    → is_disconnecting (after (Takes read slot true) c).table.closing ≡ true
-disconnecting_kept read slot c is =
-    let outcome = outcome_of c.table true read in
-    any_step EndsSo (Takes read slot true) c
-    (took_by EndsSo c (λ code. is) read slot true (taken_so (facts_with c.table slot outcome) (indicated_by outcome.step.effect) c
-    (ends_after outcome.step.effect c.table.closing is) is)) is
-  where
-    EndsSo : Control → Type 0
-    EndsSo c = is_disconnecting c.table.closing ≡ true
+abbrev EndsSo : Control → Type 0
+EndsSo c = is_disconnecting c.table.closing ≡ true
 
-    taken_so : (g : TableFacts) (indication : Option Indication) (c : Control) → is_disconnecting g.closing ≡ true → is_disconnecting c.table.closing ≡ true
-        → is_disconnecting (taken g None indication c).table.closing ≡ true
-    taken_so g None c now before = now
-    taken_so g (Some indication) c now before = either_way (λ (k : Control). is_disconnecting k.table.closing ≡ true)
-        (is_to_come c.track indication) _ _ now before
+entered_so : (f : TableFacts) (holds : Bool) → (entered_step f holds).0.closing ≡ f.closing
+entered_so f true = refl
+entered_so f false = refl
 
--- a PDU that the peer acknowledges, and one that is taken
-abbrev IsHeard : ControlStep → Type 0
-IsHeard SeesAcknowledged = ⊤
-IsHeard (Takes read slot quiet) = quiet ≡ true
-IsHeard step = ⊥
+begun_so : (f : TableFacts) (slot : ℕ) (place : Option ℕ) (ask : Option Ask) → (begin_at f slot place ask).0.closing ≡ f.closing
+begun_so f slot None ask = refl
+begun_so f slot (Some place) None = refl
+begun_so f slot (Some place) (Some ask) = refl
 
-table_kept : (may : Bool) (g : TableFacts) (c : Control) → is_disconnecting g.closing ≡ true → is_disconnecting c.table.closing ≡ true
-    → is_disconnecting (table_if may g c).table.closing ≡ true
-table_kept true g c now before = now
-table_kept false g c now before = before
+answered_so : (f : TableFacts) (answer : Result Ask ErrCode) → (host_answer_step f answer).closing ≡ f.closing
+answered_so f (Ok (Update interval latency timeout)) = refl
+answered_so f (Ok (Length tx)) = refl
+answered_so f (Ok ask) = refl
+answered_so f (Err code) = refl
 
-heard_kept : (step : ControlStep) (c : Control) → IsHeard step → is_disconnecting c.table.closing ≡ true → is_disconnecting (after step c).table.closing ≡ true
-heard_kept SeesAcknowledged c heard is =
-    any_step (λ (k : Control). is_disconnecting k.table.closing ≡ true) SeesAcknowledged c
-    (table_kept (is_out c.table.out) (acked_step c.table).0 c is is) is
-heard_kept (Takes read slot quiet) c heard is =
-    subst (λ (b : Bool). is_disconnecting (after (Takes read slot b) c).table.closing ≡ true) (sym heard) (disconnecting_kept read slot c is)
-heard_kept other c heard is = absurd heard
+taken_so : (g : TableFacts) (indication : Option Indication) (c : Control) → is_disconnecting g.closing ≡ true → EndsSo c → EndsSo (taken g None indication c)
+taken_so g None c now before = now
+taken_so g (Some indication) c now before = either_way EndsSo (is_to_come c.track indication) _ _ now before
 
-all_kept : (steps : List ControlStep) (c : Control) → AllByRecursion IsHeard steps → is_disconnecting c.table.closing ≡ true
-    → is_disconnecting (after_all steps c).table.closing ≡ true
-all_kept [] c heard is = is
-all_kept (step ∷ steps) c heard is = all_kept steps (after step c) heard.1 (heard_kept step c heard.0 is)
+table_so : (may : Bool) (g : TableFacts) (c : Control) → is_disconnecting g.closing ≡ true → EndsSo c → EndsSo (table_if may g c)
+table_so true g c now before = now
+table_so false g c now before = before
 
-one_heard : (taken_now : Bool) (step : ControlStep) → IsHeard step → AllByRecursion IsHeard (step_if taken_now step)
-one_heard true step is = (is, tt)
-one_heard false step is = tt
+disconnecting_keeps : Keeps EndsSo
+disconnecting_keeps = record {
+  enters = λ slot quiet c is.
+      let f = (entered_step c.table (is_some (next_number c.track))).0 in
+      any_step EndsSo (Enters slot quiet) c
+      (ap is_disconnecting (begun_so f slot (place_to_begin f quiet) (ask_at (place_to_begin f quiet) f.wanted) ∙ entered_so c.table (is_some (next_number c.track))) ∙ is) is;
+  asks = λ ask c is. any_step EndsSo (Asks ask) c is is;
+  answers = λ answer c is.
+      any_step EndsSo (Answers answer) c
+      (table_so (is_host_asked c.table.progress && is_answer answer) (host_answer_step c.table answer) c (ap is_disconnecting (answered_so c.table answer) ∙ is) is) is;
+  disconnects = λ reason c is. any_step EndsSo (Disconnects reason) c (table_so (is_open c.table.closing) (terminate_step c.table reason) c refl is) is;
+  acks = λ c is. any_step EndsSo SeesAcknowledged c (table_so (is_out c.table.out) (acked_step c.table).0 c is is) is;
+  owes = λ ctrl c is. any_step EndsSo (Owes ctrl) c (given_after ctrl c.table.closing is) is;
+  takes = λ read slot quiet c is.
+      let outcome = outcome_of c.table quiet read in
+      any_step EndsSo (Takes read slot quiet) c
+      (took_by EndsSo c (λ code. is) read slot quiet (taken_so (facts_with c.table slot outcome) (indicated_by outcome.step.effect) c
+      (ends_after outcome.step.effect c.table.closing is) is)) is;
+  ends = λ code c is. is;
+}
 
-both_heard : (steps more : List ControlStep) → AllByRecursion IsHeard steps → AllByRecursion IsHeard more → AllByRecursion IsHeard (steps ++ more)
-both_heard [] more one other = other
-both_heard (step ∷ steps) more one other = (one.0, both_heard steps more one.1 other)
-
-received_heard : (slot : ℕ) (room : Bool) (pdu : Option (List ℕ)) (facts : Facts) → AllByRecursion IsHeard (steps_received Central slot room pdu facts)
-received_heard slot room None facts = tt
-received_heard slot room (Some octets) facts =
-    let header = header_in octets in
-    let pdu = pdu_of octets in
-    let now = plain_before_taking Central slot header facts in
-    let acks = acks_control (has_acknowledged facts header) facts in
-    let takes = accepts room header pdu now && is_procedure_pdu pdu in
-    both_heard (step_if acks SeesAcknowledged ++ []) (step_if takes (Takes (read_of pdu) slot true))
-    (both_heard (step_if acks SeesAcknowledged) [] (one_heard acks SeesAcknowledged tt) tt)
-    (one_heard takes (Takes (read_of pdu) slot true) refl)
-
-no_rejection : (rejections : List TheRejection) (d : Option ErrCode) → next_by rejections (next_disconnect d) ≡ next_disconnect d → rejections ≡ []
-no_rejection [] d is = refl
-no_rejection (rejection ∷ rejections) None is = absurd (cc)
-no_rejection (rejection ∷ rejections) (Some code) is = absurd (cc)
+no_rejection : (rejections : List TheRejection) (other : Outgoing) (d : Option ErrCode) → next_by rejections other ≡ next_disconnect d → rejections ≡ []
+no_rejection [] other d is = refl
+no_rejection (rejection ∷ rejections) other None is = absurd (cc)
+no_rejection (rejection ∷ rejections) other (Some code) is = absurd (cc)
 
 -- a central whose host ended the link, and that sends only LL_TERMINATE_IND next or nothing
-pub ends_now : (setup : Setup) → setup.link.role ≡ Central → (slot : ℕ) (octets : List ℕ) (room : Bool) (facts : Facts) → IsPlain setup.link.role facts
-    → (d : Option ErrCode) → is_disconnecting facts.control.table.closing ≡ true
+pub ends_now : (setup : Setup) → setup.link.role ≡ Central → (slot : ℕ) (octets : List ℕ) (room : Bool) (facts : Facts) → (d : Option ErrCode)
+    → is_disconnecting facts.control.table.closing ≡ true
     → (facts_after setup facts (PacketReceived slot octets room)).control.table.queue.disconnect ≡ d
     → next_outgoing (facts_after setup facts (PacketReceived slot octets room))
     ≡ next_disconnect (facts_after setup facts (PacketReceived slot octets room)).control.table.queue.disconnect
     → EndsWith d (facts_after setup facts (PacketReceived slot octets room)).control.table
-ends_now setup is_central slot octets room facts plain d is disconnect next =
+ends_now setup is_central slot octets room facts d is disconnect next =
     let now = facts_after setup facts (PacketReceived slot octets room) in
-    let closing : is_disconnecting now.control.table.closing ≡ true =
-    ap (λ (c : Control). is_disconnecting c.table.closing) (one_step setup facts (PacketReceived slot octets room) plain)
-    ∙ all_kept (control_steps_in setup facts (PacketReceived slot octets room)) facts.control
-    (subst (λ (role : Role). AllByRecursion IsHeard (steps_received role slot room (good_pdu setup facts octets) facts)) (sym is_central)
-    (received_heard slot room (good_pdu setup facts octets) facts)) is in
     record {
-      closing = closing;
-      rejections = no_rejection now.control.table.queue.rejections now.control.table.queue.disconnect
-          (sym (λ i. next_by now.control.table.queue.rejections (next_after_rejections (closing i && quiet_plain setup.link.role now (step_plain setup facts (PacketReceived slot octets room) plain) i) now.control.table.progress
-          (event_of now.control.track) now.control.table.queue)) ∙ next);
+      closing = step_kept EndsSo disconnecting_keeps setup is_central (PacketReceived slot octets room) facts refl is;
+      rejections = no_rejection now.control.table.queue.rejections
+          (next_after_rejections (is_disconnecting now.control.table.closing && is_quiet_now now) now.control.table.progress (event_of now.control.track)
+          now.control.table.queue)
+          now.control.table.queue.disconnect next;
       disconnect = disconnect;
     }

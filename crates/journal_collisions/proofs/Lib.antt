@@ -1,6 +1,8 @@
 -- The lemmas of this crate.
 pub mod NextLines
 pub mod RefusedLines
+pub mod EachStep
+pub mod QuietCentrals
 pub mod Waits
 pub mod Continues
 pub mod SentCalls

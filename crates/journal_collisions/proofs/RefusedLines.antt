@@ -53,6 +53,8 @@ use Rattle.journal_endings.specs.journal_indications.journal_data.run_model.Run.
 use Rattle.journal_endings.proofs.journal_indications.journal_data.KeptData.{other_in}
 use Rattle.journal_endings.proofs.journal_indications.journal_data.Mine.{HasFarEnd}
 use Rattle.journal_endings.proofs.journal_indications.journal_data.journal_acks.TwoStations.{IsOfTwo, other_of}
+use Rattle.journal_endings.proofs.journal_indications.journal_data.journal_acks.Worded.{link_worded, worded, worded_here}
+use Rattle.journal_endings.specs.controller_model.host_view.Links.{was_encrypted}
 use Rattle.journal_endings.proofs.journal_indications.journal_data.journal_links.LinkLines.{lines_append, named_here}
 use Rattle.journal_endings.proofs.journal_indications.journal_data.journal_links.LinksBegun.{number_stays}
 use Rattle.journal_endings.proofs.journal_indications.journal_data.journal_links.OfTwo.{are_distinct, of_two_stations}
@@ -67,7 +69,7 @@ use Rattle.journal_endings.proofs.journal_indications.FarEnds.{far_before}
 use Rattle.journal_endings.proofs.journal_indications.InTime.{role_of_end}
 use Rattle.journal_endings.proofs.journal_indications.LineEnds.{IsEndOfLine, end_of_line, in_it}
 use Rattle.journal_endings.proofs.journal_indications.PairedEnds.{are_ends, far_end, own_end}
-use Rattle.journal_endings.proofs.journal_indications.Receptions.{IsReception, listened, reception_of}
+use Rattle.journal_endings.proofs.journal_indications.Receptions.{IsReception, listened, reception_of, same_notes}
 use Rattle.run_collisions.specs.Prevailing.{seen}
 use Rattle.run_collisions.specs.Refused.{IsRefused, TakesRejection}
 use Rattle.run_collisions.proofs.OfPairs.{good_taken, hear_before, sent_to_peripheral}
@@ -78,10 +80,17 @@ use Rattle.journal_collisions.proofs.NextLines.{next_line, whole}
 
 -- ---- the notes of a call that receives octets on a link begin with those of its end
 
-pub heard_on : (setup : Setup) (handle : ℕ) (octets : List ℕ) (facts : Facts) (doing : Doing) → listens_under handle doing ≡ true
-    → heard setup doing octets facts ≡ link_heard setup handle octets facts
-heard_on setup handle octets facts (CentralListens other) on = ap (λ n. link_heard setup n octets facts) (eqb-true other handle on)
-heard_on setup handle octets facts (PeripheralListens other) on = ap (λ n. link_heard setup n octets facts) (eqb-true other handle on)
+-- a peripheral has words then
+record IsHeardOn (setup : Setup) (handle : ℕ) (octets : List ℕ) (facts : Facts) (doing : Doing) : Type 0 where
+  words : Bool
+  is : heard setup doing octets facts ≡ link_heard setup handle octets (worded words setup handle facts)
+
+heard_on : (setup : Setup) (handle : ℕ) (octets : List ℕ) (facts : Facts) (doing : Doing) → listens_under handle doing ≡ true
+    → IsHeardOn setup handle octets facts doing
+heard_on setup handle octets facts (CentralListens other) on =
+    record { words = false; is = ap (λ n. link_heard setup n octets (worded false setup n facts)) (eqb-true other handle on) }
+heard_on setup handle octets facts (PeripheralListens other) on =
+    record { words = true; is = ap (λ n. link_heard setup n octets (worded true setup n facts)) (eqb-true other handle on) }
 heard_on setup handle octets facts (Advertises channel) on = absurd cc
 heard_on setup handle octets facts other on = absurd cc
 
@@ -96,14 +105,20 @@ pub end_first : (setup : Setup) (facts : Facts) (octets : List ℕ) (handle : �
 end_first setup facts octets handle link at listens =
     let slot = facts.turn.slot in
     let room = has_room setup facts in
-    let events = notes_of_events facts.view (events_received handle slot room (Some link) octets) in
-    let sent = notes_doing (reply_if (replies_in slot room (Some link) octets) handle) (link_received handle room octets facts) in
+    let on = heard_on setup handle octets facts facts.turn.doing listens in
+    let held = worded on.words setup handle facts in
+    let base = link_worded on.words setup facts link in
+    let encrypted = was_encrypted handle facts.view.links in
+    let events = notes_of_events facts.view (events_received encrypted handle slot room (Some base) octets) in
+    let sent = notes_doing (reply_if (replies_in slot room (Some base) octets) handle) (link_received handle room octets held) in
     record {
       more = events ++ sent;
-      is = ap notes_passed (heard_on setup handle octets facts facts.turn.doing listens)
-          ∙ ap (λ place. (notes_taken slot room place octets ++ notes_of_events facts.view (events_received handle slot room place octets))
-          ++ notes_doing (reply_if (replies_in slot room place octets) handle) (link_received handle room octets facts)) at
-          ∙ append_assoc (notes_taken slot room (Some link) octets) events sent;
+      is = ap notes_passed on.is
+          ∙ ap (λ place. (notes_taken slot room place octets ++ notes_of_events facts.view (events_received encrypted handle slot room place octets))
+          ++ notes_doing (reply_if (replies_in slot room place octets) handle) (link_received handle room octets held))
+          (worded_here on.words setup handle facts (Some link) at)
+          ∙ append_assoc (notes_taken slot room (Some base) octets) events sent
+          ∙ ap (λ notes. notes ++ (events ++ sent)) (same_notes on.words setup facts link slot room octets);
     }
 
 -- ---- what a rejection is

@@ -1,5 +1,5 @@
 -- What a central that prevails sends next on the link is the rejection, or LL_TERMINATE_IND where it is to end the link.
-use Rattle.std.proofs.Common.{◌≡◌, ℕ, ◌+◌, ◌%◌, ◌≤◌, ◌<◌, ◌⊎◌, inl, inr, Bool, true, false, Option, Some, None, is_none, List, [], ◌∷◌, ◌++◌, fold, map, refl, sym, ap, subst, ◌∙◌, append-nil, append_assoc, arith, if◌then◌else◌}
+use Rattle.std.proofs.Common.{◌≡◌, ℕ, ◌+◌, ◌%◌, ◌≤◌, ◌<◌, ◌⊎◌, inl, inr, Bool, true, false, Option, Some, None, List, [], ◌∷◌, ◌++◌, fold, map, refl, sym, ap, subst, ◌∙◌, append-nil, append_assoc, arith, if◌then◌else◌}
 use Rattle.std.specs.List.{list_any}
 use Rattle.std.proofs.lemmas.Bool.{or_parts}
 use Rattle.std.proofs.lemmas.Grind.{flat_map-append}
@@ -42,10 +42,10 @@ use Rattle.journal_endings.specs.journal_indications.journal_data.journal_links.
 use Rattle.journal_endings.specs.journal_indications.journal_data.journal_links.LinkLines.{line_of, lines_of}
 use Rattle.journal_endings.specs.journal_indications.journal_data.link_model.Data.{is_control}
 use Rattle.journal_endings.specs.journal_indications.journal_data.link_model.End.{facts_after as end_facts_after, facts_of as end_facts_of, notes_after as end_notes, notes_from, notes_of as end_notes_of}
-use Rattle.journal_endings.specs.journal_indications.journal_data.link_model.Facts.{Encryption, Facts as EndFacts, first_facts}
+use Rattle.journal_endings.specs.journal_indications.journal_data.link_model.Facts.{Facts as EndFacts, first_facts, keyed_of}
 use Rattle.journal_endings.specs.journal_indications.journal_data.link_model.Fixing.{facts_fixed}
-use Rattle.journal_endings.specs.journal_indications.journal_data.link_model.Entering.{facts_entered_if}
-use Rattle.journal_endings.specs.journal_indications.journal_data.link_model.Controls.{goes_on}
+use Rattle.journal_endings.specs.journal_indications.journal_data.link_model.Controls.{is_quiet_now}
+use Rattle.journal_endings.specs.journal_indications.journal_data.link_model.phased_control.table_laws.Encrypting.{has_encryption}
 use Rattle.journal_endings.specs.journal_indications.journal_data.link_model.Sending.{sent_notes}
 use Rattle.journal_endings.specs.journal_indications.journal_data.link_model.Setup.{Setup as EndSetup}
 use Rattle.journal_endings.specs.journal_indications.journal_data.link_model.Step.{Step as EndStep, EventEntered, PacketReceived, PduFixed}
@@ -68,9 +68,9 @@ use Rattle.journal_endings.proofs.journal_indications.journal_data.journal_links
 use Rattle.journal_endings.proofs.journal_indications.journal_data.journal_links.OfTwo.{are_distinct, of_two_stations}
 use Rattle.journal_endings.proofs.journal_indications.journal_data.journal_packets.AccessOrder.{AreNth}
 use Rattle.journal_endings.proofs.journal_indications.journal_data.link_model.Hearing.{IsHeardWhole}
-use Rattle.journal_endings.proofs.journal_indications.journal_data.link_model.ControlSteps.{keeps_role}
+use Rattle.journal_endings.proofs.journal_indications.journal_data.link_model.KeyedPasts.{keeps_role}
+use Rattle.journal_endings.proofs.journal_indications.journal_data.link_model.KnownEnds.{IsPast, past_knows}
 use Rattle.journal_endings.proofs.journal_indications.journal_data.link_model.Pasts.{grows}
-use Rattle.journal_endings.proofs.journal_indications.journal_data.link_model.Plain.{before_taking_plain, entered_control_plain, past_plain as end_plain, step_plain}
 use Rattle.journal_endings.proofs.journal_indications.journal_data.run_laws.DistinctAccess.{AreApart}
 use Rattle.journal_endings.proofs.journal_indications.journal_data.run_laws.InAgreement.{OpenedBefore}
 use Rattle.journal_endings.proofs.journal_indications.journal_data.run_laws.OpenSteps.{open_has}
@@ -88,39 +88,40 @@ use Rattle.link_answers.proofs.SentIndications.{sent_runs}
 use Rattle.link_procedures.specs.Running.{runs_at}
 use Rattle.link_procedures.proofs.Seen.{at_central}
 use Rattle.link_procedures.proofs.Steps.{past_goes}
-use Rattle.journal_endings.specs.link_runs.link_pairs.control_model.Control.{Control, Enters, moved, table_if}
 use Rattle.journal_endings.specs.link_runs.link_pairs.procedure_stages.Kinds.{role_of}
-use Rattle.journal_endings.specs.link_runs.link_pairs.procedures.Sending.{acked_step}
-use Rattle.procedure_values.specs.Drafts.{is_out}
 use Rattle.data_pdu.specs.Header.{header_in}
 use Rattle.journal_endings.specs.journal_indications.journal_data.link_model.Packets.{good_pdu}
-use Rattle.journal_endings.specs.journal_indications.journal_data.link_model.Plain.{IsPlain, control_acked_if}
 use Rattle.journal_endings.specs.journal_indications.journal_data.link_model.Receiving.{acks_control, facts_before_taking, has_acknowledged}
 use Rattle.journal_ends.proofs.StandingLinks.{older_at}
+use Rattle.journal_endings.proofs.EndingProcedures.{same_ends}
 use Rattle.journal_endings.proofs.journal_indications.InTime.{role_of_end}
 use Rattle.journal_endings.proofs.journal_indications.LineEnds.{IsEndOfLine, end_of_line, in_it, none as none_open}
 use Rattle.journal_endings.proofs.journal_indications.OneNumber.{one_connect}
 use Rattle.journal_endings.proofs.journal_indications.FarEnds.{far_before}
 use Rattle.journal_endings.proofs.journal_indications.Receptions.{IsReception, reception_of}
 use Rattle.journal_endings.proofs.journal_indications.journal_data.run_model.NoteLines.{line_in_call}
-use Rattle.journal_collisions.proofs.Endings.{EndsWith, end_step, ending_still, ends_now, nothing_still, sent_ending, sent_nothing, terminate_read}
+use Rattle.journal_collisions.proofs.Endings.{Ending, end_step, ending_still, ends_now, nothing_still, sent_ending, sent_nothing, terminate_read}
 use Rattle.journal_endings.specs.link_runs.link_pairs.Hearing.{received}
 use Rattle.run_collisions.specs.Prevailing.{next_outgoing, seen_by}
 use Rattle.run_collisions.specs.Waiting.{facts_from}
 use Rattle.run_collisions.proofs.Waiting.{waits}
+use Rattle.journal_endings.specs.link_calls.Phases.{link_worded}
+use Rattle.journal_endings.proofs.link_calls.run_laws.LinkPhases.{in_phase}
+use Rattle.journal_endings.proofs.run_pairs.EndCalls.{central_unworded}
 use Rattle.journal_endings.proofs.run_pairs.CallPlaces.{StandsAtBegin, StandsInPhase, stands_called}
 use Rattle.journal_endings.proofs.run_pairs.OneSide.{StationAt, station_first, station_kept}
 use Rattle.journal_collisions.specs.Collisions.{AllAreRejectedNext, Collides, IsRejection, IsTermination, SendsNothing, control_in, first_opcode, runs_after, runs_on}
-use Rattle.journal_collisions.proofs.CollidingLines.{PrevailInRuns, at, begun, central_by, excludes, lines_are, on, prevails, role}
+use Rattle.journal_collisions.proofs.CollidingLines.{PrevailInRuns, at, begun, central_by, excludes, lines_are, on, prevails, role, runs_still}
 use Rattle.journal_collisions.proofs.Continues.{IsSince, since_received}
 use Rattle.journal_collisions.proofs.EndLines.{end_lines, lines_sent, none_said, none_sent, sendings, sendings_grow, sendings_more, sents, sents_more}
 use Rattle.journal_collisions.proofs.LineOrder.{AreInOrder, InLaterCall, InOneCall, in_order}
 use Rattle.journal_collisions.proofs.Openings.{facts_joined, folded, is_opening_line, lines_open, same_exclusive}
+use Rattle.journal_collisions.proofs.QuietCentrals.{closing_acked, exclusive_alone, none_kept, quiet_there}
 use Rattle.journal_collisions.proofs.RefusedLines.{line_here}
 use Rattle.journal_collisions.proofs.RunsNoted.{lines_run}
 use Rattle.journal_collisions.proofs.SendingNotes.{said}
 use Rattle.journal_collisions.proofs.SentCalls.{AsAnswer, AtBegin, IsSentAtBegin, IsSentIn, sent_in}
-use Rattle.journal_collisions.proofs.Waits.{IsSentNow, facts_more, none_fixed, sent_next, waits_still}
+use Rattle.journal_collisions.proofs.Waits.{IsSentNow, ends_go, facts_more, none_fixed, sent_next, waits_still}
 
 -- ---- the rejection as it is written
 
@@ -168,28 +169,18 @@ module _ (setup : EndSetup) where
       ∙ ap (λ f. notes_from setup (first_facts setup) past ++ notes_from setup f steps) (sym (facts_more setup [] past))
 
   -- to enter an event ends nothing
-  enters_ends : (goes : Bool) (slot : ℕ) (c : Control) → (if goes then moved (Enters slot true) c else c).ends ≡ c.ends
-  enters_ends true slot c = refl
-  enters_ends false slot c = refl
-
-  entered_goes : (facts : EndFacts) (slot : ℕ) → IsPlain setup.link.role facts → facts.control.ends ≡ None → (end_facts_after setup facts (EventEntered slot)).control.ends ≡ None
-  entered_goes facts slot plain goes = by (goes_on facts)
-    where
-      by : (on : Bool) → (facts_entered_if on setup slot facts).control.ends ≡ None
-      by true =
-          ap (λ (c : Control). c.ends) (entered_control_plain setup.link.role slot facts plain)
-          ∙ enters_ends (is_none facts.control.ends) slot facts.control ∙ goes
-      by false = goes
+  entered_goes : (facts : EndFacts) (slot : ℕ) → facts.control.ends ≡ None → (end_facts_after setup facts (EventEntered slot)).control.ends ≡ None
+  entered_goes facts slot goes = same_ends setup facts (EventEntered slot) refl ∙ goes
 
 -- an end that enters its event, or does not
 module _ (setup : EndSetup) (x : TheRejection) (is_central : setup.link.role ≡ Central) (facts : EndFacts) (slot : ℕ)
-    (plain : IsPlain setup.link.role facts) (waiting : next_outgoing facts ≡ Rejection x) (goes : facts.control.ends ≡ None) where
+    (waiting : next_outgoing facts ≡ Rejection x) (goes : facts.control.ends ≡ None) where
   still_next : (enters : Bool) → next_outgoing (facts_from setup facts (entered_steps enters slot)) ≡ Rejection x
   still_next true = waits x setup is_central facts (EventEntered slot ∷ []) waiting refl
   still_next false = waiting
 
   still_goes : (enters : Bool) → (facts_from setup facts (entered_steps enters slot)).control.ends ≡ None
-  still_goes true = entered_goes setup facts slot plain goes
+  still_goes true = entered_goes setup facts slot goes
   still_goes false = goes
 
 entered_past : (enters : Bool) (slot : ℕ) (link : OpenLink) → (entered_if enters slot link).past ≡ link.past ++ entered_steps enters slot
@@ -213,22 +204,12 @@ written_now x setup is_central p q own peer llid body own_is peer_is first opcod
 
 -- ---- whether a central is to end the link does not change as it sees its last PDU acknowledged
 
-closing_if : (goes may : Bool) (c : Control) → (if goes then table_if may (acked_step c.table).0 c else c).table.closing ≡ c.table.closing
-closing_if true true c = refl
-closing_if true false c = refl
-closing_if false may c = refl
-
-closing_acked : (acked : Bool) (c : Control) → (control_acked_if acked c).table.closing ≡ c.table.closing
-closing_acked true c = closing_if (is_none c.ends) (is_out c.table.out) c
-closing_acked false c = refl
-
-closing_by : (setup : EndSetup) → setup.link.role ≡ Central → (slot : ℕ) (facts : EndFacts) → IsPlain setup.link.role facts → (may : Option (List ℕ))
+closing_by : (setup : EndSetup) → setup.link.role ≡ Central → (slot : ℕ) (facts : EndFacts) → IsPast setup facts → (may : Option (List ℕ))
     → (seen_by setup slot may facts).control.table.closing ≡ facts.control.table.closing
-closing_by setup is_central slot facts plain None = refl
-closing_by setup is_central slot facts plain (Some pdu) =
+closing_by setup is_central slot facts past None = refl
+closing_by setup is_central slot facts past (Some pdu) =
     ap (λ (role : Role). (facts_before_taking role slot (header_in pdu) facts).control.table.closing) is_central
-    ∙ ap (λ (f : EndFacts). f.control.table.closing) (before_taking_plain setup.link.role Central slot (header_in pdu) facts plain)
-    ∙ closing_acked (acks_control (has_acknowledged facts (header_in pdu)) facts) facts.control
+    ∙ closing_acked (acks_control (has_acknowledged facts (header_in pdu)) facts) (keyed_of facts) (past_knows setup facts past)
 
 -- ---- numbers and stations
 
@@ -296,12 +277,11 @@ module _ (whole_heard : IsHeardWhole) (understood : IsUnderstood) (taken : AreTa
   abbrev now : EndFacts
   now = received heard.link.setup facts.turn.slot heard.octets room (facts_in heard.link)
 
-  -- its end encrypts nothing
-  heard_plain : IsPlain end_setup.link.role (facts_in heard.link)
-  heard_plain = end_plain end_setup heard.link.past
+  heard_past : IsPast end_setup (facts_in heard.link)
+  heard_past = record { past = heard.link.past; is = refl }
 
-  now_plain : IsPlain end_setup.link.role now
-  now_plain = step_plain end_setup (facts_in heard.link) step heard_plain
+  now_past : IsPast end_setup now
+  now_past = record { past = heard.link.past ++ step ∷ []; is = sym (grows end_setup heard.link.past step) }
 
   distinct : AreDistinct given.stations
   distinct = are_distinct given are_pair
@@ -311,6 +291,17 @@ module _ (whole_heard : IsHeardWhole) (understood : IsUnderstood) (taken : AreTa
 
   is_central : heard.link.setup.link.role ≡ Central
   is_central = role whole_heard understood taken nth apart given are_pair six prevail front link number count llid body call heard far p q collides
+
+  -- of its own it runs a procedure that excludes others, and no encryption
+  now_alone : has_encryption now.control.table.progress ≡ false
+  now_alone =
+      let own = excludes whole_heard understood taken nth apart given are_pair six prevail front link number count llid body call heard far p q collides in
+      exclusive_alone now.control.table.progress (is_open now.control.table.closing) now.control.table.queue.rejections now.control.table.queue.drafts own.kind
+      (runs_still whole_heard understood taken nth apart given are_pair six prevail front link number count llid body call heard far p q collides)
+
+  now_central : role_of now.control.table.progress ≡ Central
+  now_central =
+      ap (λ (f : EndFacts). role_of f.control.table.progress) now_past.is ∙ keeps_role end_setup now_past.past ∙ is_central
 
   called : history_of (run_of given) ≡ call.base ++ Called call.station (PacketHeard heard.octets) ∷ call.after
   called = at whole_heard understood taken nth apart given are_pair six prevail front link number count llid body call heard far p q collides
@@ -366,6 +357,12 @@ module _ (whole_heard : IsHeardWhole) (understood : IsUnderstood) (taken : AreTa
           opened_once given call.base (Called call.station call.step ∷ call.after) call.station call.handle other heard.link found distinct is_on call.called
           heard.is_open is (sym same)
 
+      -- a central is given no words
+      unworded : link_worded own_setup facts facts.turn.doing heard.link ≡ heard.link
+      unworded =
+          central_unworded facts.links call.handle heard.link heard.is_open own_setup facts stands.phases facts.turn.doing
+          (in_phase own_setup (past_of call.station call.base) stands.phases stands.turns stands.stand.own) heard.listens is_central
+
       -- the call of the second line is a later one
       module _ (mid : List Event) (base_is : next_call.base ≡ call.base ++ Called call.station call.step ∷ mid) where
         has_first : HasNumber call.base (number_at call.station call.handle call.base) call.station heard.link.setup
@@ -417,7 +414,7 @@ module _ (whole_heard : IsHeardWhole) (understood : IsUnderstood) (taken : AreTa
 
         since : IsSince own_setup facts heard.octets call.handle next_call.handle heard.link later
         since =
-            since_received own_setup past stands.phases stands.turns heard.octets call.handle heard.link stands.stand.own heard.is_open heard.listens old single
+            since_received own_setup past stands.phases stands.turns heard.octets call.handle heard.link stands.stand.own heard.is_open heard.listens old single unworded
             more (at_stage Between begins.slot) next_call.handle later stood_later opened_same later_here
 
         -- what the end holds then
@@ -493,11 +490,8 @@ module _ (whole_heard : IsHeardWhole) (understood : IsUnderstood) (taken : AreTa
             ap (end_facts_of later.setup) (entered_past enters begins.slot later)
             ∙ facts_more later.setup later.past (entered_steps enters begins.slot)
 
-        later_plain : IsPlain later.setup.link.role (facts_in later)
-        later_plain = end_plain later.setup later.past
-
-        last_plain : IsPlain later.setup.link.role last
-        last_plain = subst (IsPlain later.setup.link.role) entered_is (end_plain later.setup (link_entered begins.slot later).past)
+        last_past : IsPast later.setup last
+        last_past = record { past = (link_entered begins.slot later).past; is = sym entered_is }
 
         none_now : is_control last.outgoing.fixed ≡ false
         none_now =
@@ -511,40 +505,43 @@ module _ (whole_heard : IsHeardWhole) (understood : IsUnderstood) (taken : AreTa
         -- so what it sends is the rejection
         module _ (none : SendsNothing link.central number between) (x : TheRejection) (waiting : next_outgoing now ≡ Rejection x) where
           waiting_later : next_outgoing (facts_in later) ≡ Rejection x
-          waiting_later = ap next_outgoing facts_later ∙ waits_still x end_setup is_central since.steps now now_plain waiting goes (unsent none)
+          waiting_later = ap next_outgoing facts_later ∙ waits_still x end_setup is_central since.steps now now_past waiting goes (unsent none)
 
           pub sent_now : IsSentNow x later.setup later_central next_llid next
           sent_now =
               sent_next x later.setup later_central last none_now
-              (still_next later.setup x later_central (facts_in later) begins.slot later_plain waiting_later goes_later enters)
-              (still_goes later.setup x later_central (facts_in later) begins.slot later_plain waiting_later goes_later enters)
+              (still_next later.setup x later_central (facts_in later) begins.slot waiting_later goes_later enters)
+              (still_goes later.setup x later_central (facts_in later) begins.slot waiting_later goes_later enters)
               next_call.handle next_count next_llid next
               (sym (λ i. sent_notes (begins.setup_is i) (base_facts i)) ∙ begins.notes)
 
         -- a central whose host ended the link sends LL_TERMINATE_IND, or nothing
         last_goes : (entering : Bool) → (facts_from later.setup (facts_in later) (entered_steps entering begins.slot)).control.ends ≡ None
-        last_goes true = entered_goes later.setup (facts_in later) begins.slot later_plain goes_later
+        last_goes true = entered_goes later.setup (facts_in later) begins.slot goes_later
         last_goes false = goes_later
 
-        last_ends : (d : Option ErrCode) (entering : Bool) → EndsWith d (facts_in later).control.table
-            → EndsWith d (facts_from later.setup (facts_in later) (entered_steps entering begins.slot)).control.table
-        last_ends d true ends = end_step d later.setup later_central (EventEntered begins.slot) (facts_in later) later_plain refl ends
-        last_ends d false ends = ends
+        last_ends : (d : Option ErrCode) (entering : Bool) → Ending d (facts_in later).control
+            → Ending d (facts_from later.setup (facts_in later) (entered_steps entering begins.slot)).control
+        last_ends d true ending = end_step d later.setup later_central (EventEntered begins.slot) (facts_in later) refl ending
+        last_ends d false ending = ending
+
+        last_quiet : (d : Option ErrCode) → Ending d last.control → is_quiet_now last ≡ true
+        last_quiet d ending = quiet_there later.setup last last_past (last_goes enters) ending.alone
 
         notes_now : sent_notes later.setup (facts_fixed last) ≡ SentNote next_call.handle next_count next_llid (record { items = next }) ∷ []
         notes_now = sym (λ i. sent_notes (begins.setup_is i) (base_facts i)) ∙ begins.notes
 
-        pub ended_now : SendsNothing link.central number between → (d : Option ErrCode) → EndsWith d now.control.table → IsTermination next_llid next
-        ended_now none (Some code) ends =
-            let later_ends = subst (λ (f : EndFacts). EndsWith (Some code) f.control.table) (sym facts_later)
-            (ending_still code end_setup is_central since.steps now now_plain ends goes (unsent none)) in
-            let sent = sent_ending code later.setup later_central last last_plain none_now (last_ends (Some code) enters later_ends) (last_goes enters)
+        pub ended_now : SendsNothing link.central number between → (d : Option ErrCode) → Ending d now.control → IsTermination next_llid next
+        ended_now none (Some code) ending =
+            let last_ending = last_ends (Some code) enters (subst (λ (f : EndFacts). Ending (Some code) f.control) (sym facts_later)
+            (ending_still code end_setup is_central since.steps now now_past ending goes (unsent none))) in
+            let sent = sent_ending code later.setup later_central last (last_quiet (Some code) last_ending) none_now last_ending.table (last_goes enters)
             next_call.handle next_count next_llid next notes_now in
             record { code = code.0 % 256; is = (λ i. control_in (sent.0 i) (sent.1 i)) ∙ ap Some (terminate_read code.0) }
-        ended_now none None ends =
-            let later_ends = subst (λ (f : EndFacts). EndsWith None f.control.table) (sym facts_later)
-            (nothing_still end_setup is_central since.steps now now_plain ends) in
-            sent_nothing later.setup later_central _ last last_plain none_now (last_ends None enters later_ends) next_call.handle next_count next_llid next notes_now
+        ended_now none None ending =
+            let last_ending = last_ends None enters (subst (λ (f : EndFacts). Ending None f.control) (sym facts_later)
+            (nothing_still end_setup is_central since.steps now now_past ending)) in
+            sent_nothing later.setup later_central _ last (last_quiet None last_ending) none_now last_ending.table next_call.handle next_count next_llid next notes_now
 
         -- ---- which indication it may send
 
@@ -602,8 +599,12 @@ module _ (whole_heard : IsHeardWhole) (understood : IsUnderstood) (taken : AreTa
               ∙ lines_open link.central number kind (heard.rest ++ notes_from end_setup now more_steps)
               ∙ ap (list_any (is_opening_line kind)) between_said ∙ unopened)).1
 
-          now_is : now ≡ end_facts_of end_setup (heard.link.past ++ step ∷ [])
-          now_is = sym (grows end_setup heard.link.past step)
+          -- it keeps no PDU now
+          now_goes : now.control.ends ≡ None
+          now_goes = ends_go end_setup now since.steps now_past goes
+
+          kept_none : is_opening_kept kind now.encryption.kept ≡ false
+          kept_none = ap (is_opening_kept kind) (none_kept end_setup now now_past now_goes (quiet_there end_setup now now_past now_goes now_alone))
 
           last_is : last ≡ fold (end_facts_after end_setup) now more_steps
           last_is =
@@ -614,8 +615,7 @@ module _ (whole_heard : IsHeardWhole) (understood : IsUnderstood) (taken : AreTa
           owes_last =
               let all = prevails whole_heard understood taken nth apart given are_pair six prevail front link number count llid body call heard far p q collides in
               subst (λ (f : EndFacts). Owes kind (central_of f.control.table)) (sym last_is)
-              (steps_owe end_setup now more_steps kind (record { past = heard.link.past ++ step ∷ []; is = now_is }) is_central
-              (all.owes kind) (ap (λ (e : Encryption). is_opening_kept kind e.kept) now_plain.encryption) none_opened_since)
+              (steps_owe end_setup now more_steps kind now_past is_central (all.owes kind) kept_none none_opened_since)
 
           runs_last : next_llid ≡ 3 → indicates (ctrl_of next) ≡ Some kind → central_kind (central_of last.control.table).own ≡ Some kind
           runs_last three is =
@@ -647,18 +647,21 @@ module _ (whole_heard : IsHeardWhole) (understood : IsUnderstood) (taken : AreTa
         let first = begun whole_heard understood taken nth apart given are_pair six prevail front link number count llid body call heard far p q collides in
         let own = excludes whole_heard understood taken nth apart given are_pair six prevail front link number count llid body call heard far p q collides in
         let all = prevails whole_heard understood taken nth apart given are_pair six prevail front link number count llid body call heard far p q collides in
-        let rejects = all.rejected (ap is_open (closing_by heard.link.setup is_central facts.turn.slot (facts_in heard.link) heard_plain
+        let rejects = all.rejected (ap is_open (closing_by heard.link.setup is_central facts.turn.slot (facts_in heard.link) heard_past
         (good_pdu heard.link.setup (facts_in heard.link) heard.octets)) ∙ opened) in
         inl (written_now rejects.rejection later.setup later_central own.kind first.kind p q next_llid next own.kind_is first.kind_is first.opcode
         rejects.opcode rejects.code (sent_now begins mid base_is none rejects.rejection rejects.next))
     by_closing none begins mid base_is false closed =
         let all = prevails whole_heard understood taken nth apart given are_pair six prevail front link number count llid body call heard far p q collides in
-        let same = closing_by heard.link.setup is_central facts.turn.slot (facts_in heard.link) heard_plain
+        let same = closing_by heard.link.setup is_central facts.turn.slot (facts_in heard.link) heard_past
         (good_pdu heard.link.setup (facts_in heard.link) heard.octets) in
         let shut = ap is_open same ∙ closed in
-        inr (ended_now begins mid base_is none now.control.table.queue.disconnect
-        (ends_now heard.link.setup is_central facts.turn.slot heard.octets room (facts_in heard.link) heard_plain now.control.table.queue.disconnect
-        (ap is_disconnecting (sym same) ∙ all.ending shut) refl (all.closing shut)))
+        inr (ended_now begins mid base_is none now.control.table.queue.disconnect (record {
+          table = ends_now heard.link.setup is_central facts.turn.slot heard.octets room (facts_in heard.link) now.control.table.queue.disconnect
+              (ap is_disconnecting (sym same) ∙ all.ending shut) refl (all.closing shut);
+          role = now_central;
+          alone = now_alone;
+        }))
 
     by_order : SendsNothing link.central number between → (begins : IsSentAtBegin (setup_at given next_call.station) (facts_at given next_call.station next_call.base) next_call.later
         next_call.step next_call.handle next_count next_llid next later)

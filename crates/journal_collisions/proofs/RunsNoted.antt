@@ -1,5 +1,5 @@
 -- The own procedure of a central, by its lines before it takes a PDU, is the one in its table as it looks at that PDU.
-use Rattle.std.proofs.Common.{◌≡◌, ℕ, ◌&&◌, not, Bool, true, false, Option, Some, None, List, [], ◌∷◌, ◌++◌, fold, map, refl, sym, ap, ◌∙◌}
+use Rattle.std.proofs.Common.{◌≡◌, ℕ, ◌&&◌, ◌||◌, not, Bool, true, false, Option, Some, None, List, [], ◌∷◌, ◌++◌, fold, map, refl, sym, ap, ◌∙◌}
 use Rattle.std.specs.List.{list_any}
 use Rattle.std.proofs.lemmas.Bool.{or_right}
 use Rattle.std.proofs.lemmas.List.Folds.{list_any-append}
@@ -20,26 +20,24 @@ use Rattle.journal_endings.specs.journal_indications.journal_data.link_model.End
 use Rattle.journal_endings.specs.journal_indications.journal_data.link_model.Entering.{done_notes}
 use Rattle.journal_endings.specs.journal_indications.journal_data.link_model.Facts.{Facts}
 use Rattle.journal_endings.specs.journal_indications.journal_data.link_model.Packets.{good_pdu}
-use Rattle.journal_endings.specs.journal_indications.journal_data.link_model.Plain.{IsPlain, control_acked_if, plain_before_taking, plain_given_if, plain_notes_hearing}
-use Rattle.journal_endings.specs.journal_indications.journal_data.link_model.Receiving.{accepts, acked_kind, acks_control, facts_before_taking, given_notes, has_acknowledged, notes_hearing, received_notes, refused_notes, took_notes_if}
+use Rattle.journal_endings.specs.journal_indications.journal_data.link_model.Receiving.{accepts, acked_kind, acks_control, facts_before_taking, given_if, given_notes, has_acknowledged, kept_given_if, notes_hearing, received_notes, refused_notes, took_notes_if}
 use Rattle.journal_endings.specs.journal_indications.journal_data.link_model.Setup.{Setup}
 use Rattle.journal_endings.specs.journal_indications.journal_data.link_model.Step.{Step, PacketReceived}
 use Rattle.journal_endings.specs.journal_indications.journal_data.link_model.Verdicts.{pdu_of}
 use Rattle.link_procedures.specs.Running.{runs_at}
+use Rattle.link_procedures.proofs.Controls.{owing_keeps}
 use Rattle.link_procedures.proofs.Steps.{acked_goes}
 use Rattle.journal_endings.specs.journal_indications.journal_data.link_model.Controls.{is_procedure_pdu}
 use Rattle.journal_endings.specs.journal_indications.journal_data.link_model.Data.{is_empty}
 use Rattle.collision_steps.specs.CentralPart.{central_of}
-use Rattle.journal_endings.specs.journal_indications.journal_data.link_model.ControlSteps.{control_steps_of}
-use Rattle.journal_endings.specs.journal_indications.journal_data.link_model.Setup.{first_anchor, first_params}
-use Rattle.journal_endings.proofs.journal_indications.journal_data.link_model.ControlSteps.{keeps_role, past_goes as control_goes}
-use Rattle.journal_endings.proofs.journal_indications.journal_data.link_model.Plain.{before_taking_plain, notes_hearing_plain, past_plain}
-use Rattle.journal_endings.proofs.link_calls.control_model.Moving.{role_after}
+use Rattle.journal_endings.proofs.journal_indications.journal_data.link_model.KeyedPasts.{keeps_role}
+use Rattle.journal_endings.proofs.journal_indications.journal_data.link_model.KnownEnds.{IsPast, past_knows}
+use Rattle.journal_endings.proofs.journal_indications.journal_data.link_model.Views.{Owed, Owing, Same, acked_control, acked_view}
+use Rattle.journal_endings.proofs.link_calls.control_model.Moving.{same_role}
 use Rattle.link_procedures.proofs.Seen.{at_central, same_kind}
-use Rattle.journal_endings.specs.link_runs.link_pairs.control_model.Control.{Control, SeesAcknowledged, Step as ControlStep, after, after_all, first_control}
-use Rattle.journal_endings.specs.link_runs.link_pairs.procedure_stages.Kinds.{is_kind, own_kind, role_of}
+use Rattle.journal_endings.specs.link_runs.link_pairs.control_model.Control.{Control, Owes, SeesAcknowledged}
+use Rattle.journal_endings.specs.link_runs.link_pairs.procedure_stages.Kinds.{is_kind, role_of}
 use Rattle.link_procedures.specs.Running.{runs_after as note_runs}
-use Rattle.journal_endings.specs.link_runs.link_pairs.control_end.declared.answers.Taken.{Taken}
 use Rattle.journal_collisions.specs.Collisions.{runs_after}
 use Rattle.run_collisions.specs.Prevailing.{seen, seen_by}
 
@@ -112,26 +110,22 @@ module _ (earlier later : List Note) (handle count llid : ℕ) (body : List ℕ)
       λ i. sym head i ∷ after_none noted own pdu facts given before none rest i
 
   -- the procedures that run as the central looks at the PDU
-  module _ (setup : Setup) (is_central : setup.link.role ≡ Central) (slot : ℕ) (room : Bool) (facts : Facts) (plain : IsPlain setup.link.role facts) where
-    acked_control : (acked : Bool) (header : DataHeader) → acks_control (has_acknowledged facts header) facts ≡ acked
-        → (facts_before_taking Central slot header facts).control ≡ control_acked_if acked facts.control
-    acked_control acked header is =
-        ap (λ (f : Facts). f.control) (before_taking_plain setup.link.role Central slot header facts plain)
-        ∙ ap (λ (b : Bool). control_acked_if b facts.control) is
-
+  module _ (setup : Setup) (is_central : setup.link.role ≡ Central) (slot : ℕ) (room : Bool) (facts : Facts) (p : IsPast setup facts) where
     runs_heard : (header : DataHeader) (pdu : Pdu) (kind : Kind) → notes_hearing setup slot room header pdu facts ≡ earlier ++ note ∷ later
         → fold (note_runs kind) (runs_at kind facts) earlier ≡ runs_at kind (facts_before_taking Central slot header facts)
     runs_heard header pdu kind is =
         let acks = acks_control (has_acknowledged facts header) facts in
-        let now = plain_before_taking setup.link.role slot header facts in
-        let given : Taken = plain_given_if (accepts room header pdu now && is_procedure_pdu pdu) pdu slot now in
-        let noted : plain_notes_hearing setup slot room header pdu facts ≡ earlier ++ note ∷ later =
-        sym (notes_hearing_plain setup slot room header pdu facts plain) ∙ is in
+        let now = facts_before_taking setup.link.role slot header facts in
+        let takes = accepts room header pdu now && is_procedure_pdu pdu in
+        let given = given_if takes pdu slot now in
+        let kept = kept_given_if takes pdu slot now in
         let done = after_done (acked_kind acks facts) (accepts room header pdu now && not (is_empty pdu)) setup.link.handle pdu now
-        (given_notes setup.link.handle given) earlier (given_none setup.link.handle given.refused given.done) noted in
+        (given_notes setup.link.handle given ++ given_notes setup.link.handle kept) earlier
+        (list_any-append is_took (given_notes setup.link.handle given) (given_notes setup.link.handle kept)
+        ∙ (λ i. given_none setup.link.handle given.refused given.done i || given_none setup.link.handle kept.refused kept.done i)) is in
         ap (λ xs. fold (note_runs kind) (runs_at kind facts) xs) done
         ∙ acked_goes setup.link.handle acks facts kind
-        ∙ ap (λ (c : Control). is_kind (own_kind c.table.progress) kind) (sym (acked_control acks header refl))
+        ∙ ap (λ own. is_kind own kind) (sym (owing_keeps _ _ (acked_view acks facts (past_knows setup facts p))))
 
     runs_by : (may : Option (List ℕ)) (kind : Kind) → received_notes setup slot room may facts ≡ earlier ++ note ∷ later
         → fold (note_runs kind) (runs_at kind facts) earlier ≡ runs_at kind (seen_by setup slot may facts)
@@ -146,30 +140,29 @@ module _ (earlier later : List Note) (handle count llid : ℕ) (body : List ℕ)
 
 -- ---- the procedure in the table of a central
 
-after_last : (steps : List ControlStep) (step : ControlStep) (c : Control) → after_all (steps ++ step ∷ []) c ≡ after step (after_all steps c)
-after_last [] step c = refl
-after_last (first ∷ steps) step c = after_last steps step (after first c)
+-- an acknowledgement changes no role, nor does a PDU of the encryption that is owed then
+role_owing : (role : Role) (c d : Control) → Owing c d → role_of c.table.progress ≡ role → role_of d.table.progress ≡ role
+role_owing role c d (Same is) same = ap (λ (e : Control). role_of e.table.progress) is ∙ same
+role_owing role c d (Owed ctrl may is) same = ap (λ (e : Control). role_of e.table.progress) is ∙ same_role role (Owes ctrl) c same
+
+role_acked : (role : Role) (acked : Bool) (c : Control) → role_of c.table.progress ≡ role → role_of (acked_control acked c).table.progress ≡ role
+role_acked role true c same = same_role role SeesAcknowledged c same
+role_acked role false c same = same
 
 module _ (setup : Setup) (is_central : setup.link.role ≡ Central) (past : List Step) where
   abbrev held : Facts
   held = facts_of setup past
 
-  role_acked : (acked : Bool) → role_of (control_acked_if acked held.control).table.progress ≡ setup.link.role
-  role_acked false = keeps_role setup past
-  role_acked true =
-      let first = first_control setup.link.role setup.link.max_rx (first_params setup.link.fields) (first_anchor setup) in
-      let steps = control_steps_of setup past in
-      ap (λ (c : Control). role_of (after SeesAcknowledged c).table.progress) (control_goes setup past)
-      ∙ ap (λ (c : Control). role_of c.table.progress) (sym (after_last steps SeesAcknowledged first))
-      ∙ role_after setup.link.role setup.link.max_rx (first_params setup.link.fields) (first_anchor setup) (steps ++ SeesAcknowledged ∷ [])
+  held_past : IsPast setup held
+  held_past = record { past = past; is = refl }
 
   role_seen : (slot : ℕ) (may : Option (List ℕ)) → role_of (seen_by setup slot may held).control.table.progress ≡ setup.link.role
   role_seen slot None = keeps_role setup past
   role_seen slot (Some pdu) =
+      let acks = acks_control (has_acknowledged held (header_in pdu)) held in
       ap (λ (role : Role). role_of (facts_before_taking role slot (header_in pdu) held).control.table.progress) is_central
-      ∙ ap (λ (f : Facts). role_of f.control.table.progress)
-      (before_taking_plain setup.link.role Central slot (header_in pdu) held (past_plain setup past))
-      ∙ role_acked (acks_control (has_acknowledged held (header_in pdu)) held)
+      ∙ role_owing setup.link.role (acked_control acks held.control) _ (acked_view acks held (past_knows setup held held_past))
+      (role_acked setup.link.role acks held.control (keeps_role setup past))
 
   pub own_seen : (slot : ℕ) (octets : List ℕ) (kind : Exclusive) → runs_at (kind_of kind) (seen setup slot octets held) ≡ true
       → central_kind (central_of (seen setup slot octets held).control.table).own ≡ Some kind

@@ -13,10 +13,10 @@ use Rattle.journal_endings.specs.controller_model.Radio.{outcome_begun}
 use Rattle.journal_endings.specs.controller_model.Side.{facts_after, facts_of, notes_after}
 use Rattle.journal_endings.specs.controller_model.Step.{Step, HostOctet, TurnBegins, PacketHeard, NothingHeard, TurnEnds}
 use Rattle.journal_endings.proofs.controller_model.Handles.{own_handles}
-use Rattle.journal_endings.specs.link_calls.Phases.{link_receiving}
+use Rattle.journal_endings.proofs.controller_model.Places.{link_receiving}
 use Rattle.journal_endings.specs.link_calls.Turns.{fixed_if}
 use Rattle.journal_endings.proofs.link_calls.CallNotes.{HasNoData, SendsNone, all_more, end_noted, is_sending, no_data, notes_starting, octet_noted, start_noted}
-use Rattle.journal_endings.proofs.link_calls.LinkCalls.{begins_under, receiving_setup, received_noted, taking_sends}
+use Rattle.journal_endings.proofs.link_calls.LinkCalls.{begins_under, received_noted, taking_sends}
 use Rattle.journal_endings.specs.journal_indications.journal_data.link_model.Controls.{pdu_fixed}
 use Rattle.journal_endings.specs.journal_indications.journal_data.link_model.Acknowledgement.{Pdu}
 use Rattle.journal_endings.specs.journal_indications.journal_data.link_model.Sending.{sent_notes, sent_notes_if}
@@ -26,6 +26,7 @@ use Rattle.journal_endings.specs.journal_indications.journal_data.open_links.Ope
 use Rattle.journal_endings.specs.journal_indications.journal_data.open_links.Turns.{link_entered}
 use Rattle.journal_endings.specs.journal_indications.journal_data.run_model.Run.{step_of}
 use Rattle.journal_endings.proofs.journal_indications.journal_data.journal_acks.DataCalls.{on_link_notes, own_begun, received_at, sent_at, unfound}
+use Rattle.journal_endings.proofs.journal_indications.journal_data.journal_acks.Worded.{link_worded, received_setup_is, worded, worded_here, worded_setup}
 use Rattle.journal_endings.proofs.journal_indications.journal_data.journal_acks.PhaseNotes.{IsOnLink, IsPhaseOf, IsPlainPhase, SendsFrom, SendsNothing, SendsOne, phase_of, sends_from}
 use Rattle.journal_endings.proofs.journal_indications.journal_data.open_links.Handles.{handle_is}
 use Rattle.journal_endings.proofs.journal_indications.journal_data.run_laws.LinkPhases.{begins_in}
@@ -180,48 +181,57 @@ module _ (setup : Setup) (past : List Step) (earlier later : List Note) (handle 
             ap (λ n. link_at n then_on.links) (sym same) ∙ opened;
       })
 
-  -- octets are received on a link
-  module _ (octets : List ℕ) (other : ℕ) (step : Step) (is : notes_passed (link_heard setup other octets facts) ≡ earlier ++ note ∷ later) where
+  -- octets are received on a link, which may have been given words
+  module _ (octets : List ℕ) (other : ℕ) (words : Bool) (step : Step)
+      (is : notes_passed (link_heard setup other octets (worded words setup other facts)) ≡ earlier ++ note ∷ later) where
     abbrev room : Bool
     room = has_room setup facts
 
     abbrev slot : ℕ
     slot = facts.turn.slot
 
+    abbrev held : Facts
+    held = worded words setup other facts
+
     abbrev first : List Note
-    first = (link_heard setup other octets facts).notes
+    first = (link_heard setup other octets held).notes
 
     first_none : All SendsNone first
-    first_none = received_noted SendsNone taking_sends setup other octets facts
+    first_none = received_noted SendsNone taking_sends setup other octets held
 
-    by_reply : (base : OpenLink) → link_at other facts.links ≡ Some base → (replies : Bool) → replies_in slot room (link_at other facts.links) octets ≡ replies
+    by_reply : (link : OpenLink) → link_at other facts.links ≡ Some link → (replies : Bool) → replies_in slot room (link_at other held.links) octets ≡ replies
         → Is step
-    by_reply base at false replies =
+    by_reply link at false replies =
         unsent_none (first ++ []) earlier later note _ (All-append SendsNone first [] first_none (All-nil SendsNone)) refl
-        (ap (λ (b : Bool). first ++ notes_doing (reply_if b other) (link_received other room octets facts)) (sym replies) ∙ is)
-    by_reply base at true replies =
-        let taken = link_receiving other room octets facts base in
-        let sent = ap (notes_sent slot) (received_at other octets room facts base at) in
+        (ap (λ (b : Bool). first ++ notes_doing (reply_if b other) (link_received other room octets held)) (sym replies) ∙ is)
+    by_reply link at true replies =
+        let base = link_worded words setup facts link in
+        let base_at = worded_here words setup other facts (Some link) at in
+        let base_setup = worded_setup setup facts link words in
+        let taken = link_receiving other room octets held base in
+        let sent = ap (notes_sent slot) (received_at other octets room held base base_at) in
         let last = last_is first (sent_notes taken.setup (facts_in taken)) earlier later note first_none (sent_short _ taken.setup.link.handle _ _) refl
         (ap (λ xs. first ++ xs) (sym sent)
-        ∙ ap (λ (b : Bool). first ++ notes_doing (reply_if b other) (link_received other room octets facts)) (sym replies) ∙ is) in
+        ∙ ap (λ (b : Bool). first ++ notes_doing (reply_if b other) (link_received other room octets held)) (sym replies) ∙ is) in
         let here : taken.setup.link.handle ≡ handle = own_note taken.setup.link.handle _ handle count llid (pdu_fixed (facts_in taken)) body _ last in
-        let own = handle_is 0 other facts.links base (own_handles setup past).handles at in
-        let same : other ≡ handle = sym own ∙ ap (λ (e : EndSetup). e.link.handle) (sym (receiving_setup other room octets facts base)) ∙ here in
-        AsAnswer base (ap (λ n. link_at n facts.links) (sym same) ∙ at) (λ role.
-        let silent = central_silent base.setup slot octets room (facts_in base) role in
-        let h : true ≡ false = sym replies ∙ ap (λ place. replies_in slot room place octets) at ∙ silent in absurd cc)
+        let own = handle_is 0 other facts.links link (own_handles setup past).handles at in
+        let same : other ≡ handle =
+        sym own ∙ ap (λ (e : EndSetup). e.link.handle) (sym (received_setup_is other room octets held base ∙ base_setup)) ∙ here in
+        AsAnswer link (ap (λ n. link_at n facts.links) (sym same) ∙ at) (λ role.
+        let silent = central_silent base.setup slot octets room (facts_in base) (ap (λ (e : EndSetup). e.link.role) base_setup ∙ role) in
+        let h : true ≡ false = sym replies ∙ ap (λ place. replies_in slot room place octets) base_at ∙ silent in absurd cc)
 
     by_link : (found : Option OpenLink) → link_at other facts.links ≡ found → Is step
-    by_link None at = no_notes earlier later note _ (sym (unfound setup facts other octets at) ∙ is)
-    by_link (Some base) at = by_reply base at (replies_in slot room (link_at other facts.links) octets) refl
+    by_link None at = no_notes earlier later note _ (sym (unfound setup held other octets (worded_here words setup other facts None at)) ∙ is)
+    by_link (Some link) at = by_reply link at (replies_in slot room (link_at other held.links) octets) refl
 
   heard_sent : (received : Option (List ℕ)) → notes_after setup facts (step_of received) ≡ earlier ++ note ∷ later → IsPhaseOf setup facts received
       → Is (step_of received)
   heard_sent received is (IsPlainPhase deaf none) =
       unsent_none (notes_after setup facts (step_of received)) earlier later note _ (no_data_sent (notes_after setup facts (step_of received)) none) refl is
-  heard_sent received is (IsOnLink other octets got listens on) =
-      by_link octets other (step_of received) (sym (on_link_notes setup facts received other octets got (ap notes_passed on)) ∙ is)
+  heard_sent received is (IsOnLink other words octets got listens on) =
+      by_link octets other words (step_of received)
+      (sym (on_link_notes setup facts received octets (link_heard setup other octets (worded words setup other facts)) got (ap notes_passed on)) ∙ is)
       (link_at other facts.links) refl
 
   pub sent_in : (step : Step) → notes_after setup facts step ≡ earlier ++ note ∷ later → Is step

@@ -4,7 +4,6 @@ use Rattle.std.specs.List.{list_any}
 use Rattle.std.proofs.lemmas.Bool.{and_from, or_parts}
 use Rattle.std.proofs.lemmas.List.Folds.{list_any-append}
 use Rattle.std.proofs.lemmas.List.Sums.{fold-append}
-use Rattle.ble_base.specs.declared.notes.Note.{Note}
 use Rattle.ble_base.specs.declared.notes.Note.TheVariants.{Sent}
 use Rattle.ble_base.specs.declared.error_codes.ErrCode.{ErrCode}
 use Rattle.ble_base.specs.declared.roles.Role.{Role}
@@ -18,14 +17,12 @@ use Rattle.data_pdu.specs.Header.{header_in}
 use Rattle.data_pdu.specs.Layouts.{written}
 use Rattle.instants.specs.Track.{event_of}
 use Rattle.journal_endings.proofs.link_calls.CallNotes.{is_sending}
-use Rattle.journal_endings.specs.link_runs.link_pairs.control_model.Control.{Control, Step as ControlStep, after, after_all}
 use Rattle.journal_endings.specs.link_runs.link_pairs.procedure_stages.Queue.{waiting_in}
 use Rattle.journal_endings.specs.link_runs.link_pairs.procedure_values.Drafts.{ctrl_of_outgoing}
 use Rattle.journal_endings.specs.link_runs.link_pairs.procedure_values.declared.asks.Ask.{Ask}
 use Rattle.journal_endings.specs.link_runs.link_pairs.procedure_values.declared.drafts.Outgoing.TheVariants.{Rejection}
 use Rattle.journal_endings.specs.link_runs.link_pairs.procedure_values.declared.drafts.Rejection.{Rejection as TheRejection}
 use Rattle.journal_endings.specs.journal_indications.journal_data.link_model.Acknowledgement.{Pdu, is_acked}
-use Rattle.journal_endings.specs.journal_indications.journal_data.link_model.ControlSteps.{control_steps_in}
 use Rattle.journal_endings.specs.journal_indications.journal_data.link_model.Controls.{goes_on, is_procedure_pdu, is_quiet_now, next_control, pdu_fixed}
 use Rattle.journal_endings.specs.journal_indications.journal_data.link_model.Data.{Data, data_acked_if, data_given, is_control, is_data, is_empty, numbered, pdu_with, llid_of}
 use Rattle.journal_endings.specs.journal_indications.journal_data.link_model.End.{facts_after, facts_of, notes_after, notes_from}
@@ -35,35 +32,33 @@ use Rattle.journal_endings.specs.journal_indications.journal_data.link_model.Fix
 use Rattle.journal_endings.specs.journal_indications.journal_data.link_model.Hosts.{asked_unless, is_to_come}
 use Rattle.journal_endings.specs.journal_indications.journal_data.link_model.Packets.{good_pdu, is_forged}
 use Rattle.journal_endings.specs.journal_indications.journal_data.link_model.Payload.{payload_made}
-use Rattle.journal_endings.specs.journal_indications.journal_data.link_model.Plain.{IsPlain}
 use Rattle.journal_endings.specs.journal_indications.journal_data.link_model.Receiving.{accepted_if, accepts, data_taken_if, facts_before_taking, facts_forged_if, facts_hearing, facts_received, has_acknowledged, procedures_take_if}
 use Rattle.journal_endings.specs.journal_indications.journal_data.link_model.Sending.{control_gone_if, data_sent_as, sent_notes, sent_notes_if, takes_leave}
 use Rattle.journal_endings.specs.journal_indications.journal_data.link_model.Setup.{Setup}
 use Rattle.journal_endings.specs.journal_indications.journal_data.link_model.Step.{Step, DataGiven, DataReported, Disconnected, EventEntered, KeyAnswered, PacketReceived, PacketSent, PduFixed, ProcedureAsked, RequestAnswered, WordsGiven}
 use Rattle.journal_endings.specs.journal_indications.journal_data.link_model.Verdicts.{pdu_of}
-use Rattle.journal_endings.proofs.journal_indications.journal_data.link_model.ControlSteps.{one_step}
-use Rattle.journal_endings.proofs.journal_indications.journal_data.link_model.Plain.{step_plain}
-use Rattle.link_indications.proofs.Controls.{goes_before}
+use Rattle.journal_endings.proofs.journal_indications.journal_data.link_model.KnownEnds.{IsPast, stays_over, step_past}
 use Rattle.run_collisions.specs.Prevailing.{next_outgoing}
 use Rattle.run_collisions.specs.Waiting.{facts_from, sends_control, sends_no_control}
 use Rattle.run_collisions.proofs.Waiting.{goes_out, waits}
 
 -- ---- an end whose procedures did not end the link went on before
 
-control_goes : (steps : List ControlStep) (c : Control) → (after_all steps c).ends ≡ None → c.ends ≡ None
-control_goes [] c is = is
-control_goes (step ∷ steps) c is = goes_before step c (control_goes steps (after step c) is)
-
-end_goes : (setup : Setup) (facts : Facts) (step : Step) → IsPlain setup.link.role facts → (facts_after setup facts step).control.ends ≡ None
+end_goes : (setup : Setup) (facts : Facts) (step : Step) → IsPast setup facts → (facts_after setup facts step).control.ends ≡ None
     → facts.control.ends ≡ None
-end_goes setup facts step plain is =
-    control_goes (control_steps_in setup facts step) facts.control (ap (λ (c : Control). c.ends) (sym (one_step setup facts step plain)) ∙ is)
+end_goes setup facts step p is = by facts.control.ends refl
+  where
+    by : (ends : Option ErrCode) → facts.control.ends ≡ ends → facts.control.ends ≡ None
+    by None same = same
+    by (Some code) same =
+        absurd (let h : true ≡ false = sym (ap (λ (e : Option ErrCode). is_none e) is)
+        ∙ stays_over setup facts step p (ap (λ (e : Option ErrCode). is_none e) same) in cc)
 
-pub ends_go : (setup : Setup) (facts : Facts) (steps : List Step) → IsPlain setup.link.role facts → (facts_from setup facts steps).control.ends ≡ None
+pub ends_go : (setup : Setup) (facts : Facts) (steps : List Step) → IsPast setup facts → (facts_from setup facts steps).control.ends ≡ None
     → facts.control.ends ≡ None
-ends_go setup facts [] plain is = is
-ends_go setup facts (step ∷ steps) plain is =
-    end_goes setup facts step plain (ends_go setup (facts_after setup facts step) steps (step_plain setup facts step plain) is)
+ends_go setup facts [] p is = is
+ends_go setup facts (step ∷ steps) p is =
+    end_goes setup facts step p (ends_go setup (facts_after setup facts step) steps (step_past setup facts step p) is)
 
 still_goes : (ends : Option ErrCode) → ends ≡ None → is_none ends ≡ true
 still_goes ends is = ap (λ (e : Option ErrCode). is_none e) is
@@ -78,9 +73,6 @@ facts_more setup past steps = fold-append (facts_after setup) (first_facts setup
     folded facts (step ∷ steps) = folded (facts_after setup facts step) steps
 
 -- ---- a rejection waits as long as no PDU is noted as sent
-
-pub sends_any : List Note → Bool
-sends_any notes = list_any is_sending notes
 
 module _ (x : TheRejection) (setup : Setup) (is_central : setup.link.role ≡ Central) where
   one_unsent : (step : Step) (facts : Facts) → next_outgoing facts ≡ Rejection x → facts.control.ends ≡ None
@@ -103,21 +95,21 @@ module _ (x : TheRejection) (setup : Setup) (is_central : setup.link.role ≡ Ce
   one_unsent (PacketReceived slot octets room) facts is goes none = refl
   one_unsent DataReported facts is goes none = refl
 
-  all_unsent : (steps : List Step) (facts : Facts) → IsPlain setup.link.role facts → next_outgoing facts ≡ Rejection x → (facts_from setup facts steps).control.ends ≡ None
+  all_unsent : (steps : List Step) (facts : Facts) → IsPast setup facts → next_outgoing facts ≡ Rejection x → (facts_from setup facts steps).control.ends ≡ None
       → list_any is_sending (notes_from setup facts steps) ≡ false → sends_no_control setup facts steps ≡ true
-  all_unsent [] facts plain is goes none = refl
-  all_unsent (step ∷ steps) facts plain is goes none =
+  all_unsent [] facts p is goes none = refl
+  all_unsent (step ∷ steps) facts p is goes none =
       let next = facts_after setup facts step in
       let parts = or_parts (list_any is_sending (notes_after setup facts step)) (list_any is_sending (notes_from setup next steps))
       (sym (list_any-append is_sending (notes_after setup facts step) (notes_from setup next steps)) ∙ none) in
-      let first = one_unsent step facts is (ends_go setup facts (step ∷ steps) plain goes) parts.0 in
+      let first = one_unsent step facts is (ends_go setup facts (step ∷ steps) p goes) parts.0 in
       let then_on = waits x setup is_central facts (step ∷ []) is (and_from (not (sends_control facts step)) true first refl) in
       and_from (not (sends_control facts step)) (sends_no_control setup next steps) first
-      (all_unsent steps next (step_plain setup facts step plain) then_on goes parts.1)
+      (all_unsent steps next (step_past setup facts step p) then_on goes parts.1)
 
-  pub waits_still : (steps : List Step) (facts : Facts) → IsPlain setup.link.role facts → next_outgoing facts ≡ Rejection x → (facts_from setup facts steps).control.ends ≡ None
+  pub waits_still : (steps : List Step) (facts : Facts) → IsPast setup facts → next_outgoing facts ≡ Rejection x → (facts_from setup facts steps).control.ends ≡ None
       → list_any is_sending (notes_from setup facts steps) ≡ false → next_outgoing (facts_from setup facts steps) ≡ Rejection x
-  waits_still steps facts plain is goes none = waits x setup is_central facts steps is (all_unsent steps facts plain is goes none)
+  waits_still steps facts p is goes none = waits x setup is_central facts steps is (all_unsent steps facts p is goes none)
 
   -- ---- then it fixes its PDU and sends
 

@@ -1,18 +1,15 @@
 -- An end after a call in which its host asks something of it, or answers the peer.
 use Rattle.std.proofs.Common.{◌≡◌, ℕ, not, Option, Some, None, List, [], ◌∷◌, ◌++◌, refl, sym, ap, ◌∙◌, append-nil, append_assoc}
-use Rattle.std.specs.Prelude.{Result}
-use Rattle.ble_base.specs.declared.error_codes.ErrCode.{ErrCode}
 use Rattle.ble_base.specs.declared.roles.Side.{Side}
 use Rattle.journal_ends.specs.controller_model.Step.{Step as Call}
-use Rattle.journal_ends.proofs.controller_model.Asked.{IsAskedStep}
 use Rattle.journal_ends.specs.host_answers.Calls.{call_lines}
 use Rattle.journal.specs.declared.entries.Entry.{Entry}
 use Rattle.journal_ends.specs.Answering.{answers_from, answers_if, answers_in_line, answers_in_step}
 use Rattle.journal_ends.specs.Seen.{Asks, Seen, asked_if, asked_in_step, seen_from, seen_in_line}
 use Rattle.journal_ends.specs.link_model.End.{facts_after as end_after}
-use Rattle.journal_ends.specs.link_model.Facts.{Facts as EndFacts, keyed_of, keyed_with}
+use Rattle.journal_ends.specs.link_model.Facts.{Facts as EndFacts, keyed_of}
 use Rattle.journal_ends.specs.link_model.Hosts.{is_to_come}
-use Rattle.journal_ends.specs.link_model.Step.{Step, Disconnected, ProcedureAsked, RequestAnswered}
+use Rattle.journal_ends.specs.link_model.Step.{Step, Disconnected, KeyAnswered, ProcedureAsked, RequestAnswered}
 use Rattle.journal_ends.specs.link_model.keyed_control.Keyed.{Keyed}
 use Rattle.journal_ends.specs.link_model.keyed_control.KeyedSteps.{Asks as AsksFor}
 use Rattle.journal_ends.specs.link_model.procedure_values.declared.asks.Ask.{Ask}
@@ -22,7 +19,7 @@ use Rattle.journal_ends.specs.run_model.History.{Event}
 use Rattle.journal_ends.specs.run_model.Journal.{journal_of}
 use Rattle.journal_ends.specs.run_model.Run.{Given, after_call}
 use Rattle.journal_ends.proofs.AskedCalls.{call_journal}
-use Rattle.journal_ends.proofs.HostedLinks.{IfHostStep, IsHostStep, control_asked}
+use Rattle.journal_ends.proofs.HostedLinks.{IfHostStep, IsHostStep, keyed_asked}
 use Rattle.journal_ends.proofs.link_model.KeyedPasts.{past_in_phase}
 use Rattle.journal_ends.proofs.link_model.KeyedSteps.{one_step}
 use Rattle.journal_controls.specs.KeyedLines.{answering, does_if, drawn_by, keyed_by_all}
@@ -32,7 +29,6 @@ use Rattle.journal_controls.proofs.EndSteps.{does_as}
 use Rattle.journal_controls.proofs.EventMoves.{keyed_at}
 use Rattle.journal_controls.proofs.LineFolds.{answered_line, asked_line, quiet_line}
 use Rattle.journal_controls.proofs.OpenedControls.{AreNone, none_of, quiet_lines}
-use Rattle.journal_controls.proofs.Undrawn.{step_keys}
 
 -- ---- lines in which one thing is asked or answered, and nothing else is seen
 
@@ -67,8 +63,8 @@ module _ (side : Side) (number : ℕ) where
           (asked_line side number front line k step (seen ∙ (λ i. head i ∷ both.first i)) answers.first)
           ∙ quiet_lines side number (front ++ line ∷ []) (Some (keyed_by_all (steps_asking k step) k)) lines both.second answers.second
 
-  one_answered : (front lines : List Entry) (k : Keyed) (answer : Result Ask ErrCode) → seen_from side number front lines ≡ []
-      → answers_from side number front lines ≡ answer ∷ [] → keyed_from (drawn_by side) side number front (Some k) lines ≡ Some (keyed_by_all (answering answer ∷ []) k)
+  one_answered : (front lines : List Entry) (k : Keyed) (answer : Step) → seen_from side number front lines ≡ []
+      → answers_from side number front lines ≡ answer ∷ [] → keyed_from (drawn_by side) side number front (Some k) lines ≡ Some (keyed_by_all (answering answer) k)
   one_answered front [] k answer none is = absurd cc
   one_answered front (line ∷ lines) k answer none is =
       by (answers_in_line side number front line) refl (λ later. one_answered (front ++ line ∷ []) lines k answer seen.second later)
@@ -76,10 +72,10 @@ module _ (side : Side) (number : ℕ) where
       seen : AreNone (seen_in_line side number front line) (seen_from side number (front ++ line ∷ []) lines)
       seen = none_of (seen_in_line side number front line) (seen_from side number (front ++ line ∷ []) lines) none
 
-      by : (answers : List (Result Ask ErrCode)) → answers_in_line side number front line ≡ answers
+      by : (answers : List Step) → answers_in_line side number front line ≡ answers
           → (answers_from side number (front ++ line ∷ []) lines ≡ answer ∷ []
-          → keyed_from (drawn_by side) side number (front ++ line ∷ []) (Some k) lines ≡ Some (keyed_by_all (answering answer ∷ []) k))
-          → keyed_from (drawn_by side) side number front (Some k) (line ∷ lines) ≡ Some (keyed_by_all (answering answer ∷ []) k)
+          → keyed_from (drawn_by side) side number (front ++ line ∷ []) (Some k) lines ≡ Some (keyed_by_all (answering answer) k))
+          → keyed_from (drawn_by side) side number front (Some k) (line ∷ lines) ≡ Some (keyed_by_all (answering answer) k)
       by [] unanswered then_on =
           ap (λ before. keyed_from (drawn_by side) side number (front ++ line ∷ []) before lines) (quiet_line side number front (Some k) line seen.first unanswered)
           ∙ then_on (ap (λ xs. xs ++ answers_from side number (front ++ line ∷ []) lines) (sym unanswered) ∙ is)
@@ -91,14 +87,15 @@ module _ (side : Side) (number : ℕ) where
           let both = none_of more (answers_from side number (front ++ line ∷ []) lines) tail in
           ap (λ before. keyed_from (drawn_by side) side number (front ++ line ∷ []) before lines)
           (answered_line side number front line k answer seen.first (answers ∙ (λ i. head i ∷ both.first i)))
-          ∙ quiet_lines side number (front ++ line ∷ []) (Some (keyed_by_all (answering answer ∷ []) k)) lines seen.second both.second
+          ∙ quiet_lines side number (front ++ line ∷ []) (Some (keyed_by_all (answering answer) k)) lines seen.second both.second
 
   step_seen : (front lines : List Entry) (k : Keyed) (step : Step) → seen_from side number front lines ≡ asked_in_step step
       → answers_from side number front lines ≡ answers_in_step step
       → keyed_from (drawn_by side) side number front (Some k) lines ≡ Some (after_asking (Some step) k)
   step_seen front lines k (ProcedureAsked ask) is answers =
       one_seen front lines k (ProcedureAsked ask) is answers ∙ ap (λ steps. Some (keyed_by_all steps k)) (sym (append-nil (steps_asking k (ProcedureAsked ask))))
-  step_seen front lines k (RequestAnswered answer) is answers = one_answered front lines k answer is answers
+  step_seen front lines k (RequestAnswered answer) is answers = one_answered front lines k (RequestAnswered answer) is answers
+  step_seen front lines k (KeyAnswered key slot) is answers = one_answered front lines k (KeyAnswered key slot) is answers
   step_seen front lines k (Disconnected reason slot) is answers = one_seen front lines k (Disconnected reason slot) is answers
   step_seen front lines k other is answers = none_seen front lines k is answers
 
@@ -140,13 +137,7 @@ same_coming (Map map) facts = refl
 same_coming (Encrypt rand ediv ltk skd_m iv_m) facts = refl
 same_coming other facts = refl
 
-host_is_asked : (step : Step) → IsHostStep step → IsAskedStep step
-host_is_asked (ProcedureAsked ask) by_host = tt
-host_is_asked (RequestAnswered answer) by_host = tt
-host_is_asked (Disconnected reason slot) by_host = tt
-host_is_asked other by_host = absurd by_host
-
--- it holds that, and its phase and its keys stay
+-- its procedures, its phase and its keys are as after that
 end_asked_so : (base : OpenLink) (step : Step) → IsHostStep step → after_asking (Some step) (keyed_of (facts_in base)) ≡ keyed_of (end_after base.setup (facts_in base) step)
 end_asked_so base (ProcedureAsked ask) by_host =
     let k = keyed_of (facts_in base) in
@@ -154,12 +145,11 @@ end_asked_so base (ProcedureAsked ask) by_host =
     ∙ ap (λ b. keyed_by_all (does_if (not b) (AsksFor ask)) k) (same_coming ask (facts_in base))
     ∙ sym (one_step base.setup (facts_in base) (ProcedureAsked ask) (past_in_phase base.setup base.past) refl ∙ does_as (not (is_to_come ask (facts_in base))) (AsksFor ask) k)
 end_asked_so base (RequestAnswered answer) by_host = sym (one_step base.setup (facts_in base) (RequestAnswered answer) (past_in_phase base.setup base.past) refl)
+end_asked_so base (KeyAnswered key slot) by_host = sym (one_step base.setup (facts_in base) (KeyAnswered key slot) (past_in_phase base.setup base.past) refl)
 end_asked_so base (Disconnected reason slot) by_host = sym (one_step base.setup (facts_in base) (Disconnected reason slot) (past_in_phase base.setup base.past) refl)
 end_asked_so base other by_host = absurd by_host
 
-pub end_asked : (base after : OpenLink) (asked : Option Step) → IfHostStep asked → (facts_in after).control ≡ control_asked base asked
-    → (facts_in after).encryption ≡ (facts_in base).encryption → after_asking asked (keyed_of (facts_in base)) ≡ keyed_of (facts_in after)
-end_asked base after None by_host control keys = λ i. keyed_with (sym control i) (sym keys i)
-end_asked base after (Some step) by_host control keys =
-    let stay = step_keys base.setup (facts_in base) step (host_is_asked step by_host) ∙ sym keys in
-    end_asked_so base step by_host ∙ (λ i. keyed_with (sym control i) (stay i))
+pub end_asked : (base after : OpenLink) (asked : Option Step) → IfHostStep asked → keyed_of (facts_in after) ≡ keyed_asked base asked
+    → after_asking asked (keyed_of (facts_in base)) ≡ keyed_of (facts_in after)
+end_asked base after None by_host is = sym is
+end_asked base after (Some step) by_host is = end_asked_so base step by_host ∙ sym is

@@ -1,6 +1,5 @@
 -- One end after several steps, by the lines of its notes.
 use Rattle.std.proofs.Common.{◌≡◌, ℕ, ◌&&◌, not, Bool, true, false, Option, Some, None, List, [], ◌∷◌, ◌++◌, fold, map, is_none, refl, sym, ap, ◌∙◌, append-nil, if◌then◌else◌}
-use Rattle.std.proofs.Math.Bool.{and-false}
 use Rattle.ble_base.specs.declared.error_codes.ErrCode.{ErrCode}
 use Rattle.ble_base.specs.declared.notes.Note.{Note}
 use Rattle.ble_base.specs.declared.notes.Note.TheVariants.{Enter}
@@ -8,9 +7,10 @@ use Rattle.ble_base.specs.declared.procedure_kinds.Kind.{Kind}
 use Rattle.ble_base.specs.declared.roles.Role.{Role}
 use Rattle.ble_base.specs.declared.roles.Side.{Side}
 use Rattle.data_pdu.specs.Header.{header_in}
+use Rattle.data_pdu.specs.declared.ctrl.Ctrl.{Ctrl}
+use Rattle.data_pdu.specs.declared.ctrl.Ctrl.TheVariants.{EncReq}
 use Rattle.journal.specs.declared.entries.Entry.{Entry as Line}
 use Rattle.journal.specs.declared.entries.Entry.TheVariants.{Took}
-use Rattle.journal_ends.specs.journal_acks.link_calls.Phases.{refusal}
 use Rattle.journal_ends.specs.journal_links.LinkLines.{line_of}
 use Rattle.journal_ends.specs.link_model.Acknowledgement.{Pdu, is_acked}
 use Rattle.journal_ends.specs.link_model.Controls.{goes_on, is_procedure_pdu, is_quiet_now, pdu_fixed}
@@ -32,17 +32,20 @@ use Rattle.journal_ends.specs.link_model.control_end.declared.answers.Entry.{Ent
 use Rattle.journal_ends.specs.link_model.control_end.declared.answers.Taken.{Taken}
 use Rattle.journal_ends.specs.link_model.declared.events.ConnectionEvent.{ConnectionEvent}
 use Rattle.journal_ends.specs.link_model.keyed_control.Keyed.{Keyed}
-use Rattle.journal_ends.specs.link_model.keyed_control.KeyedSteps.{Answers, keyed_after, phased_step, phased_steps, step_before}
+use Rattle.journal_ends.specs.link_model.keyed_control.KeyedSteps.{keyed_after, phased_step, phased_steps, step_before}
 use Rattle.journal_ends.specs.link_model.keyed_control.declared.material.Response.{Response}
 use Rattle.journal_ends.specs.link_model.phased_control.Phased.{Phased, first_phased}
 use Rattle.journal_ends.specs.link_model.phased_control.Taken.{PhasedStep, phased_after, phased_after_all, phased_moved, role_now}
+use Rattle.journal_ends.specs.link_model.procedure_stages.declared.steps.Effect.{Effect}
+use Rattle.journal_ends.specs.link_model.procedure_stages.declared.steps.Effect.TheVariants.{AskHost, Cipher}
 use Rattle.journal_ends.proofs.link_model.KeyedPasts.{keeps_role, past_goes}
 use Rattle.journal_ends.proofs.link_model.phased_end.keyed_control.Phases.{after_one, moves, phased_once}
 use Rattle.journal_ends.proofs.link_model.phased_end.keyed_control.phased_control.Kept.{tied_now}
-use Rattle.journal_controls.specs.KeyedLines.{Accepts, Does, LineStep, asks_by, does_if, keyed_by, keyed_by_all, steps_taking}
+use Rattle.journal_controls.specs.KeyedLines.{Accepts, Does, LineStep, does_some, given_by, keyed_by, keyed_by_all, steps_refusing, steps_taking}
 use Rattle.journal_controls.specs.LineSteps.{steps_said, steps_saying}
 use Rattle.journal_controls.specs.OneEnd.{steps_noted}
 use Rattle.journal_controls.specs.SaidLines.{NoneOpens, moved_by}
+use Rattle.journal_controls.specs.Withheld.{Withheld, answer_to, first_answer, key_answer, nothing_withheld, withheld_answer}
 use Rattle.journal_controls.proofs.NotedSteps.{joined, noted_both}
 
 -- ---- no step changes the role
@@ -105,13 +108,13 @@ past_keeps setup past = by (goes_on (facts_of setup past)) refl
         ∙ (tied_now role setup.link.max_rx (first_params setup.link.fields) (first_anchor setup) (made ++ steps)).is_role
 
 -- so the lines of notes move it by the steps of these notes, where none of them refuses a request
-abbrev pub NoneRefuses : Side → ℕ → Bool → Response → ℕ → List Note → Type 0
+abbrev pub NoneRefuses : Side → ℕ → Withheld → Response → ℕ → List Note → Type 0
 NoneRefuses side number withheld response slot [] = Unit {0}
 NoneRefuses side number withheld response slot (note ∷ notes) =
     ((k : Keyed) → let line = line_of side number note in steps_said withheld response slot k line ≡ steps_saying (role_now k.phased) response slot line)
     × NoneRefuses side number withheld response slot notes
 
-pub moved_noted : (side : Side) (number : ℕ) (withheld : Bool) (response : Response) (slot : ℕ) (role : Role) (notes : List Note) (k : Keyed) → KeepsRole role k
+pub moved_noted : (side : Side) (number : ℕ) (withheld : Withheld) (response : Response) (slot : ℕ) (role : Role) (notes : List Note) (k : Keyed) → KeepsRole role k
     → NoneRefuses side number withheld response slot notes
     → moved_by withheld response slot (map (line_of side number) notes) k ≡ keyed_by_all (steps_noted side number role response slot notes) k
 moved_noted side number withheld response slot role [] k keeps none = refl
@@ -123,17 +126,33 @@ moved_noted side number withheld response slot role (note ∷ notes) k keeps non
     ∙ sym (joined steps (steps_noted side number role response slot notes) k)
 
 -- where nothing is withheld, none does
-pub unwithheld : (side : Side) (number : ℕ) (response : Response) (slot : ℕ) (notes : List Note) → NoneRefuses side number false response slot notes
+no_key : (ctrl : Ctrl) → key_answer nothing_withheld ctrl ≡ None
+no_key (EncReq rand ediv skd_m iv_m) = refl
+no_key other = refl
+
+no_answer : (effect : Effect) → answer_to nothing_withheld effect ≡ None
+no_answer (AskHost min max latency timeout) = refl
+no_answer (Cipher ctrl) = no_key ctrl
+no_answer other = refl
+
+nothing_refused : (response : Response) (slot : ℕ) (k : Keyed) (pdu : Pdu) → steps_refusing nothing_withheld response slot k pdu ≡ []
+nothing_refused response slot k pdu = by (is_procedure_pdu pdu)
+  where
+    by : (procedure : Bool) → does_some (if procedure then withheld_answer nothing_withheld (given_by response slot k pdu) else None) ≡ []
+    by true = let given = given_by response slot k pdu in λ i. does_some (first_answer (no_answer given.taken.effect i) (no_answer given.kept.effect i))
+    by false = refl
+
+pub unwithheld : (side : Side) (number : ℕ) (response : Response) (slot : ℕ) (notes : List Note) → NoneRefuses side number nothing_withheld response slot notes
 unwithheld side number response slot [] = tt
 unwithheld side number response slot (note ∷ notes) = ((λ k. by k (line_of side number note)), unwithheld side number response slot notes)
   where
-    by : (k : Keyed) (line : Line) → steps_said false response slot k line ≡ steps_saying (role_now k.phased) response slot line
+    by : (k : Keyed) (line : Line) → steps_said nothing_withheld response slot k line ≡ steps_saying (role_now k.phased) response slot line
     by k (Took other link count llid body) =
         let pdu : Pdu = record { llid = llid; body = body } in
-        ap (λ b. steps_taking response slot pdu ++ does_if b (Answers refusal)) (and-false (asks_by response slot k pdu)) ∙ append-nil (steps_taking response slot pdu)
+        ap (λ xs. steps_taking response slot pdu ++ xs) (nothing_refused response slot k pdu) ∙ append-nil (steps_taking response slot pdu)
     by k line = refl
 
-pub refuse_both : (side : Side) (number : ℕ) (withheld : Bool) (response : Response) (slot : ℕ) (notes more : List Note) → NoneRefuses side number withheld response slot notes
+pub refuse_both : (side : Side) (number : ℕ) (withheld : Withheld) (response : Response) (slot : ℕ) (notes more : List Note) → NoneRefuses side number withheld response slot notes
     → NoneRefuses side number withheld response slot more → NoneRefuses side number withheld response slot (notes ++ more)
 refuse_both side number withheld response slot [] more here there = there
 refuse_both side number withheld response slot (note ∷ notes) more here there = (here.0, refuse_both side number withheld response slot notes more here.1 there)

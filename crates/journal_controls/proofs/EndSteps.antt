@@ -177,21 +177,31 @@ heard_leave slot room header pdu facts =
     ∙ ap (λ all. all && now.fixes_control) (gone_acked (takes_leave own) slot own)
     ∙ none_leaves (is_acked own.acknowledgement) own.fixes_control slot own refl
 
+-- as it heard a good packet, what it sends next left the queue
+pub good_leave : (slot : ℕ) (octets pdu : List ℕ) (room : Bool) (setup : Setup) (facts : Facts) → setup.link.role ≡ Peripheral → good_pdu setup facts octets ≡ Some pdu
+    → takes_leave (facts_after setup facts (PacketReceived slot octets room)) ≡ false
+good_leave slot octets pdu room setup facts role good =
+    forged_leave (is_forged setup facts octets) (facts_received setup.link.role slot room (good_pdu setup facts octets) facts)
+    ∙ (λ i. takes_leave (facts_received (role i) slot room (good i) facts)) ∙ heard_leave slot room (header_in pdu) (pdu_of pdu) facts
+
+-- so it is not taken from there as it goes
+pub left_sends : (side : Side) (number : ℕ) (response : Response) (slot : ℕ) (setup : Setup) (now : Facts) → takes_leave now ≡ false
+    → keyed_of (facts_after setup now (PacketSent slot))
+    ≡ keyed_by_all (steps_noted side number Peripheral response slot (notes_after setup now (PacketSent slot))) (keyed_of now)
+left_sends side number response slot setup now leaves =
+    let goes = is_acked now.acknowledgement && not (is_empty (pdu_fixed now)) in
+    sent_is slot now ∙ ap (λ b. sealing goes (keyed_of (control_gone_if b slot now))) leaves
+    ∙ seals_as goes (pdu_fixed now) (keyed_of now)
+    ∙ sym (ap (λ steps. keyed_by_all steps (keyed_of now))
+    (sent_steps side number Peripheral response slot goes setup.link.handle (numbered now.acknowledgement.sent) (pdu_fixed now)))
+
 pub peripheral_sends : (side : Side) (number : ℕ) (response : Response) (slot slot_heard : ℕ) (octets pdu : List ℕ) (room : Bool) (setup : Setup) (facts : Facts)
     → setup.link.role ≡ Peripheral → good_pdu setup facts octets ≡ Some pdu
     → let now = facts_after setup facts (PacketReceived slot_heard octets room) in
     keyed_of (facts_after setup now (PacketSent slot))
     ≡ keyed_by_all (steps_noted side number Peripheral response slot (notes_after setup now (PacketSent slot))) (keyed_of now)
 peripheral_sends side number response slot slot_heard octets pdu room setup facts role good =
-    let now = facts_after setup facts (PacketReceived slot_heard octets room) in
-    let goes = is_acked now.acknowledgement && not (is_empty (pdu_fixed now)) in
-    let leaves : takes_leave now ≡ false =
-    forged_leave (is_forged setup facts octets) (facts_received setup.link.role slot_heard room (good_pdu setup facts octets) facts)
-    ∙ (λ i. takes_leave (facts_received (role i) slot_heard room (good i) facts)) ∙ heard_leave slot_heard room (header_in pdu) (pdu_of pdu) facts in
-    sent_is slot now ∙ ap (λ b. sealing goes (keyed_of (control_gone_if b slot now))) leaves
-    ∙ seals_as goes (pdu_fixed now) (keyed_of now)
-    ∙ sym (ap (λ steps. keyed_by_all steps (keyed_of now))
-    (sent_steps side number Peripheral response slot goes setup.link.handle (numbered now.acknowledgement.sent) (pdu_fixed now)))
+    left_sends side number response slot setup (facts_after setup facts (PacketReceived slot_heard octets room)) (good_leave slot_heard octets pdu room setup facts role good)
 
 -- ---- a good packet reaches it
 

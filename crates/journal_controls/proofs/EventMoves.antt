@@ -10,7 +10,7 @@ use Rattle.ble_base.specs.declared.roles.Side.TheVariants.{A, B}
 use Rattle.journal_ends.proofs.controller_model.Always.{IsInTurn}
 use Rattle.journal_ends.specs.controller_model.Side.{notes_after}
 use Rattle.journal_ends.specs.controller_model.Step.{Step as Call, HostOctet}
-use Rattle.host_masks.specs.Masks.{masks_of, withholds_requests}
+use Rattle.host_masks.specs.Masks.{masks_of}
 use Rattle.journal.specs.declared.entries.Entry.{Entry}
 use Rattle.journal.specs.declared.entries.Entry.TheVariants.{Air, Fed, Turn}
 use Rattle.journal_ends.proofs.host_answers.LineAnswers.{IsQuiet, far_quiet, turn_quiet}
@@ -34,6 +34,7 @@ use Rattle.journal_ends.proofs.run_model.Parts.{journal_event}
 use Rattle.journal_controls.specs.KeyedLines.{drawn_by, has_next, keyed_by_all}
 use Rattle.journal_controls.specs.LineSteps.{keyed_in_line, keyed_on, steps_heard, turn_now, withholds}
 use Rattle.journal_controls.specs.SaidLines.{NoneOpens, moved_by}
+use Rattle.journal_controls.specs.Withheld.{Withheld, withheld_by}
 use Rattle.journal_controls.proofs.LineFolds.{heard_line, keyed_more, line_moves, moved_both, quiet_line}
 
 -- an end, by the journal of a history
@@ -43,7 +44,7 @@ keyed_at number side history = keyed_on side number (journal_of history)
 abbrev pub turn_at : List Event → ℕ
 turn_at history = turn_now (journal_of history)
 
-abbrev pub withholds_at : Side → List Event → Bool
+abbrev pub withholds_at : Side → List Event → Withheld
 withholds_at side history = withholds side (journal_of history)
 
 abbrev pub drawn_at : Side → List Event → Response
@@ -96,7 +97,7 @@ line_moving number side history event line is deaf unaccepted begins feeds =
       lines = ap (λ xs. lines_of side number xs) journal ∙ line_more side number front line named (append-nil named);
       turns = ap turn_now journal
           ∙ ap (λ (turns : List PairOpening). length turns - 1) (flat_map-append pair_openings_in front (line ∷ []) ∙ (λ i. turns_of front ++ (begins i ++ [])) ∙ append-nil (turns_of front));
-      withheld = ap (withholds side) journal ∙ ap (λ octets. withholds_requests (masks_of octets))
+      withheld = ap (withholds side) journal ∙ ap (λ octets. withheld_by (masks_of octets))
           (flat_map-append (fed_in side) front (line ∷ []) ∙ (λ i. fed_to_side side front ++ (feeds i ++ [])) ∙ append-nil (fed_to_side side front));
       drawn = refl;
       keyed = λ k none was.

@@ -1,8 +1,8 @@
 -- What the open ends of a controller have fixed, at each place of a turn.
 use Rattle.std.proofs.Common.{◌≡◌, ℕ, zero, suc, ◌⊎◌, inl, inr, Bool, true, false, not, Option, Some, None, is_none, List, [], ◌++◌, fold, if◌then◌else◌, refl, sym, ap, subst, ◌∙◌, append-nil, append_assoc, arith}
-use Rattle.std.specs.Prelude.{◌||◌, nat_lt}
+use Rattle.std.specs.Prelude.{IfSome, ◌||◌, nat_lt}
 use Rattle.std.specs.Option.{option_map}
-use Rattle.std.proofs.lemmas.Bool.{eqb-true, false_from_ne_true}
+use Rattle.std.proofs.lemmas.Bool.{false_from_ne_true}
 use Rattle.std.proofs.lemmas.List.Sums.{fold-append}
 use Rattle.ble_base.specs.ErrorCodes.{terminated_by_local_host}
 use Rattle.ble_base.specs.declared.error_codes.ErrCode.{ErrCode}
@@ -26,7 +26,7 @@ use Rattle.journal_ends.specs.link_model.Step.{Step, DataGiven, DataReported, Ev
 use Rattle.journal_ends.specs.link_model.Times.{ended_by_procedures, ending_of}
 use Rattle.journal_ends.specs.link_model.declared.state.Leaving.{Leaving}
 use Rattle.journal_ends.specs.journal_acks.link_calls.Hosts.{HasHeardHost, GetsData, IsAsked, Unchanged}
-use Rattle.journal_ends.specs.journal_acks.link_calls.Phases.{HasPassed, IsNew, Stays, Takes, link_receiving, refused_if, refuses_at}
+use Rattle.journal_ends.specs.journal_acks.link_calls.Phases.{HasPassed, IsNew, Stays, Takes, link_worded, refusal_at, refused_if}
 use Rattle.journal_ends.specs.journal_acks.link_calls.Turns.{change_if, fixed_if, link_begun, sent_if}
 use Rattle.journal_ends.specs.journal_acks.link_calls.Uses.{fixes_under, listens_under, sends_under}
 use Rattle.journal_ends.specs.open_links.Data.{complete_in, link_reported}
@@ -35,14 +35,14 @@ use Rattle.journal_ends.specs.open_links.Turns.{ending_in, enters_in, entered_if
 use Rattle.journal_ends.specs.run_model.Feeding.{AreDistinct}
 use Rattle.journal_ends.specs.run_model.History.{Event, past_of}
 use Rattle.journal_ends.specs.run_model.Run.{Given, facts_at, history_of, run_of, setup_at, step_of}
-use Rattle.journal_ends.proofs.journal_acks.PhaseNotes.{IsOnLink, IsPhaseOf, IsPlainPhase, phase_of}
+use Rattle.journal_ends.proofs.GrownLinks.{IsRefusal, refusal_is, taken_grown}
+use Rattle.journal_ends.proofs.WordedLinks.{facts_on, heard_on, worded_as, worded_at}
 use Rattle.journal_ends.proofs.journal_acks.Standing.{listener_role, sender_role}
 use Rattle.journal_ends.proofs.journal_acks.TwoStations.{same_number}
 use Rattle.journal_ends.proofs.journal_acks.link_calls.HostSteps.{asked_is_well}
-use Rattle.journal_ends.proofs.journal_acks.link_calls.LinkCalls.{passes_under, receiving_setup, turn_begun_under}
+use Rattle.journal_ends.proofs.journal_acks.link_calls.LinkCalls.{passes_under, turn_begun_under}
 use Rattle.journal_ends.proofs.journal_acks.link_calls.LinkPhases.{IsPhased, phased_first, phased_kept}
 use Rattle.journal_ends.proofs.journal_acks.link_calls.RadioUses.{no_link}
-use Rattle.journal_ends.proofs.journal_acks.link_calls.Refusals.{only_central_refuses}
 use Rattle.journal_ends.proofs.journal_acks.link_calls.UnderHandles.{ended_under, host_under, reported_ends}
 use Rattle.journal_ends.proofs.run_laws.Agreed.{step_facts}
 use Rattle.journal_ends.proofs.run_laws.LinkPhases.{IsInPhase}
@@ -50,9 +50,11 @@ use Rattle.journal_ends.proofs.run_laws.TurnPlaces.{Between, IsTurned, Stage, Wi
 use Rattle.journal_ends.proofs.run_model.Stations.{is_in}
 use Rattle.journal_controls.specs.KeyedLines.{has_next}
 use Rattle.journal_controls.specs.TurnSteps.{first_if, steps_begun}
+use Rattle.journal_controls.proofs.EndSteps.{good_leave}
 use Rattle.journal_controls.proofs.CentralFixed.{IsFree, entered_free, fixed_free, given_free, past_free}
 use Rattle.journal_controls.proofs.PeripheralFixed.{answer_leaves_none, fixes_next, silence_ends}
-use Rattle.journal_controls.proofs.Undrawn.{IsUndrawn, begun_draws, host_undrawn, new_undrawn, reported_undrawn, taken_draws_none}
+use Rattle.journal_controls.proofs.Refusing.{refused, refused_ended, refused_facts, refused_if_setup, refused_outgoing, refused_sends}
+use Rattle.journal_controls.proofs.Replies.{replies_as}
 
 -- ---- the past of a link as a turn begins
 
@@ -113,8 +115,6 @@ pub record AreFixed (setup : Setup) (stage : Stage) (begun : ℕ) (facts : Facts
   pub phased : IsPhased setup stage begun facts
   pub free : (handle : ℕ) (link : OpenLink) → link_at handle facts.links ≡ Some link → IsFixedSo stage link
   pub fixes : (handle : ℕ) (link : OpenLink) → link_at handle facts.links ≡ Some link → FixesNext facts.turn.doing handle link
-  -- and it would draw what it would as its link began
-  pub undrawn : (handle : ℕ) (link : OpenLink) → link_at handle facts.links ≡ Some link → IsUndrawn link
 
 free_so : (stage : Stage) (link : OpenLink) → IsFree (facts_in link) → IsFixedSo stage link
 free_so Between link is = is
@@ -145,14 +145,14 @@ asked_free step by_host base after is free =
     ap (λ (f : EndFacts). is_control f.outgoing.fixed) (ap facts_in is ∙ step_facts base step)
     ∙ ap (λ (held : Data). is_control held.fixed) ((asked_leaves_data step by_host).outgoing base.setup (facts_in base)) ∙ free
 
-host_free : (facts : Facts) (octet handle : ℕ) (after : OpenLink) → HasHeardHost facts octet handle after
+host_free : (setup : Setup) (facts : Facts) (octet handle : ℕ) (after : OpenLink) → HasHeardHost setup facts octet handle after
     → ((link : OpenLink) → link_at handle facts.links ≡ Some link → IsFree (facts_in link)) → IsFree (facts_in after)
-host_free facts octet handle after (Unchanged same) free = free after same
-host_free facts octet handle after (GetsData link start body was is) free =
+host_free setup facts octet handle after (Unchanged same) free = free after same
+host_free setup facts octet handle after (GetsData link start body was is) free =
     subst IsFree (sym (given_facts start body link after is))
     (ap is_control (given_free link.setup.link.handle start body (facts_in link).outgoing) ∙ free link was)
-host_free facts octet handle after (IsAsked link command step was accepted asks is) free =
-    asked_free step (asked_is_well facts octet handle command link.setup.link.role (facts_in link).peer step accepted asks).by_host link after is (free link was)
+host_free setup facts octet handle after (IsAsked link command step was accepted asks is) free =
+    asked_free step (asked_is_well setup facts octet handle command link.setup.link.role (facts_in link).peer step accepted asks).by_host link after is (free link was)
 
 -- ---- a turn begins
 
@@ -196,46 +196,56 @@ first_listener X phases handle links doing link is on at role then_on = by (list
 
 -- ---- a phase passes
 
--- an end answers a packet exactly where it is to reply
-pub sends_replying : (setup : Setup) (facts : Facts) (received : Option (List ℕ)) (handle : ℕ) (base : OpenLink) (octets : List ℕ) → link_at handle facts.links ≡ Some base
-    → received ≡ Some octets → listens_under handle facts.turn.doing ≡ true
-    → sends_under handle (facts_after setup facts (step_of received)).turn.doing ≡ replies_of base.setup (facts_in base) facts.turn.slot octets (has_room setup facts)
-sends_replying setup facts received handle base octets was some on = by (phase_of setup facts received)
-  where
-    replied : (replies : Bool) → sends_under handle (reply_if replies handle) ≡ replies
-    replied true = same_number handle
-    replied false = refl
+-- an end answers a packet exactly where it is to reply, with the words that it is given before
+replied : (handle : ℕ) (replies : Bool) → sends_under handle (reply_if replies handle) ≡ replies
+replied handle true = same_number handle
+replied handle false = refl
 
-    by : IsPhaseOf setup facts received
-        → sends_under handle (facts_after setup facts (step_of received)).turn.doing ≡ replies_of base.setup (facts_in base) facts.turn.slot octets (has_room setup facts)
-    by (IsPlainPhase none plain) = absurd (let h : Some octets ≡ None = sym some ∙ none handle on in absurd cc)
-    by (IsOnLink other heard some_too listens heard_is) =
-        let equal = eqb-true other handle (sym (listens handle) ∙ on) in
-        let told : Some heard ≡ Some octets = sym some_too ∙ some in
-        let octets_are : heard ≡ octets = cc in
-        let room = has_room setup facts in
-        ap (λ may. sends_under handle (facts_after setup facts (step_of may)).turn.doing) some_too
-        ∙ ap (λ (o : Outcome). sends_under handle o.next) heard_is
-        ∙ ap (λ n. sends_under handle (reply_if (replies_in facts.turn.slot room (link_at n facts.links) heard) n)) equal
-        ∙ replied (replies_in facts.turn.slot room (link_at handle facts.links) heard)
-        ∙ (λ i. replies_in facts.turn.slot room (was i) (octets_are i))
+pub sends_replying : (setup : Setup) (facts : Facts) (received : Option (List ℕ)) (handle : ℕ) (base : OpenLink) (octets : List ℕ) → link_at handle facts.links ≡ Some base
+    → received ≡ Some octets → listens_under handle facts.turn.doing ≡ true → let worded = link_worded setup facts facts.turn.doing base in
+    sends_under handle (facts_after setup facts (step_of received)).turn.doing ≡ replies_of worded.setup (facts_in worded) facts.turn.slot octets (has_room setup facts)
+sends_replying setup facts received handle base octets was some on =
+    let now = facts_on setup facts facts.turn.doing handle in
+    let room = has_room setup facts in
+    ap (λ may. sends_under handle (facts_after setup facts (step_of may)).turn.doing) some
+    ∙ ap (λ (o : Outcome). sends_under handle o.next) (heard_on setup facts octets handle facts.turn.doing on)
+    ∙ replied handle (replies_in facts.turn.slot room (link_at handle now.links) octets)
+    ∙ ap (λ found. replies_in facts.turn.slot room found octets) (worded_at setup facts facts.turn.doing handle base was)
 
 not_free : (b : Bool) → (b ≡ true → ⊥) → b ≡ false
 not_free b none = false_from_ne_true b none
 
--- a peripheral that was free before a packet reached it
-answered_free : (slot : ℕ) (octets : List ℕ) (room sends : Bool) (base after : OpenLink) → base.setup.link.role ≡ Peripheral → IsFree (facts_in base)
-    → replies_of base.setup (facts_in base) slot octets room ≡ sends → after ≡ sent_if sends slot (link_after (PacketReceived slot octets room) base)
+-- a peripheral that was free before a packet reached it, also where it answered a request in it at once
+answered_free : (slot : ℕ) (octets : List ℕ) (room sends : Bool) (refusal : Option Step) (base after : OpenLink) → IfSome refusal IsRefusal → base.setup.link.role ≡ Peripheral
+    → IsFree (facts_in base) → replies_of base.setup (facts_in base) slot octets room ≡ sends
+    → after ≡ sent_if sends slot (refused_if refusal (link_after (PacketReceived slot octets room) base))
     → has_ended (facts_in after) ≡ false → IsFree (facts_in after)
-answered_free slot octets room true base after role free replies is goes =
-    let taken = link_after (PacketReceived slot octets room) base in
-    subst IsFree (sym (ap facts_in is ∙ step_facts taken (PacketSent slot) ∙ ap (λ f. end_after base.setup f (PacketSent slot)) (step_facts base (PacketReceived slot octets room))))
-    (answer_leaves_none base.setup (facts_in base) slot slot octets room role free)
-answered_free slot octets room false base after role free replies is goes =
-    let same = ap facts_in is ∙ step_facts base (PacketReceived slot octets room) in
-    not_free (is_control (facts_in after).outgoing.fixed) (λ holds.
-    let ended = silence_ends base.setup (facts_in base) slot octets room role free replies (ap (λ (f : EndFacts). is_control f.outgoing.fixed) (sym same) ∙ holds) in
-    let h : true ≡ false = sym ended ∙ ap has_ended (sym same) ∙ goes in absurd cc)
+answered_free slot octets room sends refusal base after answers role free replies is goes = by sends replies is
+  where
+    taken : OpenLink
+    taken = link_after (PacketReceived slot octets room) base
+
+    heard : EndFacts
+    heard = end_after base.setup (facts_in base) (PacketReceived slot octets room)
+
+    heard_is : facts_in taken ≡ heard
+    heard_is = step_facts base (PacketReceived slot octets room)
+
+    refused_is : facts_in (refused_if refusal taken) ≡ refused base.setup heard refusal
+    refused_is = refused_facts refusal taken ∙ ap (λ (f : EndFacts). refused base.setup f refusal) heard_is
+
+    by : (sends : Bool) → replies_of base.setup (facts_in base) slot octets room ≡ sends → after ≡ sent_if sends slot (refused_if refusal taken) → IsFree (facts_in after)
+    by true replies is =
+        subst IsFree (sym (ap facts_in is ∙ step_facts (refused_if refusal taken) (PacketSent slot)
+        ∙ (λ i. end_after (refused_if_setup refusal taken i) (refused_is i) (PacketSent slot))))
+        (refused_sends base.setup heard refusal slot answers (good_leave slot octets (replies_as base.setup (facts_in base) slot octets room replies).pdu room base.setup (facts_in base) role (replies_as base.setup (facts_in base) slot octets room replies).good)
+        ∙ answer_leaves_none base.setup (facts_in base) slot slot octets room role free)
+    by false replies is =
+        let same = ap facts_in is ∙ refused_is in
+        not_free (is_control (facts_in after).outgoing.fixed) (λ holds.
+        let ended = silence_ends base.setup (facts_in base) slot octets room role free replies
+        (sym (ap (λ (f : EndFacts). is_control f.outgoing.fixed) same ∙ ap (λ (d : Data). is_control d.fixed) (refused_outgoing base.setup heard refusal answers)) ∙ holds) in
+        let h : true ≡ false = sym ended ∙ sym (ap has_ended same ∙ refused_ended base.setup heard refusal answers) ∙ goes in absurd cc)
 
 new_free : (end : EndSetup) (link : OpenLink) → link ≡ new_link end → IsFree (facts_in link)
 unfolding end_facts
@@ -246,48 +256,31 @@ module _ (setup : Setup) (facts : Facts) (received : Option (List ℕ)) (phases 
   abbrev room : Bool
   room = has_room setup facts
 
-  -- a peripheral refuses nothing
-  unrefused : (handle : ℕ) (octets : List ℕ) (base : OpenLink) → link_at handle facts.links ≡ Some base → base.setup.link.role ≡ Peripheral
-      → link_receiving handle room octets facts base ≡ link_after (PacketReceived facts.turn.slot octets room) base
-  unrefused handle octets base was role =
-      ap (λ b. refused_if b (link_after (PacketReceived facts.turn.slot octets room) base))
-      (not_free (refuses_at handle room octets facts) (λ refuses. other_role ⊥ base.setup.link.role (only_central_refuses facts handle room octets base was refuses) role))
-
   passed_free : (handle : ℕ) (after : OpenLink) → after.setup.link.role ≡ Peripheral
-      → HasPassed facts room received handle (facts_after setup facts (step_of received)).turn.doing after → has_ended (facts_in after) ≡ false → IsFree (facts_in after)
+      → HasPassed setup facts room received handle (facts_after setup facts (step_of received)).turn.doing after → has_ended (facts_in after) ≡ false → IsFree (facts_in after)
   passed_free handle after role (IsNew end made opened off) goes = new_free end after made
   passed_free handle after role (Stays was none nothing listened) goes = so_free (Within phases) after (free handle after was) goes
   passed_free handle after role (Takes base octets was some on same) goes =
       let slot = facts.turn.slot in
       let doing = (facts_after setup facts (step_of received)).turn.doing in
       let sends = sends_under handle doing in
-      let own : base.setup.link.role ≡ Peripheral = ap (λ (s : EndSetup). s.link.role) (sym (ap (λ (l : OpenLink). l.setup) same ∙ sent_setup sends slot (link_receiving handle room octets facts base)
-      ∙ receiving_setup handle room octets facts base)) ∙ role in
+      let worded = link_worded setup facts facts.turn.doing base in
+      let words = worded_as setup facts facts.turn.doing base in
+      let grown = taken_grown sends handle room octets facts worded after same in
+      let there : worded.setup.link.role ≡ Peripheral = ap (λ (s : EndSetup). s.link.role) (sym grown.setup_is) ∙ role in
+      let own : base.setup.link.role ≡ Peripheral = ap (λ (s : EndSetup). s.link.role) (sym words.setup_is) ∙ there in
       first_listener (IsFree (facts_in after)) phases handle facts.links facts.turn.doing base phase on was own (λ first.
-      answered_free slot octets room sends base after own (subst (λ n. IsFixedSo (Within n) base) first (free handle base was))
-      (sym (sends_replying setup facts received handle base octets was some on))
-      (same ∙ ap (sent_if sends slot) (unrefused handle octets base was own)) goes)
-    where
-      sent_setup : (sends : Bool) (slot : ℕ) (link : OpenLink) → (sent_if sends slot link).setup ≡ link.setup
-      sent_setup true slot link = refl
-      sent_setup false slot link = refl
+      answered_free slot octets room sends (refusal_at handle room octets facts worded) worded after (refusal_is handle room octets facts worded) there
+      (ap (λ (f : EndFacts). is_control f.outgoing.fixed) words.facts_is ∙ subst (λ n. IsFixedSo (Within n) base) first (free handle base was))
+      (sym (sends_replying setup facts received handle base octets was some on)) same goes)
 
-  pub passes_free : (handle : ℕ) (after : OpenLink) → HasPassed facts room received handle (facts_after setup facts (step_of received)).turn.doing after
+  pub passes_free : (handle : ℕ) (after : OpenLink) → HasPassed setup facts room received handle (facts_after setup facts (step_of received)).turn.doing after
       → IsFixedSo (Within (suc phases)) after
   passes_free handle after passed = by after.setup.link.role refl
     where
       by : (role : Role) → after.setup.link.role ≡ role → IsFixedSo (Within (suc phases)) after
       by Central is = central_so (Within (suc phases)) after is
       by Peripheral is = λ goes. passed_free handle after is passed goes
-
-passes_undrawn : (setup : Setup) (facts : Facts) (received : Option (List ℕ)) (handle : ℕ) (after : OpenLink)
-    → ((link : OpenLink) → link_at handle facts.links ≡ Some link → IsUndrawn link)
-    → HasPassed facts (has_room setup facts) received handle (facts_after setup facts (step_of received)).turn.doing after → IsUndrawn after
-passes_undrawn setup facts received handle after undrawn (IsNew end made opened off) = new_undrawn end after made
-passes_undrawn setup facts received handle after undrawn (Stays was none nothing listened) = undrawn after was
-passes_undrawn setup facts received handle after undrawn (Takes base octets was some on same) =
-    let room = has_room setup facts in
-    taken_draws_none (refuses_at handle room octets facts) (sends_under handle (facts_after setup facts (step_of received)).turn.doing) facts.turn.slot octets room base after same (undrawn base was)
 
 -- ---- a turn ends
 
@@ -334,9 +327,8 @@ fixed_kept setup = record {
   feeds = λ begun octet facts is.
       let phased = (phased_kept setup).feeds begun octet facts is.phased in record {
         phased = phased;
-        free = λ handle link at. host_free facts octet handle link (host_under setup facts octet handle link at) (is.free handle);
+        free = λ handle link at. host_free setup facts octet handle link (host_under setup facts octet handle link at) (is.free handle);
         fixes = λ handle link at. resting handle (facts_after setup facts (HostOctet octet)).turn.doing link phased.phase;
-        undrawn = λ handle link at. host_undrawn facts octet handle link (host_under setup facts octet handle link at) (is.undrawn handle);
       };
   begins = λ begun on facts is.
       let phased = (phased_kept setup).begins begun on facts is.phased in
@@ -358,12 +350,6 @@ fixed_kept setup = record {
             let same = facts_are ∙ (λ i. fold (end_after has.link.setup) (facts_in has.link) (steps_begun (enters_in begun has.link) (fixes i) (none i) begun)) in
             subst (λ (f : EndFacts). f.fixes_control ≡ has_next (keyed_of f)) (sym same)
             (begins_fixes (enters_in begun has.link) begun has.link.setup (facts_in has.link) (is.free handle has.link has.was));
-        undrawn = λ handle link at.
-            let has = turn_begun_under setup facts begun on handle link at in
-            let doing = next.turn.doing in
-            let facts_are = grown_facts has.link link _ has.setup_is (has.past_is ∙ begun_past begun handle doing has.link) in
-            ap (λ (f : EndFacts). f.encryption.response) facts_are
-            ∙ begun_draws has.link.setup (enters_in begun has.link) (fixes_under handle doing) (sends_under handle doing) begun (facts_in has.link) ∙ is.undrawn handle has.link has.was;
       };
   passes = λ phases begun received facts is.
       let phased = (phased_kept setup).passes phases begun received facts is.phased in record {
@@ -374,8 +360,6 @@ fixed_kept setup = record {
             let next = facts_after setup facts (step_of received) in
             first_listener ((facts_in link).fixes_control ≡ has_next (keyed_of (facts_in link))) (suc phases) handle next.links next.turn.doing link phased.phase listens at role
             (λ same. absurd (omega (arith, same)));
-        undrawn = λ handle link at.
-            passes_undrawn setup facts received handle link (is.undrawn handle) (passes_under setup facts received handle link is.phased.uses.in_turn.listens at);
       };
   ends = λ begun facts is.
       let phased = (phased_kept setup).ends begun facts is.phased in record {
@@ -383,7 +367,6 @@ fixed_kept setup = record {
         free = λ handle link at.
             let has = ended_under setup facts handle link at in ended_free 3 has.link link has.is has.stays (is.free handle has.link has.was);
         fixes = λ handle link at. resting handle (facts_after setup facts TurnEnds).turn.doing link phased.phase;
-        undrawn = λ handle link at. let has = ended_under setup facts handle link at in reported_undrawn has.link link has.is (is.undrawn handle has.link has.was);
       };
 }
   where
@@ -399,7 +382,6 @@ fixed_first setup = record {
   phased = phased_first setup;
   free = λ handle link at. no_link setup handle link _ at;
   fixes = λ handle link at. no_link setup handle link _ at;
-  undrawn = λ handle link at. no_link setup handle link _ at;
 }
 
 -- ---- in a run
@@ -407,7 +389,6 @@ fixed_first setup = record {
 pub record IsFixedIn (given : Given) (before : List Event) (station handle : ℕ) (link : OpenLink) : Type 0 where
   pub free : has_ended (facts_in link) ≡ false → IsFree (facts_in link)
   pub fixes : FixesNext (facts_at given station before).turn.doing handle link
-  pub undrawn : IsUndrawn link
 
 pub fixed_in : (given : Given) (before rest : List Event) (station handle : ℕ) (link : OpenLink) → AreDistinct given.stations → is_in station given.stations ≡ true
     → history_of (run_of given) ≡ before ++ rest → link_at handle (facts_at given station before).links ≡ Some link → IsFixedIn given before station handle link
@@ -418,5 +399,4 @@ fixed_in given before rest station handle link distinct in_it at is =
     let are = turned setup (AreFixed setup) (fixed_kept setup) past stands.at (fixed_first setup) stands.is in record {
       free = so_free stands.at.stage link (are.free handle link is);
       fixes = are.fixes handle link is;
-      undrawn = are.undrawn handle link is;
     }

@@ -8,7 +8,7 @@ use Rattle.journal_ends.specs.controller_model.Facts.{Facts, Listens, Sends}
 use Rattle.journal_ends.specs.controller_model.Packets.{verdict_of as verdict_at}
 use Rattle.journal_ends.specs.controller_model.Side.{facts_after, facts_of, notes_after}
 use Rattle.journal_ends.specs.controller_model.Step.{Step as Call, HostOctet, TurnBegins, TurnEnds}
-use Rattle.host_masks.specs.Masks.{view_masks, withholds_requests}
+use Rattle.host_masks.specs.Masks.{view_masks}
 use Rattle.host_masks.proofs.LineMasks.{line_masks}
 use Rattle.journal_ends.specs.journal_acks.link_calls.Uses.{listens_under}
 use Rattle.journal_ends.specs.link_model.Facts.{keyed_of}
@@ -33,7 +33,6 @@ use Rattle.journal_ends.proofs.journal_acks.Known.{known_of}
 use Rattle.journal_ends.proofs.journal_acks.LinkPackets.{lines_first}
 use Rattle.journal_ends.proofs.journal_acks.Standing.{PhasedBy, listens_wanted, phased_at, sender_role}
 use Rattle.journal_ends.proofs.journal_acks.TwoStations.{IsOfTwo, hearing_of, judged, one_hearing, other_is, other_of, other_received, own_differs, own_received, same_number, unchanged}
-use Rattle.journal_ends.proofs.journal_acks.link_calls.UnderHandles.{host_under}
 use Rattle.journal_ends.proofs.journal_acks.link_calls.CallNotes.{OpensNone, begin_noted, end_noted, opening_none}
 use Rattle.journal_ends.proofs.journal_links.OfTwo.{are_distinct, of_two_stations}
 use Rattle.journal_ends.proofs.journal_packets.AccessOrder.{AreNth}
@@ -47,11 +46,12 @@ use Rattle.journal_ends.proofs.run_laws.OpenSteps.{none_open, open_has}
 use Rattle.journal_ends.proofs.run_laws.TurnPlaces.{Within, at_stage}
 use Rattle.journal_ends.proofs.run_model.Fates.{turns_are}
 use Rattle.journal_ends.proofs.run_model.Fronts.{front_at}
-use Rattle.journal_ends.proofs.run_model.LinkEnds.{AreTaken, IsUnderstood, received_by, received_event}
+use Rattle.journal_ends.proofs.run_model.LinkEnds.{AreTaken, IsUnderstood, received_by, received_event, received_packet}
 use Rattle.journal_ends.proofs.run_model.Places.{each_called, each_event}
 use Rattle.journal_ends.proofs.run_model.Stations.{among, is_in, not_before}
 use Rattle.journal_ends.proofs.run_model.Walk.{AtBegins, AtEnds, AtFeeds, AtListening, AtPackets, IsKept, NoTurn, Place}
 use Rattle.journal_controls.specs.Hearing.{keyed_next}
+use Rattle.journal_controls.specs.Withheld.{withheld_by}
 use Rattle.journal_controls.proofs.AskedControls.{call_asks, end_asked}
 use Rattle.journal_controls.proofs.ControlPackets.{packet_moves}
 use Rattle.journal_controls.proofs.ControlledEnds.{AreControlledSo, IsControlledAt, controlled_call, controlled_event, asked_own, controlled_same, moved, moved_own, taking_next, whole}
@@ -60,7 +60,6 @@ use Rattle.journal_controls.proofs.FixedEnds.{fixed_in}
 use Rattle.journal_controls.proofs.LinkMoves.{MovesTo, begin_moves, end_moves}
 use Rattle.journal_controls.proofs.GoodPackets.{judged_link}
 use Rattle.journal_controls.proofs.PassedControls.{no_octet, passes_own}
-use Rattle.journal_controls.proofs.Undrawn.{host_keys}
 
 -- ---- what is kept
 
@@ -148,17 +147,14 @@ module _ (heard_whole : IsHeardWhole) (understood : IsUnderstood) (taken : AreTa
       → history_of (run_of given) ≡ history ++ Called station (HostOctet octet) ∷ rest → AreLined given history → AreLined given (after_call given station (HostOctet octet) history)
       → AreFed station begun history → AreFed station begun (after_call given station (HostOctet octet) history)
   octet_fed station octet begun history rest in_it at lined lined_after fed =
-      let step = HostOctet octet in
-      let setup = setup_at given station in
-      let facts = facts_at given station history in record {
+      let step = HostOctet octet in record {
         control = controlled_call given station step history NoneReceived NoneReceived (apart_from understood taken nth apart given are_two six station in_it) lined lined_after (λ handle link held.
             let number = number_at station handle history in
             let asks = octet_asks understood taken nth apart given are_two six station octet begun history rest in_it at lined lined_after fed.seen handle link held in
             asked_own given station step history in_it lined lined_after handle link held None refl asks.number asks.base asks.was
             (call_asks given (side_of station) number station step history asks.is.asked (keyed_of (facts_in asks.base)) asks.lines asks.answers
             (whole_at given history NoneReceived station handle asks.base in_it asks.was (λ on. refl) fed.control)
-            ∙ ap Some (end_asked asks.base link asks.is.asked asks.is.by_host asks.is.control_is
-            (host_keys facts octet handle asks.base link (host_under setup facts octet handle link (held_at given station step history in_it lined lined_after handle link held)) asks.was))))
+            ∙ ap Some (end_asked asks.base link asks.is.asked asks.is.by_host asks.is.keyed_is)))
             (λ other is_too differs. refl) fed.control;
         each = call_each given station step history fed.each (whole_before given history NoneReceived station step (λ handle held link. refl) refl fed.control);
         seen = seen_fed understood taken nth apart given are_two six station octet begun history rest in_it at lined lined_after fed.seen;
@@ -248,7 +244,7 @@ module _ (heard_whole : IsHeardWhole) (understood : IsUnderstood) (taken : AreTa
 
         aired_so : packet_received one after ≡ (if has_received one (hearing ∷ []) then Some octets else None)
         aired_so =
-            received_event one history (Transmitted station channel octets hearings)
+            received_packet given fates one station channel octets history unseen
             ∙ (λ i. if has_received one (one_hearing given are_two fates station channel octets history in_it i) then Some octets else none i)
 
         -- it received what was sent
@@ -406,7 +402,7 @@ module _ (heard_whole : IsHeardWhole) (understood : IsUnderstood) (taken : AreTa
             subst (λ b. PhasedBy given history station (if b then at_stage (Within (suc phases)) (turns_begun history) else at_stage (Within phases) (turns_begun history)))
             (not_before given.stations done left station distinct are)
             (phased_at given (AtListening phases done (station ∷ left)) history has.seen.holds.hearing.stand station in_it) in
-            let held = ap withholds_requests (sym (ap (λ n. view_masks (facts_at given n history).view) (sym (there_and_back station (of_two_stations given are_two station in_it)))
+            let held = ap withheld_by (sym (ap (λ n. view_masks (facts_at given n history).view) (sym (there_and_back station (of_two_stations given are_two station in_it)))
             ∙ line_masks given are_two (side_of station) history (notes ++ front.rest) (Called station step) (front.at ∙ append_assoc history (Called station step ∷ notes) front.rest)
             (no_octet received))) in record {
               seen = seen;
@@ -414,7 +410,6 @@ module _ (heard_whole : IsHeardWhole) (understood : IsUnderstood) (taken : AreTa
               control = controlled_call given station step history (λ one. packet_received one history) (λ one. packet_received one after) (apart_from understood taken nth apart given are_two six station in_it) lined lined_after
                   (passes_own understood taken given are_two six station history phases place in_it phased lined lined_after seen.known seen.seen held
                   (turn_is history facts.turn.slot (sym phased.uses.in_turn.slot_is))
-                  (λ handle link at. (fixed_in given history ((Called station step ∷ notes) ++ front.rest) station handle link distinct in_it (front.at ∙ append_assoc history (Called station step ∷ notes) front.rest) at).undrawn)
                   has.control)
                   (λ other is_too differs. received_by given other station step history false differs) has.control;
               each = call_each given station step history has.each (λ in_one handle link at.

@@ -6,7 +6,11 @@ pub mod LineFolds
 pub mod EventMoves
 pub mod EndMoves
 pub mod PeripheralFixed
+pub mod GivenAlike
 pub mod Undrawn
+pub mod Refusing
+pub mod Replies
+pub mod SendsAlike
 pub mod TurnMoves
 pub mod Counted
 pub mod FixedEnds

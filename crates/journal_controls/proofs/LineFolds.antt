@@ -1,9 +1,7 @@
 -- An end by a journal with one line more.
 use Rattle.std.proofs.Common.{◌≡◌, ℕ, ◌==◌, ◌&&◌, Bool, true, false, Option, Some, None, List, [], ◌∷◌, ◌++◌, map, refl, sym, ap, subst, ◌∙◌, append-nil, append_assoc, if◌then◌else◌}
 use Rattle.std.specs.List.{flat_map}
-use Rattle.std.specs.Prelude.{Result}
 use Rattle.std.specs.Option.{option_map}
-use Rattle.ble_base.specs.declared.error_codes.ErrCode.{ErrCode}
 use Rattle.ble_base.specs.declared.roles.Role.{Role}
 use Rattle.ble_base.specs.declared.roles.Side.{Side}
 use Rattle.ble_base.specs.declared.roles.Side.TheVariants.{A, B}
@@ -21,11 +19,11 @@ use Rattle.journal_ends.specs.link_model.Step.{Step}
 use Rattle.journal_ends.specs.link_model.keyed_control.Keyed.{Keyed}
 use Rattle.journal_ends.specs.link_model.keyed_control.declared.material.Response.{Response}
 use Rattle.journal_ends.specs.link_model.phased_control.Taken.{role_now}
-use Rattle.journal_ends.specs.link_model.procedure_values.declared.asks.Ask.{Ask}
 use Rattle.journal_ends.specs.run_model.Readers.{of_side}
 use Rattle.journal_ends.proofs.SeenEvents.{unanswered_in, unasked_in}
 use Rattle.journal_ends.proofs.journal_acks.TwoStations.{same_number}
 use Rattle.journal_controls.specs.SaidLines.{NoneOpens, is_opening, moved_by}
+use Rattle.journal_controls.specs.Withheld.{Withheld}
 use Rattle.journal_controls.specs.KeyedLines.{answering, drawn_by, has_next, keyed_by_all}
 use Rattle.journal_controls.specs.LineSteps.{keyed_begun, keyed_from, keyed_in_line, keyed_on, moved_in_line, steps_asking, steps_heard, steps_said, steps_seen, turn_now, withholds}
 
@@ -67,11 +65,11 @@ same_moved None move same = refl
 same_moved (Some k) move same = ap Some (same k)
 
 -- what is seen of the end in a line, and what its host answers in it
-lines_move : (side : Side) (number : ℕ) (front : List Entry) (line : Entry) (k : Keyed) (seen : List Seen) (answers : List (Result Ask ErrCode))
+lines_move : (side : Side) (number : ℕ) (front : List Entry) (line : Entry) (k : Keyed) (seen : List Seen) (answers : List Step)
     → seen_in_line side number front line ≡ seen → answers_in_line side number front line ≡ answers
-    → moved_in_line (drawn_by side) side number front line k ≡ keyed_by_all (map answering answers ++ flat_map (steps_seen (drawn_by side) side number front line k) seen) k
+    → moved_in_line (drawn_by side) side number front line k ≡ keyed_by_all (flat_map answering answers ++ flat_map (steps_seen (drawn_by side) side number front line k) seen) k
 lines_move side number front line k seen answers is replies =
-    λ i. keyed_by_all (map answering (replies i) ++ flat_map (steps_seen (drawn_by side) side number front line k) (is i)) k
+    λ i. keyed_by_all (flat_map answering (replies i) ++ flat_map (steps_seen (drawn_by side) side number front line k) (is i)) k
 
 -- a line in which the end says and hears nothing, and in which its host asks and answers nothing
 pub quiet_line : (side : Side) (number : ℕ) (front : List Entry) (before : Option Keyed) (line : Entry) → seen_in_line side number front line ≡ []
@@ -85,7 +83,7 @@ quiet_line side number front before line none unanswered =
 
 -- ---- lines that an end says
 
-pub moved_both : (withheld : Bool) (response : Response) (slot : ℕ) (lines more : List Entry) (k : Keyed)
+pub moved_both : (withheld : Withheld) (response : Response) (slot : ℕ) (lines more : List Entry) (k : Keyed)
     → moved_by withheld response slot (lines ++ more) k ≡ moved_by withheld response slot more (moved_by withheld response slot lines k)
 moved_both withheld response slot [] more k = refl
 moved_both withheld response slot (line ∷ lines) more k = moved_both withheld response slot lines more (keyed_by_all (steps_said withheld response slot k line) k)
@@ -173,17 +171,18 @@ asked_line side number front line k step is unanswered =
 
 -- ---- what its host answers the peer
 
-opening_unanswered : (side : Side) (number : ℕ) (front : List Entry) (line : Entry) (answer : Result Ask ErrCode) → answers_in_line side number front line ≡ answer ∷ []
+opening_unanswered : (side : Side) (number : ℕ) (front : List Entry) (line : Entry) (answer : Step) → answers_in_line side number front line ≡ answer ∷ []
     → is_opening line ≡ false
 opening_unanswered side number front (Opened other link handle role) answer is = absurd cc
 opening_unanswered side number front (Shut other link reason) answer is = absurd cc
 opening_unanswered side number front line answer is = refl
 
-pub answered_line : (side : Side) (number : ℕ) (front : List Entry) (line : Entry) (k : Keyed) (answer : Result Ask ErrCode) → seen_in_line side number front line ≡ []
-    → answers_in_line side number front line ≡ answer ∷ [] → keyed_in_line (drawn_by side) side number front (Some k) line ≡ Some (keyed_by_all (answering answer ∷ []) k)
+pub answered_line : (side : Side) (number : ℕ) (front : List Entry) (line : Entry) (k : Keyed) (answer : Step) → seen_in_line side number front line ≡ []
+    → answers_in_line side number front line ≡ answer ∷ [] → keyed_in_line (drawn_by side) side number front (Some k) line ≡ Some (keyed_by_all (answering answer) k)
 answered_line side number front line k answer none is =
     moves side number front (Some k) line (opening_unanswered side number front line answer is)
     ∙ ap Some (lines_move side number front line k [] (answer ∷ []) none is)
+    ∙ ap (λ steps. Some (keyed_by_all steps k)) (append-nil (answering answer ++ []) ∙ append-nil (answering answer))
 
 -- ---- the line that opens the link
 

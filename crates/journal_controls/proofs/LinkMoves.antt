@@ -1,7 +1,7 @@
 -- What a call on a controller does to an end of one of its links: it goes by the lines that the call adds for the link, from
 -- what it was before the call, or as a packet reached it.
 use Rattle.std.proofs.Common.{◌≡◌, ℕ, ◌&&◌, Bool, true, false, Option, Some, None, List, [], ◌∷◌, ◌++◌, fold, map, refl, sym, ap, subst, ◌∙◌, append-nil, append_assoc}
-use Rattle.std.specs.Prelude.{nat_lt, if◌then◌else◌}
+use Rattle.std.specs.Prelude.{IfSome, nat_lt, if◌then◌else◌}
 use Rattle.ble_base.specs.declared.notes.Note.{Note}
 use Rattle.ble_base.specs.declared.notes.Note.TheVariants.{Enter}
 use Rattle.ble_base.specs.declared.procedure_kinds.Kind.{Kind}
@@ -9,12 +9,13 @@ use Rattle.ble_base.specs.declared.roles.Role.{Role}
 use Rattle.ble_base.specs.declared.roles.Role.TheVariants.{Central, Peripheral}
 use Rattle.ble_base.specs.declared.roles.Side.{Side}
 use Rattle.journal_ends.specs.controller_model.Facts.{Setup, Facts}
-use Rattle.journal_ends.specs.controller_model.Heard.{effect_in, is_refused}
 use Rattle.journal_ends.specs.controller_model.Side.{facts_after}
 use Rattle.journal_ends.specs.controller_model.Step.{TurnBegins, TurnEnds}
+use Rattle.journal_ends.specs.controller_model.declared.doing.Doing.{Doing}
+use Rattle.journal_ends.specs.controller_model.declared.doing.Doing.TheVariants.{PeripheralListens}
 use Rattle.data_pdu.specs.Header.{header_in}
-use Rattle.host_masks.specs.Masks.{view_masks, withholds_requests}
-use Rattle.journal_ends.specs.journal_acks.link_calls.Phases.{link_receiving, refusal, refused_if, refuses_at}
+use Rattle.host_masks.specs.Masks.{view_masks}
+use Rattle.journal_ends.specs.journal_acks.link_calls.Phases.{base_receiving, link_worded, refusal_at, refused_if}
 use Rattle.journal_ends.specs.journal_acks.link_calls.Turns.{sent_if}
 use Rattle.journal_ends.specs.journal_acks.link_calls.Uses.{fixes_under, sends_under}
 use Rattle.journal_ends.specs.journal_links.LinkLines.{line_of}
@@ -25,51 +26,54 @@ use Rattle.journal_ends.specs.link_model.Entering.{began_notes, done_notes, even
 use Rattle.journal_ends.specs.link_model.Events.{applied_notes}
 use Rattle.journal_ends.specs.link_model.Facts.{Facts as EndFacts, keyed_of}
 use Rattle.journal_ends.specs.link_model.Packets.{good_pdu}
-use Rattle.journal_ends.specs.link_model.Receiving.{accepts, facts_before_taking, facts_received, has_ended, received_notes, replies_by, replies_of}
-use Rattle.journal_ends.specs.link_model.Sending.{sent_notes_if}
+use Rattle.journal_ends.specs.link_model.Receiving.{accepts, acknowledged_if, facts_before_taking, facts_received, has_acknowledged, has_ended, heard_in_slot, received_notes, replies_by, replies_of}
+use Rattle.journal_ends.specs.link_model.Sending.{control_gone_if, sent_notes_if, takes_leave}
 use Rattle.journal_ends.specs.link_model.Setup.{Setup as EndSetup}
-use Rattle.journal_ends.specs.link_model.Step.{Step, DataReported, EventEntered, PacketReceived, PacketSent, PduFixed, RequestAnswered}
+use Rattle.journal_ends.specs.link_model.Step.{Step, DataReported, EventEntered, KeyAnswered, PacketReceived, PacketSent, PduFixed, RequestAnswered, WordsGiven}
 use Rattle.journal_ends.specs.link_model.Verdicts.{pdu_of}
 use Rattle.journal_ends.specs.link_model.control_end.Answers.{entry_of}
 use Rattle.journal_ends.specs.link_model.control_end.Held.{held_of}
 use Rattle.journal_ends.specs.link_model.control_end.declared.answers.Entry.{Entry}
 use Rattle.journal_ends.specs.link_model.declared.events.ConnectionEvent.{ConnectionEvent}
 use Rattle.journal_ends.specs.link_model.keyed_control.Keyed.{Keyed}
-use Rattle.journal_ends.specs.link_model.keyed_control.KeyedSteps.{Answers}
 use Rattle.journal_ends.specs.link_model.keyed_control.declared.material.Response.{Response}
 use Rattle.journal_ends.specs.open_links.Data.{complete_in, link_reported}
 use Rattle.journal_ends.specs.open_links.OpenLinks.{Links, OpenLink, facts_in, link_after, link_at}
 use Rattle.journal_ends.specs.open_links.Turns.{enters_in}
 use Rattle.journal_ends.proofs.journal_acks.link_calls.LinkCalls.{turn_begun_under}
-use Rattle.journal_ends.proofs.journal_acks.link_calls.Refusals.{only_central_refuses}
 use Rattle.journal_ends.proofs.journal_acks.link_calls.UnderHandles.{ended_under}
+use Rattle.journal_ends.proofs.GrownLinks.{IsRefusal, refusal_is}
+use Rattle.journal_ends.proofs.WordedLinks.{IsWordedAs, with_response, worded_good}
 use Rattle.journal_ends.proofs.link_model.KeyedPasts.{past_in_phase}
 use Rattle.journal_ends.proofs.link_model.KeyedSteps.{one_step}
 use Rattle.journal_ends.proofs.run_laws.Agreed.{step_facts}
 use Rattle.journal_controls.specs.Hearing.{keyed_hearing}
-use Rattle.journal_controls.specs.KeyedLines.{asks_by, does_if, keyed_by_all}
+use Rattle.journal_controls.specs.KeyedLines.{answer_by, does_some, keyed_by_all}
 use Rattle.journal_controls.specs.SaidLines.{moved_by}
+use Rattle.journal_controls.specs.Withheld.{Withheld, withheld_by}
 use Rattle.journal_controls.specs.TurnSteps.{first_if, steps_begun}
-use Rattle.journal_controls.proofs.EndMoves.{KeepsRole, NoneRefuses, moved_noted, past_keeps, refuse_both}
-use Rattle.journal_controls.proofs.EndSteps.{received_is}
+use Rattle.journal_controls.proofs.EndMoves.{KeepsRole, NoneRefuses, moved_noted, past_keeps, refuse_both, role_stays}
+use Rattle.journal_controls.proofs.EndSteps.{good_leave, received_is}
 use Rattle.journal_controls.proofs.FixedEnds.{begun_past, grown_facts}
-use Rattle.journal_controls.proofs.TakingLines.{asked, moved_more, received_by_lines}
-use Rattle.journal_controls.proofs.TurnMoves.{answers_by, turn_moves}
+use Rattle.journal_controls.proofs.Refusing.{first_some, refused, refused_fold, refused_leave, refused_notes}
+use Rattle.journal_controls.proofs.TakingLines.{answer_where, asked, keyed_answer, moved_more, received_by_lines}
+use Rattle.journal_controls.proofs.TurnMoves.{left_answers, turn_moves}
+use Rattle.journal_controls.proofs.Undrawn.{moved_alike}
 
 -- more happened to a link, and the lines of it move the end to that of the link
-pub record MovesTo (side : Side) (number : ℕ) (withheld : Bool) (response : Response) (slot : ℕ) (base after : OpenLink) (from : Keyed) : Type 0 where
+pub record MovesTo (side : Side) (number : ℕ) (withheld : Withheld) (response : Response) (slot : ℕ) (base after : OpenLink) (from : Keyed) : Type 0 where
   pub setup_is : after.setup ≡ base.setup
   pub steps : List Step
   pub past_is : after.past ≡ base.past ++ steps
   pub moves : moved_by withheld response slot (map (line_of side number) (notes_from base.setup (facts_in base) steps)) from ≡ keyed_of (facts_in after)
 
 -- so it is of the link that was under a handle
-pub record HasMoved (side : Side) (number : ℕ) (withheld : Bool) (response : Response) (slot : ℕ) (links : Links) (handle : ℕ) (after : OpenLink) : Type 0 where
+pub record HasMoved (side : Side) (number : ℕ) (withheld : Withheld) (response : Response) (slot : ℕ) (links : Links) (handle : ℕ) (after : OpenLink) : Type 0 where
   pub base : OpenLink
   pub was : link_at handle links ≡ Some base
   pub is : MovesTo side number withheld response slot base after (keyed_of (facts_in base))
 
-module _ (side : Side) (number : ℕ) (withheld : Bool) (response : Response) (slot : ℕ) where
+module _ (side : Side) (number : ℕ) (withheld : Withheld) (response : Response) (slot : ℕ) where
   pub same_moves : (link : OpenLink) → MovesTo side number withheld response slot link link (keyed_of (facts_in link))
   same_moves link = record { setup_is = refl; steps = []; past_is = sym (append-nil link.past); moves = refl }
 
@@ -171,27 +175,27 @@ module _ (side : Side) (number : ℕ) (withheld : Bool) (response : Response) (s
 
 -- ---- a packet is taken
 
-taken_past : (refuses sends : Bool) (slot : ℕ) (octets : List ℕ) (room : Bool) (base : OpenLink)
-    → (sent_if sends slot (refused_if refuses (link_after (PacketReceived slot octets room) base))).past
-    ≡ base.past ++ PacketReceived slot octets room ∷ first_if refuses (RequestAnswered refusal) (first_if sends (PacketSent slot) [])
-taken_past true true slot octets room base =
-    append_assoc (base.past ++ PacketReceived slot octets room ∷ []) (RequestAnswered refusal ∷ []) (PacketSent slot ∷ [])
-    ∙ append_assoc base.past (PacketReceived slot octets room ∷ []) (RequestAnswered refusal ∷ PacketSent slot ∷ [])
-taken_past true false slot octets room base = append_assoc base.past (PacketReceived slot octets room ∷ []) (RequestAnswered refusal ∷ [])
-taken_past false true slot octets room base = append_assoc base.past (PacketReceived slot octets room ∷ []) (PacketSent slot ∷ [])
-taken_past false false slot octets room base = refl
+pub taken_past : (refusal : Option Step) (sends : Bool) (slot : ℕ) (octets : List ℕ) (room : Bool) (base : OpenLink)
+    → (sent_if sends slot (refused_if refusal (link_after (PacketReceived slot octets room) base))).past
+    ≡ base.past ++ PacketReceived slot octets room ∷ first_some refusal (first_if sends (PacketSent slot) [])
+taken_past (Some step) true slot octets room base =
+    append_assoc (base.past ++ PacketReceived slot octets room ∷ []) (step ∷ []) (PacketSent slot ∷ [])
+    ∙ append_assoc base.past (PacketReceived slot octets room ∷ []) (step ∷ PacketSent slot ∷ [])
+taken_past (Some step) false slot octets room base = append_assoc base.past (PacketReceived slot octets room ∷ []) (step ∷ [])
+taken_past None true slot octets room base = append_assoc base.past (PacketReceived slot octets room ∷ []) (PacketSent slot ∷ [])
+taken_past None false slot octets room base = refl
 
-taken_setup : (refuses sends : Bool) (slot : ℕ) (taken : OpenLink) → (sent_if sends slot (refused_if refuses taken)).setup ≡ taken.setup
-taken_setup true true slot taken = refl
-taken_setup true false slot taken = refl
-taken_setup false true slot taken = refl
-taken_setup false false slot taken = refl
+pub taken_setup : (refusal : Option Step) (sends : Bool) (slot : ℕ) (taken : OpenLink) → (sent_if sends slot (refused_if refusal taken)).setup ≡ taken.setup
+taken_setup (Some step) true slot taken = refl
+taken_setup (Some step) false slot taken = refl
+taken_setup None true slot taken = refl
+taken_setup None false slot taken = refl
 
 replier : (role : Role) (ended : Bool) (pdu : Option (List ℕ)) → replies_by role ended pdu ≡ true → role ≡ Peripheral
 replier Central ended pdu is = absurd cc
 replier Peripheral ended pdu is = refl
 
-module _ (side : Side) (number : ℕ) (facts : Facts) (handle : ℕ) (room : Bool) (octets pdu : List ℕ) (base : OpenLink) (was : link_at handle facts.links ≡ Some base)
+module _ (side : Side) (number : ℕ) (facts : Facts) (handle : ℕ) (room : Bool) (octets pdu : List ℕ) (base : OpenLink)
     (good : good_pdu base.setup (facts_in base) octets ≡ Some pdu) where
   abbrev slot : ℕ
   slot = facts.turn.slot
@@ -202,8 +206,8 @@ module _ (side : Side) (number : ℕ) (facts : Facts) (handle : ℕ) (room : Boo
   abbrev end : EndFacts
   end = facts_in base
 
-  abbrev withheld : Bool
-  withheld = withholds_requests (view_masks facts.view)
+  abbrev withheld : Withheld
+  withheld = withheld_by (view_masks facts.view)
 
   abbrev response : Response
   response = end.encryption.response
@@ -217,9 +221,12 @@ module _ (side : Side) (number : ℕ) (facts : Facts) (handle : ℕ) (room : Boo
   abbrev moved : List Note → Keyed → Keyed
   moved notes k = moved_by withheld response slot (map (line_of side number) notes) k
 
+  abbrev sending : Bool → List Step
+  sending sends = first_if sends (PacketSent slot) []
+
   -- by the steps that follow
-  abbrev later : Bool → Bool → List Step
-  later refuses sends = first_if refuses (RequestAnswered refusal) (first_if sends (PacketSent slot) [])
+  abbrev later : Option Step → Bool → List Step
+  later refusal sends = first_some refusal (sending sends)
 
   now_keeps : KeepsRole setup.link.role (keyed_of now)
   now_keeps = subst (λ (f : EndFacts). KeepsRole setup.link.role (keyed_of f)) (step_facts base took) (past_keeps setup (base.past ++ took ∷ []))
@@ -227,55 +234,113 @@ module _ (side : Side) (number : ℕ) (facts : Facts) (handle : ℕ) (room : Boo
   now_phase : now.encryption.end.phase ≡ now.encryption.phase
   now_phase = subst (λ (f : EndFacts). f.encryption.end.phase ≡ f.encryption.phase) (step_facts base took) (past_in_phase setup (base.past ++ took ∷ []))
 
-  refusal_is : refuses_at handle room octets facts ≡ is_refused facts.view handle (effect_in slot room (Some base) octets)
-  refusal_is = ap (λ found. is_refused facts.view handle (effect_in slot room found octets)) was
-
   abbrev from : Keyed
   from = keyed_hearing setup.link.role slot (Some pdu) end
 
-  -- what the PDU and a refusal do
-  first_moves : (refuses : Bool) → refuses_at handle room octets facts ≡ refuses
-      → moved (notes_after setup end took) from ≡ keyed_by_all (does_if refuses (Answers refusal)) (keyed_of now)
-  first_moves refuses is =
+  -- what the PDU does, and the answer at once to a request in it
+  first_moves : (refusal : Option Step) → refusal_at handle room octets facts base ≡ refusal
+      → moved (notes_after setup end took) from ≡ keyed_by_all (does_some (keyed_answer refusal)) (keyed_of now)
+  first_moves refusal is =
       let before = facts_before_taking setup.link.role slot (header_in pdu) end in
-      let same : (accepts room (header_in pdu) (pdu_of pdu) before && (asks_by response slot (keyed_of before) (pdu_of pdu) && withheld)) ≡ refuses =
-      sym (asked facts.view handle slot room setup end octets pdu good) ∙ sym refusal_is ∙ is in
+      let same : answer_where (accepts room (header_in pdu) (pdu_of pdu) before) (answer_by withheld response slot (keyed_of before) (pdu_of pdu)) ≡ keyed_answer refusal =
+      sym (asked facts.view handle slot room setup end octets pdu good) ∙ ap keyed_answer is in
       ap (λ one. moved (received_notes setup slot room one end) from) good
       ∙ received_by_lines side number withheld slot room setup end pdu
-      ∙ (λ i. keyed_by_all (does_if (same i) (Answers refusal)) (keyed_of (sym (received_is setup end slot octets pdu room good) i)))
+      ∙ (λ i. keyed_by_all (does_some (same i)) (keyed_of (sym (received_is setup end slot octets pdu room good) i)))
 
-  later_moves : (refuses sends : Bool) → (refuses ≡ true → setup.link.role ≡ Central) → (sends ≡ true → setup.link.role ≡ Peripheral)
-      → moved (notes_from setup now (later refuses sends)) (keyed_by_all (does_if refuses (Answers refusal)) (keyed_of now))
-      ≡ keyed_of (fold (end_after setup) now (later refuses sends))
-  later_moves true true central peripheral = absurd (let h : Central ≡ Peripheral = sym (central refl) ∙ peripheral refl in absurd cc)
-  later_moves true false central peripheral = sym (one_step setup now (RequestAnswered refusal) now_phase refl)
-  later_moves false sends central peripheral =
-      moved_noted side number withheld response slot setup.link.role (notes_from setup now (first_if sends (PacketSent slot) [])) (keyed_of now) now_keeps
-      (sending_none side number withheld response slot sends slot setup now)
-      ∙ sym (answers_by side number response slot setup octets pdu room end good sends peripheral)
+  refusal_moves : (refusal : Option Step) → IfSome refusal IsRefusal → keyed_by_all (does_some (keyed_answer refusal)) (keyed_of now) ≡ keyed_of (refused setup now refusal)
+  refusal_moves None is = refl
+  refusal_moves (Some (RequestAnswered answer)) is = sym (one_step setup now (RequestAnswered answer) now_phase refl)
+  refusal_moves (Some (KeyAnswered key at)) is = sym (one_step setup now (KeyAnswered key at) now_phase refl)
+  refusal_moves (Some step) is = absurd is
 
-  good_moves : (refuses sends : Bool) → refuses_at handle room octets facts ≡ refuses → (sends ≡ true → setup.link.role ≡ Peripheral)
-      → moved (notes_from setup end (took ∷ later refuses sends)) from ≡ keyed_of (fold (end_after setup) end (took ∷ later refuses sends))
-  good_moves refuses sends is peripheral =
-      moved_more side number withheld response slot (notes_after setup end took) (notes_from setup now (later refuses sends)) from
-      ∙ ap (moved (notes_from setup now (later refuses sends))) (first_moves refuses is)
-      ∙ later_moves refuses sends (λ yes. only_central_refuses facts handle room octets base was (is ∙ yes)) peripheral
+  later_moves : (refusal : Option Step) (sends : Bool) → IfSome refusal IsRefusal → (sends ≡ true → setup.link.role ≡ Peripheral)
+      → moved (notes_from setup now (later refusal sends)) (keyed_by_all (does_some (keyed_answer refusal)) (keyed_of now))
+      ≡ keyed_of (fold (end_after setup) now (later refusal sends))
+  later_moves refusal sends is peripheral =
+      let next = refused setup now refusal in
+      let moves = refusal_moves refusal is in
+      let keeps = subst (KeepsRole setup.link.role) moves (role_stays setup.link.role (keyed_of now) (does_some (keyed_answer refusal)) now_keeps) in
+      (λ i. moved (refused_notes setup now refusal (sending sends) is i) (moves i))
+      ∙ moved_noted side number withheld response slot setup.link.role (notes_from setup next (sending sends)) (keyed_of next) keeps
+      (sending_none side number withheld response slot sends slot setup next)
+      ∙ sym (left_answers side number response slot setup next sends peripheral (λ yes. refused_leave setup now refusal is ∙ good_leave slot octets pdu room setup end (peripheral yes) good))
+      ∙ ap (λ (f : EndFacts). keyed_of f) (sym (refused_fold setup now refusal (sending sends)))
+
+  good_moves : (refusal : Option Step) (sends : Bool) → refusal_at handle room octets facts base ≡ refusal → IfSome refusal IsRefusal
+      → (sends ≡ true → setup.link.role ≡ Peripheral)
+      → moved (notes_from setup end (took ∷ later refusal sends)) from ≡ keyed_of (fold (end_after setup) end (took ∷ later refusal sends))
+  good_moves refusal sends is asks peripheral =
+      moved_more side number withheld response slot (notes_after setup end took) (notes_from setup now (later refusal sends)) from
+      ∙ ap (moved (notes_from setup now (later refusal sends))) (first_moves refusal is)
+      ∙ later_moves refusal sends asks peripheral
 
   -- a good packet that a link takes
-  pub taken_moves : (sends : Bool) (after : OpenLink) → sends ≡ replies_of setup end slot octets room → after ≡ sent_if sends slot (link_receiving handle room octets facts base)
+  pub taken_moves : (sends : Bool) (after : OpenLink) → sends ≡ replies_of setup end slot octets room → after ≡ sent_if sends slot (base_receiving handle room octets facts base)
       → MovesTo side number withheld response slot base after (keyed_hearing setup.link.role slot (good_pdu setup end octets) end)
   unfolding replies_of
   taken_moves sends after replies is =
-      let refuses = refuses_at handle room octets facts in
+      let refusal = refusal_at handle room octets facts base in
       let taken = link_after took base in
-      let same = ap (λ (l : OpenLink). l.setup) is ∙ taken_setup refuses sends slot taken in
-      let past = ap (λ (l : OpenLink). l.past) is ∙ taken_past refuses sends slot octets room base in
+      let same = ap (λ (l : OpenLink). l.setup) is ∙ taken_setup refusal sends slot taken in
+      let past = ap (λ (l : OpenLink). l.past) is ∙ taken_past refusal sends slot octets room base in
       let replier_is = λ (on_it : sends ≡ true). replier setup.link.role (has_ended (facts_received setup.link.role slot room (good_pdu setup end octets) end)) (good_pdu setup end octets) (sym replies ∙ on_it) in
       record {
         setup_is = same;
-        steps = took ∷ later refuses sends;
+        steps = took ∷ later refusal sends;
         past_is = past;
-        moves = ap (λ one. moved (notes_from setup end (took ∷ later refuses sends)) (keyed_hearing setup.link.role slot one end)) good
-            ∙ good_moves refuses sends refl replier_is
-            ∙ sym (ap (λ (f : EndFacts). keyed_of f) (grown_facts base after (took ∷ later refuses sends) same past));
+        moves = ap (λ one. moved (notes_from setup end (took ∷ later refusal sends)) (keyed_hearing setup.link.role slot one end)) good
+            ∙ good_moves refusal sends refl (refusal_is handle room octets facts base) replier_is
+            ∙ sym (ap (λ (f : EndFacts). keyed_of f) (grown_facts base after (took ∷ later refusal sends) same past));
       }
+
+-- ---- with the words that it was given before
+
+module _ (side : Side) (number : ℕ) (withheld : Withheld) (slot : ℕ) where
+  given_moves : (response : Response) (skd_s iv_s : ℕ) (link after : OpenLink) (from : Keyed)
+      → MovesTo side number withheld response slot (link_after (WordsGiven skd_s iv_s) link) after from → MovesTo side number withheld response slot link after from
+  given_moves response skd_s iv_s link after from is =
+      let step = WordsGiven skd_s iv_s in record {
+        setup_is = is.setup_is;
+        steps = step ∷ is.steps;
+        past_is = is.past_is ∙ append_assoc link.past (step ∷ []) is.steps;
+        moves = ap (λ (f : EndFacts). moved_by withheld response slot (map (line_of side number) (notes_from link.setup f is.steps)) from) (sym (step_facts link step))
+            ∙ is.moves;
+      }
+
+  pub worded_moves : (response : Response) (setup : Setup) (facts : Facts) (doing : Doing) (link after : OpenLink) (from : Keyed)
+      → MovesTo side number withheld response slot (link_worded setup facts doing link) after from → MovesTo side number withheld response slot link after from
+  worded_moves response setup facts (PeripheralListens handle) link after from is = given_moves response _ _ link after from is
+  worded_moves response setup facts doing link after from is = is
+
+  -- what it would draw changes nothing yet
+  pub redrawn : (one other : Response) (base after : OpenLink) (from : Keyed)
+      → MovesTo side number withheld one slot base after from → MovesTo side number withheld other slot base after from
+  redrawn one other base after from is = record {
+    setup_is = is.setup_is;
+    steps = is.steps;
+    past_is = is.past_is;
+    moves = moved_alike withheld other one slot (map (line_of side number) (notes_from base.setup (facts_in base) is.steps)) from ∙ is.moves;
+  }
+
+-- as a packet reaches it, it is as it would be without them
+gone_still : (goes : Bool) (slot : ℕ) (facts : EndFacts) (response : Response)
+    → keyed_of (control_gone_if goes slot (with_response response facts)) ≡ keyed_of (control_gone_if goes slot facts)
+gone_still true slot facts response = refl
+gone_still false slot facts response = refl
+
+pub hearing_still : (role : Role) (slot : ℕ) (pdu : Option (List ℕ)) (facts : EndFacts) (response : Response)
+    → keyed_hearing role slot pdu (with_response response facts) ≡ keyed_hearing role slot pdu facts
+hearing_still role slot None facts response = refl
+hearing_still Central slot (Some pdu) facts response = refl
+hearing_still Peripheral slot (Some pdu) facts response =
+    let header = header_in pdu in
+    let own = acknowledged_if (has_acknowledged facts header) (heard_in_slot slot header.md facts) in
+    gone_still (takes_leave own) slot own response
+
+pub worded_hearing : (link base : OpenLink) → IsWordedAs link base → (slot : ℕ) (octets : List ℕ)
+    → keyed_hearing base.setup.link.role slot (good_pdu base.setup (facts_in base) octets) (facts_in base)
+    ≡ keyed_hearing link.setup.link.role slot (good_pdu link.setup (facts_in link) octets) (facts_in link)
+worded_hearing link base is slot octets =
+    (λ i. keyed_hearing (is.setup_is i).link.role slot (worded_good link base is octets i) (is.facts_is i))
+    ∙ hearing_still link.setup.link.role slot (good_pdu link.setup (facts_in link) octets) (facts_in link) is.response

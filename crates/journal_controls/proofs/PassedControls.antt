@@ -6,9 +6,9 @@ use Rattle.journal_ends.specs.controller_model.Facts.{Facts}
 use Rattle.journal_ends.specs.controller_model.Heard.{has_room}
 use Rattle.journal_ends.specs.controller_model.Links.{note_opened}
 use Rattle.journal_ends.specs.controller_model.Side.{facts_after, notes_after}
-use Rattle.host_masks.specs.Masks.{view_masks, withholds_requests}
+use Rattle.host_masks.specs.Masks.{view_masks}
 use Rattle.journal_ends.specs.Seen.{Says, seen_of}
-use Rattle.journal_ends.specs.journal_acks.link_calls.Phases.{HasPassed, IsNew, Stays, Takes}
+use Rattle.journal_ends.specs.journal_acks.link_calls.Phases.{HasPassed, IsNew, Stays, Takes, link_worded}
 use Rattle.journal_ends.specs.journal_acks.link_calls.Uses.{sends_under}
 use Rattle.journal_ends.specs.journal_links.LinkLines.{line_of}
 use Rattle.journal_ends.specs.link_model.End.{facts_of}
@@ -20,6 +20,7 @@ use Rattle.journal_ends.specs.run_model.Journal.{side_of}
 use Rattle.journal_ends.specs.run_model.LinkEnds.{HaveAddresses}
 use Rattle.journal_ends.specs.run_model.Run.{Given, after_call, facts_at, setup_at, step_of}
 use Rattle.journal_ends.proofs.EndsKnown.{AreLined}
+use Rattle.journal_ends.proofs.WordedLinks.{worded_as, worded_good}
 use Rattle.journal_ends.proofs.SeenCalls.{AreSeenSo, held_at, seen_in_link, whole as seen_whole}
 use Rattle.journal_ends.proofs.journal_acks.Exchanging.{number_at, number_called}
 use Rattle.journal_ends.proofs.journal_acks.Standing.{PhasedBy}
@@ -36,13 +37,13 @@ use Rattle.journal_ends.proofs.run_model.Calls.{same_station}
 use Rattle.journal_ends.proofs.run_model.Stations.{is_in}
 use Rattle.journal_ends.proofs.run_model.Walk.{Place}
 use Rattle.journal_controls.specs.Hearing.{keyed_if}
+use Rattle.journal_controls.specs.Withheld.{withheld_by}
 use Rattle.journal_controls.proofs.ControlledEnds.{AreControlledSo, IsControlledAt, from_whole, keyed_taking, moved_own, whole}
 use Rattle.journal_controls.proofs.EventMoves.{call_moving, drawn_at, turn_answers, turn_at, withholds_at}
 use Rattle.journal_controls.proofs.FixedEnds.{sends_replying}
 use Rattle.journal_controls.proofs.GoodPackets.{good_has}
-use Rattle.journal_controls.proofs.LinkMoves.{MovesTo, same_moves, taken_moves}
+use Rattle.journal_controls.proofs.LinkMoves.{MovesTo, redrawn, same_moves, taken_moves, worded_hearing, worded_moves}
 use Rattle.journal_controls.proofs.OpenedControls.{opened_control}
-use Rattle.journal_controls.proofs.Undrawn.{IsUndrawn}
 
 pub no_octet : (received : Option (List ℕ)) → is_octet (step_of received) ≡ false
 no_octet None = refl
@@ -64,9 +65,9 @@ module _ (understood : IsUnderstood) (taken : AreTaken) (given : Given) (are_two
     (known : IsBelongingSoFar given place (after_call given station (step_of (packet_received station history)) history))
     (seen : AreSeenSo given (after_call given station (step_of (packet_received station history)) history)
     (λ one. packet_received one (after_call given station (step_of (packet_received station history)) history)))
-    (held : withholds_at (side_of station) history ≡ withholds_requests (view_masks (facts_at given station history).view))
+    (held : withholds_at (side_of station) history ≡ withheld_by (view_masks (facts_at given station history).view))
     (slot_is : turn_at history ≡ (facts_at given station history).turn.slot)
-    (undrawn : (handle : ℕ) (link : OpenLink) → link_at handle (facts_at given station history).links ≡ Some link → IsUndrawn link) (are : AreControlledSo given history (λ one. packet_received one history)) where
+    (are : AreControlledSo given history (λ one. packet_received one history)) where
   abbrev received : Option (List ℕ)
   received = packet_received station history
 
@@ -105,7 +106,7 @@ module _ (understood : IsUnderstood) (taken : AreTaken) (given : Given) (are_two
       ∙ ap Some (first_is link none))
 
   passed : (handle : ℕ) (link : OpenLink) → link_at handle (facts_at given station next).links ≡ Some link → number_at station handle next ≡ number_at station handle history
-      → HasPassed facts (has_room (setup_at given station) facts) received handle (facts_after (setup_at given station) facts (step_of received)).turn.doing link → IsNow handle link
+      → HasPassed (setup_at given station) facts (has_room (setup_at given station) facts) received handle (facts_after (setup_at given station) facts (step_of received)).turn.doing link → IsNow handle link
   passed handle link at number (IsNew end made opened off) = fresh handle link at (ap (λ (l : OpenLink). l.past) made) (ap (λ (l : OpenLink). l.setup.opened) made ∙ opened)
   passed handle link at number (Stays was none nothing listened) =
       let own = number_at station handle history in
@@ -119,13 +120,21 @@ module _ (understood : IsUnderstood) (taken : AreTaken) (given : Given) (are_two
       let room = has_room setup facts in
       let sends = sends_under handle (facts_after setup facts (step_of received)).turn.doing in
       let from = keyed_if true facts.turn.slot octets base in
+      let worded = link_worded setup facts facts.turn.doing base in
+      let words = worded_as setup facts facts.turn.doing base in
+      let response = (facts_in worded).encryption.response in
+      let withheld = withheld_by (view_masks facts.view) in
       let before = are station handle base in_it was in
       let has = good_has base.setup (facts_in base) octets (before.good octets on some) in
-      let moves = taken_moves side own facts handle room octets has.pdu base was has.is sends link (sends_replying setup facts received handle base octets was some on) same in
+      let good = worded_good base worded words octets ∙ has.is in
+      let there = taken_moves side own facts handle room octets has.pdu worded good sends link (sends_replying setup facts received handle base octets was some on) same in
+      let moves : MovesTo side own withheld response facts.turn.slot base link from =
+      worded_moves side own withheld facts.turn.slot response setup facts facts.turn.doing base link from
+      (subst (λ k. MovesTo side own withheld response facts.turn.slot worded link k) (worded_hearing base worded words facts.turn.slot octets) there) in
       moved_own given station (step_of received) history in_it lined lined_after handle link at (packet_received station next) none_next number base was (phase_turn received) from
       (subst (λ w. MovesTo side own w (drawn_at side history) (turn_at history) base link from) (sym held)
-      (subst (λ n. MovesTo side own (withholds_requests (view_masks facts.view)) (drawn_at side history) n base link from) (sym slot_is)
-      (subst (λ r. MovesTo side own (withholds_requests (view_masks facts.view)) r facts.turn.slot base link from) (undrawn handle base was) moves)))
+      (subst (λ n. MovesTo side own withheld (drawn_at side history) n base link from) (sym slot_is)
+      (redrawn side own withheld facts.turn.slot response (drawn_at side history) base link from moves)))
       (before.keyed ∙ (λ i. Some (keyed_taking (on i) (some i) facts.turn.slot base)))
 
   pub passes_own : (handle : ℕ) (link : OpenLink) → link_at handle (facts_at given station next).links ≡ Some link → IsNow handle link

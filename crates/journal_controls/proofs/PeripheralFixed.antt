@@ -37,7 +37,7 @@ taken_acked true pdu slot facts = refl
 taken_acked false pdu slot facts = refl
 
 -- its packet, where no control PDU is to leave the queue
-sent_outgoing : (slot : ℕ) (facts : Facts) (leaves : Bool) → takes_leave facts ≡ leaves → leaves ≡ false
+pub sent_outgoing : (slot : ℕ) (facts : Facts) (leaves : Bool) → takes_leave facts ≡ leaves → leaves ≡ false
     → (facts_sent slot facts).outgoing ≡ data_sent_as (payload_made facts.encryption.end facts.outgoing.fixed) (is_acked facts.acknowledgement) facts.outgoing
 sent_outgoing slot facts leaves is none =
     ap (λ b. let gone = control_gone_if b slot facts in

@@ -10,6 +10,7 @@ use Rattle.journal_ends.specs.link_model.End.{facts_after, facts_of, notes_after
 use Rattle.journal_ends.specs.link_model.Facts.{Facts, keyed_of}
 use Rattle.journal_ends.specs.link_model.Fixing.{fixed_anew}
 use Rattle.journal_ends.specs.link_model.Packets.{good_pdu}
+use Rattle.journal_ends.specs.link_model.Sending.{takes_leave}
 use Rattle.journal_ends.specs.link_model.Setup.{Setup}
 use Rattle.journal_ends.specs.link_model.Step.{Step, EventEntered, PacketReceived, PacketSent, PduFixed}
 use Rattle.journal_ends.specs.link_model.keyed_control.declared.material.Response.{Response}
@@ -19,7 +20,7 @@ use Rattle.journal_controls.specs.OneEnd.{IsToldOf, steps_noted}
 use Rattle.journal_controls.specs.TurnSteps.{first_if, steps_begun, steps_taken}
 use Rattle.journal_controls.proofs.CentralFixed.{IsFree, past_free, step_free}
 use Rattle.journal_controls.proofs.EndMoves.{AreByLines, by_none, by_then}
-use Rattle.journal_controls.proofs.EndSteps.{central_sends_free, entry_moves, packet_moves, peripheral_sends}
+use Rattle.journal_controls.proofs.EndSteps.{central_sends_free, entry_moves, good_leave, left_sends, packet_moves}
 use Rattle.journal_controls.proofs.NotedSteps.{joined, noted_both}
 
 fixing_keeps : (stays : Bool) (facts : Facts) → keyed_of (if stays then facts else fixed_anew facts) ≡ keyed_of facts
@@ -60,18 +61,22 @@ module _ (side : Side) (number : ℕ) (response : Response) (slot : ℕ) (setup 
 
   -- ---- as a packet is taken
 
+  -- a peripheral sends what left the queue
+  pub left_answers : (now : Facts) (answers : Bool) → (answers ≡ true → setup.link.role ≡ Peripheral) → (answers ≡ true → takes_leave now ≡ false)
+      → AreByLines side number response slot setup now (first_if answers (PacketSent slot) [])
+  left_answers now false peripheral leaves = by_none side number response slot setup now
+  left_answers now true peripheral leaves =
+      by_then side number response slot setup now (PacketSent slot) []
+      (left_sends side number response slot setup now (leaves refl)
+      ∙ ap (λ r. keyed_by_all (steps_noted side number r response slot (notes_after setup now (PacketSent slot))) (keyed_of now)) (sym (peripheral refl)))
+      (by_none side number response slot setup (facts_after setup now (PacketSent slot)))
+
   module _ (octets pdu : List ℕ) (room : Bool) (facts : Facts) (good : good_pdu setup facts octets ≡ Some pdu) where
     abbrev now : Facts
     now = facts_after setup facts (PacketReceived slot octets room)
 
     pub answers_by : (answers : Bool) → (answers ≡ true → setup.link.role ≡ Peripheral) → AreByLines side number response slot setup now (first_if answers (PacketSent slot) [])
-    answers_by false peripheral = by_none side number response slot setup now
-    answers_by true peripheral =
-        let role = peripheral refl in
-        by_then side number response slot setup now (PacketSent slot) []
-        (peripheral_sends side number response slot slot octets pdu room setup facts role good
-        ∙ ap (λ r. keyed_by_all (steps_noted side number r response slot (notes_after setup now (PacketSent slot))) (keyed_of now)) (sym role))
-        (by_none side number response slot setup (facts_after setup now (PacketSent slot)))
+    answers_by answers peripheral = left_answers now answers peripheral (λ yes. good_leave slot octets pdu room setup facts (peripheral yes) good)
 
     pub taking_moves : (answers : Bool) (before after : Exchanged) (last : Pdu) → facts.encryption.response ≡ response → (answers ≡ true → setup.link.role ≡ Peripheral)
         → IsToldOf setup.link.role facts (header_in pdu) before after last

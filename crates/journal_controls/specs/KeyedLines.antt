@@ -1,17 +1,17 @@
 -- What its lines make an end do with its procedures, its phase and its keys (Core 5.2, volume 6 part B, sections 4.5.9, 5.1
 -- and 5.1.3).
-use Rattle.std.specs.Prelude.{ℕ, ◌&&◌, Bool, true, List, [], ◌∷◌, ◌++◌, is_some, Result, if◌then◌else◌}
-use Rattle.ble_base.specs.declared.error_codes.ErrCode.{ErrCode}
+use Rattle.std.specs.Prelude.{ℕ, Bool, true, List, [], ◌∷◌, ◌++◌, Option, Some, None, is_some, if◌then◌else◌}
 use Rattle.ble_base.specs.declared.roles.Role.{Role}
 use Rattle.ble_base.specs.declared.roles.Role.TheVariants.{Central, Peripheral}
 use Rattle.ble_base.specs.declared.roles.Side.{Side}
 use Rattle.journal.specs.declared.entries.Entry.{Entry}
-use Rattle.journal_ends.specs.journal_acks.link_calls.Phases.{refusal}
 use Rattle.journal_ends.specs.link_model.Acknowledgement.{Pdu}
 use Rattle.journal_ends.specs.link_model.Controls.{is_procedure_pdu, read_of}
 use Rattle.journal_ends.specs.link_model.Data.{is_data}
 use Rattle.journal_ends.specs.link_model.Facts.{no_response}
+use Rattle.journal_ends.specs.link_model.Hosts.{key_step}
 use Rattle.journal_ends.specs.link_model.Payload.{end_accepting}
+use Rattle.journal_ends.specs.link_model.Step.{Step, KeyAnswered, RequestAnswered}
 use Rattle.journal_ends.specs.link_model.control_end.Answers.{next_ctrl}
 use Rattle.journal_ends.specs.link_model.control_end.Held.{held_of}
 use Rattle.journal_ends.specs.link_model.keyed_control.Keyed.{Keyed}
@@ -21,8 +21,7 @@ use Rattle.journal_ends.specs.link_model.phased_control.Phased.{is_quiet_now}
 use Rattle.journal_ends.specs.link_model.phased_end.Held.{held_of as keyed_held}
 use Rattle.journal_ends.specs.link_model.phased_end.Taking.{drawn, taken_keyed}
 use Rattle.journal_ends.specs.link_model.phased_end.declared.taking.TakenKeyed.{TakenKeyed}
-use Rattle.journal_ends.specs.link_model.procedure_stages.Steps.{asks_host}
-use Rattle.journal_ends.specs.link_model.procedure_values.declared.asks.Ask.{Ask}
+use Rattle.journal_controls.specs.Withheld.{Withheld, withheld_answer}
 
 -- ---- what it does
 
@@ -45,11 +44,18 @@ keyed_by_all (step ∷ steps) k = keyed_by_all steps (keyed_by step k)
 abbrev pub does_if : Bool → KeyedStep → List LineStep
 does_if is_made step = if is_made then Does step ∷ [] else []
 
--- its host answers a request of the peer
-abbrev pub answering : Result Ask ErrCode → LineStep
-answering answer = Does (Answers answer)
+abbrev pub does_some : Option KeyedStep → List LineStep
+does_some None = []
+does_some (Some step) = Does step ∷ []
 
--- what a side would draw to answer LL_ENC_REQ after these lines: no controller offers words to its links yet (our choice)
+-- its host answers a request of the peer, or whether it has a key
+abbrev pub answering : Step → List LineStep
+answering (RequestAnswered answer) = Does (Answers answer) ∷ []
+answering (KeyAnswered key slot) = Does (key_step key) ∷ []
+answering step = []
+
+-- what a side would draw to answer LL_ENC_REQ after these lines: no end draws anything yet, whichever words it is given
+-- (our choice)
 abbrev pub drawn_by : Side → List Entry → Response
 drawn_by side front = no_response
 
@@ -74,10 +80,10 @@ steps_taking response slot pdu =
 abbrev pub given_by : Response → ℕ → Keyed → Pdu → TakenKeyed
 given_by response slot k pdu = taken_keyed slot response (read_of pdu) (keyed_held k)
 
--- the host is to be asked as this PDU is taken (section 5.1.7)
-abbrev pub asks_by : Response → ℕ → Keyed → Pdu → Bool
-asks_by response slot k pdu = is_procedure_pdu pdu && asks_host (given_by response slot k pdu).taken.effect
+-- a request that is withheld from the host is answered at once, which no line says
+abbrev pub answer_by : Withheld → Response → ℕ → Keyed → Pdu → Option KeyedStep
+answer_by withheld response slot k pdu =
+    if is_procedure_pdu pdu then withheld_answer withheld (given_by response slot k pdu) else None
 
--- a request that is withheld from the host is refused at once, which no line says
-abbrev pub steps_refusing : Bool → Response → ℕ → Keyed → Pdu → List LineStep
-steps_refusing withheld response slot k pdu = does_if (asks_by response slot k pdu && withheld) (Answers refusal)
+abbrev pub steps_refusing : Withheld → Response → ℕ → Keyed → Pdu → List LineStep
+steps_refusing withheld response slot k pdu = does_some (answer_by withheld response slot k pdu)

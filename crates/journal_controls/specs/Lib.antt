@@ -1,4 +1,5 @@
 -- The definitions of this crate.
+pub mod Withheld
 pub mod KeyedLines
 pub mod LineSteps
 pub mod OneEnd

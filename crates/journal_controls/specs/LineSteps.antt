@@ -1,6 +1,6 @@
 -- The procedures, the parameters, the phase and the keys of an end of a link, from the lines of a journal alone (Core 5.2,
 -- volume 6 part B, sections 4.5.9, 5.1 and 5.5).
-use Rattle.std.specs.Prelude.{ℕ, ◌+◌, ◌-◌, ◌==◌, ◌&&◌, nat_lt, not, Bool, true, false, List, [], ◌∷◌, ◌++◌, length, map, Option, Some, None, if◌then◌else◌}
+use Rattle.std.specs.Prelude.{ℕ, ◌+◌, ◌-◌, ◌==◌, ◌&&◌, nat_lt, not, Bool, true, false, List, [], ◌∷◌, ◌++◌, length, Option, Some, None, if◌then◌else◌}
 use Rattle.std.specs.List.{flat_map}
 use Rattle.std.specs.Option.{option_map}
 use Rattle.ble_base.specs.declared.channel_map.ChannelMap.{ChannelMap}
@@ -8,7 +8,7 @@ use Rattle.ble_base.specs.declared.roles.Role.{Role}
 use Rattle.ble_base.specs.declared.roles.Role.TheVariants.{Central, Peripheral}
 use Rattle.ble_base.specs.declared.roles.Side.{Side}
 use Rattle.journal_ends.specs.controller_model.Heard.{most_received}
-use Rattle.host_masks.specs.Masks.{masks_of, withholds_requests}
+use Rattle.host_masks.specs.Masks.{masks_of}
 use Rattle.journal.specs.declared.entries.Entry.{Entry}
 use Rattle.journal.specs.declared.entries.Entry.TheVariants.{Enter, Opened, Sent, Shut, Took}
 use Rattle.journal_ends.specs.Answering.{answers_in_line}
@@ -20,9 +20,9 @@ use Rattle.journal_ends.specs.journal_links.Changes.{role_on}
 use Rattle.journal_ends.specs.journal_packets.Belonging.{is_side}
 use Rattle.journal_ends.specs.link_model.Acknowledgement.{Pdu}
 use Rattle.journal_ends.specs.link_model.Data.{is_control}
-use Rattle.journal_ends.specs.link_model.Hosts.{key_step, map_queued, map_waiting, map_wanted, or_else}
+use Rattle.journal_ends.specs.link_model.Hosts.{map_queued, map_waiting, map_wanted, or_else}
 use Rattle.journal_ends.specs.link_model.Setup.{first_params}
-use Rattle.journal_ends.specs.link_model.Step.{Step, Disconnected, KeyAnswered, ProcedureAsked, RequestAnswered}
+use Rattle.journal_ends.specs.link_model.Step.{Step, Disconnected, ProcedureAsked}
 use Rattle.journal_ends.specs.link_model.control_model.Control.{Control}
 use Rattle.journal_ends.specs.link_model.keyed_control.Keyed.{Keyed, first_keyed}
 use Rattle.journal_ends.specs.link_model.keyed_control.KeyedSteps.{Asks, Disconnects, Enters, SeesAcknowledged, Sends}
@@ -32,6 +32,7 @@ use Rattle.journal_ends.specs.link_model.procedure_values.declared.asks.Ask.{Ask
 use Rattle.journal_ends.specs.link_model.procedure_values.declared.asks.Ask.TheVariants.{Encrypt, Map}
 use Rattle.journal_ends.specs.run_model.Readers.{fed_to_side, turns_of}
 use Rattle.journal_controls.specs.KeyedLines.{Does, LineStep, answering, does_if, drawn_by, has_next, keyed_by_all, steps_refusing, steps_sending, steps_taking}
+use Rattle.journal_controls.specs.Withheld.{Withheld, withheld_by}
 
 -- ---- its host
 
@@ -48,18 +49,15 @@ is_coming (Map map) control = map == map_coming control
 is_coming (Encrypt rand ediv ltk skd_m iv_m) control = true
 is_coming ask control = false
 
--- the steps of what a host asks of an end, and of what it answers: a request of the peer, or whether it has a key, which no
--- command says yet
+-- the steps of what a host asks of an end, or answers
 abbrev pub steps_asking : Keyed → Step → List LineStep
 steps_asking k (ProcedureAsked ask) = does_if (not (is_coming ask k.phased.control)) (Asks ask)
-steps_asking k (RequestAnswered answer) = answering answer ∷ []
-steps_asking k (KeyAnswered key slot) = Does (key_step key) ∷ []
 steps_asking k (Disconnected reason slot) = Does (Disconnects reason) ∷ []
-steps_asking k step = []
+steps_asking k step = answering step
 
--- the masks of the host of a side withhold from it the requests of its peer, by these entries
-abbrev pub withholds : Side → List Entry → Bool
-withholds side front = withholds_requests (masks_of (fed_to_side side front))
+-- the requests of its peer that the masks of the host of a side withhold from it, by these entries
+abbrev pub withholds : Side → List Entry → Withheld
+withholds side front = withheld_by (masks_of (fed_to_side side front))
 
 -- ---- it says a line
 
@@ -73,7 +71,7 @@ steps_saying role response slot (Took side link count llid body) =
 steps_saying role response slot line = []
 
 -- the steps of a line of an end that is like this before it
-abbrev pub steps_said : Bool → Response → ℕ → Keyed → Entry → List LineStep
+abbrev pub steps_said : Withheld → Response → ℕ → Keyed → Entry → List LineStep
 steps_said withheld response slot k (Took side link count llid body) =
     let pdu : Pdu = record { llid = llid; body = body } in
     steps_taking response slot pdu ++ steps_refusing withheld response slot k pdu
@@ -112,10 +110,10 @@ steps_seen words side number front line k (Hears slot octets) =
     (exchange_of number (front ++ line ∷ []) side) (carried_of number front side) (has_next k)
 steps_seen words side number front line k (IsAsked step) = steps_asking k step
 
--- and of what its host answers a request of the peer in that line
+-- and of what its host answers in that line
 abbrev pub steps_in_line : (List Entry → Response) → Side → ℕ → List Entry → Entry → Keyed → List LineStep
 steps_in_line words side number front line k =
-    map answering (answers_in_line side number front line)
+    flat_map answering (answers_in_line side number front line)
     ++ flat_map (steps_seen words side number front line k) (seen_in_line side number front line)
 
 -- ---- line by line

@@ -1,6 +1,6 @@
 //! Laws of an end by the lines as a controller is called, by those that the call adds. The bodies
 //! are empty: the contracts are the laws.
-ghost use Rattle.std.specs.Prelude.{◌≡◌, ◌++◌, ℕ, List, Option, Some, false, map};
+ghost use Rattle.std.specs.Prelude.{◌≡◌, ◌++◌, ℕ, false, List, Option, Some, map};
 ghost use Rattle.ble_base.specs.declared.notes.Note.{Note};
 ghost use Rattle.ble_base.specs.declared.roles.Side.{Side};
 ghost use Rattle.journal_ends.specs.controller_model.Step.{Step as Call};
@@ -23,12 +23,13 @@ ghost use Rattle.journal_controls.specs.KeyedLines.{drawn_by, keyed_by_all};
 ghost use Rattle.journal_controls.specs.LineSteps.{keyed_on, turn_now, withholds};
 ghost use Rattle.journal_controls.specs.OneEnd.{steps_noted};
 ghost use Rattle.journal_controls.specs.SaidLines.{NoneOpens, after_asking, moved_by};
+ghost use Rattle.journal_controls.specs.Withheld.{nothing_withheld};
 
 /// A call of a turn on a controller, after any history, moves the control part, the phase and the
 /// keys of an end by the lines that it adds for that end, in order, where none of them opens the
-/// link or shuts it. A request that is withheld from the host is refused as it is taken. A call in
-/// the lines of which nothing else is seen of an end than what its host asks, or answers the peer,
-/// moves them by that (Core 5.2, volume 6 part B, sections 5.1, 5.1.3 and 5.1.7).
+/// link or shuts it. A request that is withheld from the host is answered as it is taken. A call in
+/// the lines of which nothing else is seen of an end than what its host asks, or answers, moves them
+/// by that (Core 5.2, volume 6 part B, sections 5.1, 5.1.3 and 5.1.7).
 pub fn a_call_moves_the_control_part_by_its_lines()
     ensures turn { (given : Given) (side : Side) (number station : ℕ) (call : Call)
         (history : List Event) (more : List Entry) (k : Keyed) → is_octet call ≡ false
@@ -57,6 +58,6 @@ pub fn the_lines_of_an_end_move_the_control_part_by_its_notes()
         → NoneOpens (map (line_of side number) (notes_from setup facts steps)) }
     ensures moves { (side : Side) (number slot : ℕ) (response : Response) (setup : Setup)
         (past : List Step) (notes : List Note) → let k = keyed_of (facts_of setup past) in
-        moved_by false response slot (map (line_of side number) notes) k
+        moved_by nothing_withheld response slot (map (line_of side number) notes) k
         ≡ keyed_by_all (steps_noted side number setup.link.role response slot notes) k }
 {}

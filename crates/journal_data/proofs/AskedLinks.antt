@@ -9,6 +9,7 @@ use Rattle.journal_acks.specs.link_model.Step.{Step as EndStep}
 use Rattle.journal_acks.proofs.link_model.Pasts.{grows}
 use Rattle.journal_acks.specs.open_links.Data.{buffers_in, buffers_taken}
 use Rattle.journal_acks.specs.open_links.OpenLinks.{Links, OpenLink, facts_in, link_after, link_from}
+use Rattle.journal_acks.specs.controller_model.link_commands.declared.moments.Moment.{Moment}
 use Rattle.journal_acks.specs.controller_model.link_commands.Commands.{is_about}
 use Rattle.journal_acks.specs.controller_model.link_commands.LinksCommanded.{links_commanded_from, place_commanded}
 use Rattle.journal_acks.proofs.controller_model.Asked.{IsAskedStep, asked_leaves_data, place_asked}
@@ -36,15 +37,15 @@ pub asked_outgoing : (step : EndStep) (link : OpenLink) → IsAskedStep step →
 asked_outgoing step link asks =
     ap (λ (facts : EndFacts). facts.outgoing) (grows link.setup link.past step) ∙ (asked_leaves_data step asks).outgoing link.setup (facts_in link)
 
-place_same : (command : Command) (slot : ℕ) (about : Bool) (place : Option OpenLink) → HasSameData place (place_commanded about command slot place)
-place_same command slot about place =
-    place_asked (HasSameData place) command slot about place (same_place place)
+place_same : (command : Command) (moment : Moment) (about : Bool) (place : Option OpenLink) → HasSameData place (place_commanded about command moment place)
+place_same command moment about place =
+    place_asked (HasSameData place) command moment about place (same_place place)
     (λ link step is asked asks. subst (λ one. HasSameData one (Some (link_after step link))) (sym is) (asked_outgoing step link asks))
 
-pub commanded_same : (command : Command) (slot first : ℕ) (links : Links) → HaveSameData links (links_commanded_from first command slot links)
-commanded_same command slot first [] = tt
-commanded_same command slot first (place ∷ links) =
-    (place_same command slot (is_about first command) place, commanded_same command slot (first + 1) links)
+pub commanded_same : (command : Command) (moment : Moment) (first : ℕ) (links : Links) → HaveSameData links (links_commanded_from first command moment links)
+commanded_same command moment first [] = tt
+commanded_same command moment first (place ∷ links) =
+    (place_same command moment (is_about first command) place, commanded_same command moment (first + 1) links)
 
 -- so they take the same buffers
 place_buffers : (place after : Option OpenLink) → HasSameData place after → buffers_in after ≡ buffers_in place

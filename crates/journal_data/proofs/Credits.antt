@@ -19,7 +19,7 @@ use Rattle.journal_acks.specs.link_model.Sending.{data_sent_as, sent_notes}
 use Rattle.journal_acks.specs.link_model.Facts.{Facts as EndFacts}
 use Rattle.journal_acks.specs.link_model.Packets.{good_pdu}
 use Rattle.journal_acks.specs.link_model.Setup.{Setup as EndSetup}
-use Rattle.journal_acks.specs.link_model.Step.{Step as EndStep, DataGiven, EventEntered, PduFixed, PacketSent, PacketReceived, DataReported, ProcedureAsked, RequestAnswered, Disconnected}
+use Rattle.journal_acks.specs.link_model.Step.{Step as EndStep, DataGiven, EventEntered, PduFixed, PacketSent, PacketReceived, DataReported, ProcedureAsked, RequestAnswered, KeyAnswered, Disconnected, WordsGiven}
 use Rattle.journal_acks.proofs.link_model.Pasts.{grows}
 use Rattle.journal_acks.specs.open_links.Data.{complete_in, completed_from, link_reported, links_reported}
 use Rattle.journal_acks.specs.open_links.OpenLinks.{OpenLink, facts_in, link_after, link_at}
@@ -117,6 +117,8 @@ reported_silent : (setup : EndSetup) (facts : EndFacts) (step : EndStep) → IsS
 reported_silent setup facts (DataGiven start body) is = reported_given setup.link.handle start body facts.outgoing
 reported_silent setup facts (ProcedureAsked ask) is = reported_own setup facts (ProcedureAsked ask) tt
 reported_silent setup facts (RequestAnswered answer) is = refl
+reported_silent setup facts (KeyAnswered key slot) is = refl
+reported_silent setup facts (WordsGiven skd_s iv_s) is = refl
 reported_silent setup facts (Disconnected reason slot) is = refl
 reported_silent setup facts (EventEntered slot) is = reported_own setup facts (EventEntered slot) tt
 reported_silent setup facts PduFixed is = reported_own setup facts PduFixed tt

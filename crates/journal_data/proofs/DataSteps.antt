@@ -1,5 +1,5 @@
 -- What an end does with its data in each step, but those in which its host gives it a packet, or is told of complete ones.
-use Rattle.std.proofs.Common.{◌≡◌, ℕ, Bool, true, false, Option, Some, None, List, sym, subst}
+use Rattle.std.proofs.Common.{ℕ, Bool, true, false, Option, Some, None, List, sym, subst}
 use Rattle.std.specs.Prelude.{◌&&◌, is_some, ⊤, if◌then◌else◌}
 use Rattle.ble_base.specs.declared.roles.Role.{Role}
 use Rattle.data_pdu.specs.Header.{header_in}
@@ -19,6 +19,7 @@ use Rattle.journal_acks.specs.link_model.Sending.{control_gone_if, data_sent_as,
 use Rattle.journal_acks.specs.link_model.Step.{Step, DataGiven, DataReported, Disconnected, EventEntered, KeyAnswered, PacketReceived, PacketSent, PduFixed, ProcedureAsked, RequestAnswered, WordsGiven}
 use Rattle.journal_acks.proofs.link_model.Pasts.{grows}
 use Rattle.journal_acks.specs.open_links.OpenLinks.{OpenLink, facts_in, link_after}
+use Rattle.journal_acks.proofs.controller_model.Asked.{IsAskedStep}
 use Rattle.journal_acks.proofs.open_links.Unmoved.{LeavesData, asked_leaves, entered_leaves}
 
 -- such a step, also one in which it receives nothing
@@ -30,6 +31,14 @@ IsOwnStep step = ⊤
 abbrev pub IsDeafStep : Step → Type 0
 IsDeafStep (PacketReceived slot octets room) = ⊥
 IsDeafStep step = IsOwnStep step
+
+-- a step as a host asks for is one
+pub asked_own : (step : Step) → IsAskedStep step → IsOwnStep step
+asked_own (ProcedureAsked ask) asks = tt
+asked_own (RequestAnswered answer) asks = tt
+asked_own (KeyAnswered key slot) asks = tt
+asked_own (Disconnected reason slot) asks = tt
+asked_own step asks = absurd asks
 
 -- a fact of data that is kept as a PDU is fixed, and as it is sent
 pub record IsKeptBySending (P : Data → Type 0) : Type 0 where

@@ -1,7 +1,7 @@
 -- In a turn the packets of a link that wait, with those that are complete and not reported, do not become more. Where hosts
 -- send only between turns, no link ever has more complete packets than its controller has buffers.
 use Rattle.std.proofs.Common.{◌≡◌, ℕ, ◌+◌, ◌≤◌, Bool, true, false, Option, Some, None, List, [], ◌∷◌, ◌++◌, length, cond, refl, ap, sym, subst, ◌∙◌, append-nil, append_assoc, arith}
-use Rattle.std.specs.Prelude.{◌&&◌, fold, is_some, nat_lt, ⊤}
+use Rattle.std.specs.Prelude.{IfSome, ◌&&◌, fold, is_some, nat_lt, ⊤}
 use Rattle.std.specs.List.{find}
 use Rattle.std.proofs.lemmas.List.Sums.{fold-append, sum_by-cons}
 use Rattle.acl_banks.specs.Packets.{DataPacket, packet_after_acked, packet_after_went, with_first, without_first}
@@ -10,7 +10,7 @@ use Rattle.journal_acks.specs.link_model.Sending.{data_sent_as}
 use Rattle.journal_acks.specs.link_model.End.{facts_after as end_after, facts_of as end_facts}
 use Rattle.journal_acks.specs.link_model.Facts.{Facts as EndFacts, first_facts as first_end}
 use Rattle.journal_acks.specs.link_model.Setup.{Setup as EndSetup}
-use Rattle.journal_acks.specs.link_model.Step.{Step as EndStep, DataGiven, EventEntered, PduFixed, PacketSent, PacketReceived, DataReported, RequestAnswered}
+use Rattle.journal_acks.specs.link_model.Step.{Step as EndStep, DataGiven, EventEntered, PduFixed, PacketSent, PacketReceived, DataReported, WordsGiven}
 use Rattle.journal_acks.specs.link_model.declared.setup.LinkSetup.{LinkSetup}
 use Rattle.journal_acks.proofs.link_model.Pasts.{grows}
 use Rattle.scan_init.specs.Reports.{does_ask, scan_answer}
@@ -31,14 +31,14 @@ use Rattle.journal_acks.specs.controller_model.Radio.{links_fixing}
 use Rattle.journal_acks.specs.controller_model.Side.{facts_after, facts_of}
 use Rattle.journal_acks.specs.controller_model.Step.{Step, HostOctet, TurnBegins, PacketHeard, NothingHeard, TurnEnds}
 use Rattle.journal_acks.proofs.controller_model.Always.{IsInTurn, IsKeptInTurns, links_won, opening_passes, turn_keeps}
-use Rattle.journal_acks.proofs.controller_model.Asked.{asked_leaves_data}
+use Rattle.journal_acks.proofs.controller_model.Asked.{IsAskedStep, asked_leaves_data}
 use Rattle.journal_acks.proofs.controller_model.BetweenTurns.{none_complete}
 use Rattle.journal_acks.proofs.controller_model.Buffers.{fits_buffers}
 use Rattle.journal_acks.proofs.controller_model.Pasts.{facts_more}
 use Rattle.journal_acks.proofs.run_laws.OpenSteps.{AtOpen, EachOpen, IsKeptByHosts, KeepsAsked, changed, enter_open, none_open, octet_open, open_more, opened}
 use Rattle.journal_acks.specs.controller_model.Entering.{all_entered}
-use Rattle.journal_data.proofs.DataSteps.{IsKeptByEnd, IsOwnStep, end_keeps}
-use Rattle.journal_acks.proofs.controller_model.Places.{refusal, refuses_at}
+use Rattle.journal_data.proofs.DataSteps.{IsKeptByEnd, IsOwnStep, asked_own, end_keeps}
+use Rattle.journal_acks.proofs.controller_model.Places.{refusal_at, refusal_is}
 
 -- ---- one end
 
@@ -240,9 +240,9 @@ module _ (most : ℕ) where
       by true = few_reported most link each.0
       by false = each.0
 
-  refuses : (test : Bool) (handle : ℕ) (links : Links) → AreFewAt links → AreFewAt (links_refusing test handle links)
-  refuses true handle links each = stepped (RequestAnswered refusal) handle links tt each
-  refuses false handle links each = each
+  refuses : (refusal : Option EndStep) (handle : ℕ) (links : Links) → IfSome refusal IsAskedStep → AreFewAt links → AreFewAt (links_refusing refusal handle links)
+  refuses (Some step) handle links asks each = stepped step handle links (asked_own step asks) each
+  refuses None handle links asks each = each
 
   opens_few : (link : LinkSetup) (facts : Facts) → AreFewAt facts.links → AreFewAt (facts_passed (opens link facts)).links
   opens_few link facts each =
@@ -279,9 +279,10 @@ module _ (most : ℕ) where
           let step = PacketReceived facts.turn.slot octets room in
           sends facts.turn.slot (reply_if (replies_in facts.turn.slot room (link_at handle facts.links) octets) handle)
           (link_received handle room octets facts).links
-          (refuses (refuses_at handle room octets facts) handle (with_change handle (link_after step) facts.links)
+          (refuses (refusal_at handle room octets facts) handle (with_change handle (link_after step) facts.links) (refusal_is handle room octets facts)
           (stepped step handle facts.links tt each));
     };
+    words = λ handle facts listens each. stepped (WordsGiven _ _) handle facts.links tt each;
   }
 
   pub turn_few : (setup : Setup) (facts : Facts) (step : Step) → IsInTurn step → AreFewAt facts.links → AreFewAt (facts_after setup facts step).links

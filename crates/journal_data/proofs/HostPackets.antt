@@ -36,7 +36,7 @@ use Rattle.hci_cmd.specs.declared.command.CmdRead.{CmdRead}
 use Rattle.hci_cmd.specs.declared.command.CmdRead.TheVariants.{Known, UnknownOpcode, BadLength}
 use Rattle.hci_cmd.specs.Command.{command_of, layout_of, layouts}
 use Rattle.host_view.specs.Unbuilt.{status_of}
-use Rattle.journal_acks.specs.controller_model.Commands.{facts_asking, facts_commanded, facts_known, is_asking, links_after}
+use Rattle.journal_acks.specs.controller_model.Commands.{facts_asking, facts_commanded, facts_known, is_asking, links_after, moment_of}
 use Rattle.journal_acks.specs.controller_model.Data.{facts_offered, offer_of}
 use Rattle.journal_acks.specs.controller_model.Facts.{Setup, Facts}
 use Rattle.journal_acks.specs.controller_model.Host.{commands_accepted_by, commands_accepted_in}
@@ -614,8 +614,8 @@ known_leaves false setup facts command differs = refl
 known_leaves true setup facts command differs = others_leave command facts.links differs
 
 asked_leaves : (asks accepted : Bool) (setup : Setup) (facts : Facts) (command : HciCommand) → (command ≡ Reset → ⊥)
-    → HaveSameData facts.links (facts_asking asks facts command (facts_known accepted setup facts command)).links
-asked_leaves true accepted setup facts command differs = commanded_same command facts.turn.begun 0 facts.links
+    → HaveSameData facts.links (facts_asking asks setup facts command (facts_known accepted setup facts command)).links
+asked_leaves true accepted setup facts command differs = commanded_same command (moment_of setup facts) 0 facts.links
 asked_leaves false accepted setup facts command differs =
     subst (HaveSameData facts.links) (sym (known_leaves accepted setup facts command differs)) (same_links facts.links)
 

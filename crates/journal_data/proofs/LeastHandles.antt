@@ -13,7 +13,7 @@ use Rattle.scan_init.specs.Reports.{does_ask, scan_answer}
 use Rattle.journal_acks.specs.controller_model.declared.doing.Doing.{Doing}
 use Rattle.journal_acks.specs.controller_model.declared.doing.Doing.TheVariants.{Advertises, Connects}
 use Rattle.journal_acks.specs.controller_model.Facts.{Facts, Setup}
-use Rattle.journal_acks.specs.controller_model.Heard.{asks_if, has_room, link_heard, link_received, link_taken, opens, replies_in, reply_if, scanner_after}
+use Rattle.journal_acks.specs.controller_model.Heard.{asks_if, facts_with_words, has_room, link_heard, link_received, link_taken, opens, replies_in, reply_if, scanner_after}
 use Rattle.journal_acks.specs.controller_model.Heard.{scanner_heard, with_scanner}
 use Rattle.journal_acks.specs.controller_model.Outcome.{Outcome, facts_passed, notes_passed}
 use Rattle.journal_acks.specs.controller_model.Packets.{facts_doing, notes_doing}
@@ -84,7 +84,11 @@ least_turned setup = record {
   where
     by : (facts : Facts) (received : Option (List ℕ)) → IsLeastNext (facts_after setup facts (step_of received))
     by facts None = unheard_is setup facts (λ outcome. IsLeastNext (facts_passed outcome)) (phase_least setup facts) facts.turn.doing refl
-    by facts (Some octets) = heard_is setup facts (λ outcome. IsLeastNext (facts_passed outcome)) (phase_least setup facts) facts.turn.doing octets refl
+    by facts (Some octets) =
+        heard_is setup facts (λ outcome. IsLeastNext (facts_passed outcome)) (phase_least setup facts) facts.turn.doing octets refl
+        (λ handle.
+        let worded = facts_with_words setup handle facts in
+        reply_least (replies_in facts.turn.slot (has_room setup facts) (link_at handle worded.links) octets) handle (link_received handle (has_room setup facts) octets worded))
 
 pub least_standing : (setup : Setup) (past : List Step) (at : Standing) → standing past ≡ Some at → IsLeastAt at.stage at.begun (facts_of setup past)
 least_standing setup past at stands = turned setup IsLeastAt (least_turned setup) past at tt stands
@@ -140,3 +144,6 @@ pass_opens setup facts None least =
     unheard_is setup facts (λ outcome. OpenLeast facts.links (notes_passed outcome)) (phase_opens setup facts least) facts.turn.doing refl
 pass_opens setup facts (Some octets) least =
     heard_is setup facts (λ outcome. OpenLeast facts.links (notes_passed outcome)) (phase_opens setup facts least) facts.turn.doing octets refl
+    (λ handle.
+    let worded = facts_with_words setup handle facts in
+    passed_least facts (link_heard setup handle octets worded) (heard_quiet handle octets setup worded))

@@ -9,7 +9,7 @@ use Rattle.journal_acks.specs.run_model.Feeding.{AreDistinct}
 use Rattle.journal_acks.specs.run_model.History.{Event, Hearing, Transmitted, has_received, packet_received}
 use Rattle.journal_acks.specs.run_model.LinkEnds.{HaveAddresses}
 use Rattle.journal_acks.specs.run_model.Run.{Given, facts_at, hearings_of, unseen_in, use_at}
-use Rattle.journal_acks.proofs.run_model.LinkEnds.{received_event}
+use Rattle.journal_acks.proofs.run_model.LinkEnds.{received_own, received_packet}
 use Rattle.journal_acks.proofs.run_model.Stations.{is_in, among}
 use Rattle.journal_acks.proofs.run_model.Walk.{Place, AtPackets}
 use Rattle.journal_acks.proofs.run_laws.ByCalls.{Holds}
@@ -19,7 +19,7 @@ use Rattle.journal_acks.proofs.AirCounts.{packet_far}
 use Rattle.journal_acks.proofs.Counting.{AreCountedSo, AreKnown, facts_event}
 use Rattle.journal_acks.proofs.Exchanging.{number_at, number_sent}
 use Rattle.journal_acks.specs.link_calls.Uses.{listens_under}
-use Rattle.journal_acks.proofs.TwoStations.{IsOfTwo, hearing_of, one_hearing, other_is, other_of, own_differs, own_received}
+use Rattle.journal_acks.proofs.TwoStations.{IsOfTwo, other_is, other_of}
 
 -- the other station has an open end of the link of a station under a handle
 pub record HasFarEnd (given : Given) (station : ℕ) (history : List Event) (handle : ℕ) : Type 0 where
@@ -101,11 +101,7 @@ module _ (whole : IsHeardWhole) (given : Given) (Q : Place → List Event → Ty
   }
 
   own_same : packet_received station next ≡ packet_received station history
-  own_same =
-      received_event station history event
-      ∙ ap (λ xs. if has_received station xs then Some octets else packet_received station history) (one_hearing given are_two fates station channel octets history is)
-      ∙ ap (λ b. if b then Some octets else packet_received station history)
-      (own_received station (hearing_of given fates station channel octets history) (own_differs station))
+  own_same = received_own given fates station channel octets history
 
   station_back : other_of other ≡ station
   station_back = other_back given are_two station is
@@ -115,7 +111,7 @@ module _ (whole : IsHeardWhole) (given : Given) (Q : Place → List Event → Ty
       → IsTaking given other next handle → HasFarEnd given other next handle
   heard_far handle false got is_too differs mine taking =
       far_after other handle (mine other is_too handle (taking_before other handle taking
-      (received_event other history event ∙ ap (λ b. if b then Some octets else packet_received other history) got)))
+      (received_packet given fates other station channel octets history seen ∙ ap (λ b. if b then Some octets else packet_received other history) got)))
   heard_far handle true got is_too differs mine taking =
       let here : link_at handle (facts_at given other history).links ≡ Some taking.link = ap (λ (f : Facts). link_at handle f.links) (sym (facts_same other)) ∙ taking.is_open in
       let listens : listens_under handle (facts_at given other history).turn.doing ≡ true = ap (λ (f : Facts). listens_under handle f.turn.doing) (sym (facts_same other)) ∙ taking.listens in

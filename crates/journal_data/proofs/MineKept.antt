@@ -6,7 +6,7 @@ use Rattle.journal_acks.specs.link_model.Setup.{Setup as EndSetup}
 use Rattle.journal_acks.specs.link_model.declared.setup.LinkSetup.{LinkSetup}
 use Rattle.journal_acks.specs.open_links.OpenLinks.{Links, OpenLink, link_at, new_link, with_link}
 use Rattle.journal_acks.specs.controller_model.Facts.{Facts, Setup}
-use Rattle.journal_acks.specs.controller_model.Heard.{has_room, link_heard, link_taken, opens as opening, scanner_heard}
+use Rattle.journal_acks.specs.controller_model.Heard.{facts_with_words, has_room, link_heard, link_taken, opens as opening, scanner_heard}
 use Rattle.journal_acks.specs.controller_model.Outcome.{Outcome, facts_passed}
 use Rattle.journal_acks.specs.controller_model.Side.{facts_after, notes_after}
 use Rattle.journal_acks.proofs.controller_model.Always.{opening_is}
@@ -22,7 +22,7 @@ use Rattle.journal_acks.proofs.Exchanging.{number_at, number_other}
 use Rattle.journal_acks.specs.link_calls.Uses.{listens_under}
 use Rattle.journal_acks.proofs.TwoStations.{IsOfTwo, other_is, other_of}
 use Rattle.journal_data.proofs.Mine.{AreMine, HasFarEnd, IsTaking, none_mine, other_back}
-use Rattle.journal_data.proofs.Openness.{is_open, opens_where_free, same_open}
+use Rattle.journal_data.proofs.Openness.{is_open, opens_where_free, same_open, words_open}
 use Rattle.journal_data.proofs.NotedLines.{below_from, is_link}
 use Rattle.journal_acks.proofs.open_links.Handles.{opened_at, other_stays}
 use Rattle.std.proofs.lemmas.Bool.{eqb-false, eqb-true}
@@ -82,7 +82,11 @@ module _ (handle : ℕ) where
   pub phase_open : (setup : Setup) (facts : Facts) (received : Option (List ℕ)) → is_some (link_at handle facts.links) ≡ true
       → is_some (link_at handle (facts_after setup facts (step_of received)).links) ≡ true
   phase_open setup facts None linked = unheard_is setup facts (StaysOpen facts) (phase_stays setup facts) facts.turn.doing refl linked
-  phase_open setup facts (Some octets) linked = heard_is setup facts (StaysOpen facts) (phase_stays setup facts) facts.turn.doing octets refl linked
+  phase_open setup facts (Some octets) linked =
+      heard_is setup facts (StaysOpen facts) (phase_stays setup facts) facts.turn.doing octets refl
+      (λ under.
+      let worded = facts_with_words setup under facts in
+      same_stays facts (link_heard setup under octets worded) (received_opens under (has_room setup facts) octets worded ∙ words_open setup under facts)) linked
 
 -- ---- the link of the station whose call it is
 

@@ -57,7 +57,7 @@ begin_moves given station slot on history handle link at =
 -- ---- in a phase
 
 passed_moves : (given : Given) (station : ℕ) (history : List Event) (handle : ℕ) (link : OpenLink) (room : Bool)
-    → (next : Facts) → HasPassed (facts_at given station history) room (packet_received station history) handle next.turn.doing link → HasMoved given station history handle link
+    → (next : Facts) → HasPassed (setup_at given station) (facts_at given station history) room (packet_received station history) handle next.turn.doing link → HasMoved given station history handle link
 passed_moves given station history handle link room next (IsNew end made opened off) = New (ap ack_of made ∙ first_ack end)
 passed_moves given station history handle link room next (Stays was none nothing listened) = Kept link was refl refl
 passed_moves given station history handle link room next (Takes base octets was some on same) =

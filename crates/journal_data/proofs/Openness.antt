@@ -21,6 +21,7 @@ use Rattle.hci_evt.specs.Event.{mask_bit_of, written}
 use Rattle.hci_evt.specs.declared.event.Event.{Event}
 use Rattle.hci_evt.specs.declared.event.Event.TheVariants.{CommandComplete, CommandStatus, CompletedPackets, BufferOverflow, DisconnectionComplete, HardwareError}
 use Rattle.wire_fields.specs.Field.{little_endian}
+use Rattle.host_view.specs.Links.{was_encrypted}
 use Rattle.host_view.specs.Noted.{is_acl_data}
 use Rattle.host_view.specs.View.{View}
 use Rattle.host_view.specs.Unbuilt.{status_of}
@@ -28,7 +29,7 @@ use Rattle.adv_pdu.specs.declared.pdu.AdvPdu.{AdvPdu}
 use Rattle.journal_acks.specs.link_model.declared.setup.LinkSetup.{LinkSetup}
 use Rattle.journal_acks.specs.link_model.Packets.{good_pdu}
 use Rattle.journal_acks.specs.link_model.Setup.{Setup as EndSetup}
-use Rattle.journal_acks.specs.link_model.Step.{DataGiven}
+use Rattle.journal_acks.specs.link_model.Step.{DataGiven, WordsGiven}
 use Rattle.scan_init.specs.declared.reports.ReportKind.{ReportKind}
 use Rattle.scan_init.specs.declared.scanner.ScanAnswer.{ScanAnswer}
 use Rattle.scan_init.specs.Reports.{kind_of, scan_answer}
@@ -45,12 +46,10 @@ use Rattle.journal_acks.specs.controller_model.declared.doing.Doing.TheVariants.
 use Rattle.journal_acks.specs.controller_model.Step.{Step, HostOctet, TurnBegins, PacketHeard, NothingHeard, TurnEnds}
 use Rattle.journal_acks.specs.controller_model.Facts.{Setup, Facts}
 use Rattle.journal_acks.specs.controller_model.Answers.{AreOneAnswer, HasNoAnswer, IsAnswerTo, answer_to}
-use Rattle.journal_acks.specs.controller_model.Commands.{events_caused, facts_commanded, facts_known, is_asking, links_after, notes_before, notes_commanded}
-use Rattle.journal_acks.specs.controller_model.Commands.{notes_known}
+use Rattle.journal_acks.specs.controller_model.Commands.{events_caused, facts_commanded, facts_known, is_asking, links_after, moment_of, notes_before, notes_commanded, notes_known}
 use Rattle.journal_acks.specs.controller_model.Data.{event_completed, facts_offered, note_received, notes_offered, offer_of, facts_handed, notes_handed}
 use Rattle.journal_acks.specs.controller_model.Events.{notes_of_events, passes}
-use Rattle.journal_acks.specs.controller_model.Heard.{events_reported, has_room, link_heard, link_taken, notes_taken, opens as opening, report_event}
-use Rattle.journal_acks.specs.controller_model.Heard.{report_events, scanner_heard, events_received}
+use Rattle.journal_acks.specs.controller_model.Heard.{events_received, events_reported, facts_with_words, has_room, link_heard, link_taken, notes_taken, opens as opening, report_event, report_events, scanner_heard}
 use Rattle.journal_acks.specs.controller_model.Links.{connection_complete, connection_failed, ends_for, events_opened, facts_ending, note_shut, notes_ended}
 use Rattle.journal_acks.specs.controller_model.Links.{notes_ending, wants_enhanced, notes_leaving}
 use Rattle.journal_acks.specs.controller_model.Notes.{is_event, is_opening}
@@ -258,9 +257,10 @@ heard_quiet handle octets setup facts =
     let slot = facts.turn.slot in
     let room = has_room setup facts in
     let place = link_at handle facts.links in
-    let events = events_received handle slot room place octets in
+    let encrypted = was_encrypted handle facts.view.links in
+    let events = events_received encrypted handle slot room place octets in
     both_quiet (notes_taken slot room place octets) (notes_of_events facts.view events) (took_quiet slot room place octets)
-    (events_quiet facts.view events (procedures_other events (reception_events handle slot room place octets)))
+    (events_quiet facts.view events (procedures_other events (reception_events encrypted handle slot room place octets)))
 
 pieces_not : (kind : Note → Bool) → ((octets : List ℕ) → kind (Up (record { items = octets })) ≡ false) → (pieces : List (ℕ × Piece))
     → AreNot kind (map note_received pieces)
@@ -396,21 +396,21 @@ known_as false setup facts opcode command =
 
 -- one that asks something of links, too, opens and shuts none
 asked_as : (setup : Setup) (facts : Facts) (opcode : ℕ) (command : Command) → is_asking facts.view command ≡ true
-    → IsNotedAs (is_open facts.links) (is_open (links_commanded command facts.turn.begun facts.links))
+    → IsNotedAs (is_open facts.links) (is_open (links_commanded command (moment_of setup facts) facts.links))
     (notes_known true setup facts opcode command ++ notes_at_once facts command)
 asked_as setup facts opcode command asks =
     let before = notes_before facts command in
     let answer = notes_of_events facts.view (answer_to setup facts opcode (Known command)) in
     let caused = notes_of_events facts.view (events_caused facts command) in
     let events = events_commanded_on command facts.links in
-    let after = links_commanded command facts.turn.begun facts.links in
+    let after = links_commanded command (moment_of setup facts) facts.links in
     stays_quiet (is_open facts.links) (is_open after) (((before ++ answer) ++ caused) ++ notes_at_once facts command)
     (both_quiet ((before ++ answer) ++ caused) (notes_at_once facts command)
     (both_quiet (before ++ answer) caused
     (both_quiet before answer (subst AreQuiet (sym (asking_shuts_none facts command asks)) tt) (answer_quiet setup facts opcode (Known command)))
     (caused_quiet facts command))
     (events_quiet facts.view events (procedures_other events (events_at_once_are command facts.links))))
-    (same_open facts.links after (asked_same (λ place. is_some place) (λ link step asks. refl) command facts.turn.begun 0 facts.links))
+    (same_open facts.links after (asked_same (λ place. is_some place) (λ link step asks. refl) command (moment_of setup facts) 0 facts.links))
 
 read_as : (setup : Setup) (facts : Facts) (opcode : ℕ) (read : CmdRead)
     → IsNotedAs (is_open facts.links) (is_open (facts_commanded setup facts read).links) (notes_commanded setup facts opcode read)
@@ -679,6 +679,10 @@ phase_as setup facts own = let nothing = stays tt tt (λ handle. refl) in record
       passed_as facts (link_heard setup handle octets facts) (heard_quiet handle octets setup facts) (received_opens handle room octets facts);
 }
 
+-- a peripheral hears with the words that it was given
+pub words_open : (setup : Setup) (handle : ℕ) (facts : Facts) → opens (facts_with_words setup handle facts).links ≡ opens facts.links
+words_open setup handle facts = changed_opens (link_after (WordsGiven _ _)) handle facts.links
+
 -- ---- each step
 
 -- what the host receives as a turn ends
@@ -719,7 +723,12 @@ pub step_noted : (setup : Setup) (facts : Facts) (step : Step) → HaveOwnHandle
     → IsNotedAs (is_open facts.links) (is_open (facts_after setup facts step).links) (notes_after setup facts step)
 step_noted setup facts (HostOctet octet) own = fed_as setup facts (result_of facts.octets octet)
 step_noted setup facts (TurnBegins slot on) own = begun_as setup facts slot on
-step_noted setup facts (PacketHeard octets) own = heard_is setup facts (OfOutcome facts) (phase_as setup facts own) facts.turn.doing octets refl
+step_noted setup facts (PacketHeard octets) own =
+    heard_is setup facts (OfOutcome facts) (phase_as setup facts own) facts.turn.doing octets refl
+    (λ handle.
+    let worded = facts_with_words setup handle facts in
+    passed_as facts (link_heard setup handle octets worded) (heard_quiet handle octets setup worded)
+    (received_opens handle (has_room setup facts) octets worded ∙ words_open setup handle facts))
 step_noted setup facts NothingHeard own = unheard_is setup facts (OfOutcome facts) (phase_as setup facts own) facts.turn.doing refl
 step_noted setup facts TurnEnds own = ended_as facts setup
 
@@ -748,6 +757,9 @@ opened_reports link facts =
     let quiet = events_quiet facts.view (events_opened facts.view link) (complete_other (wants_enhanced facts.view) link, (tt, tt)) in
     (refl, none_report (events ++ []) (both_quiet events [] quiet tt))
 
+pub link_reports : (setup : Setup) (octets : List ℕ) (handle : ℕ) (facts : Facts) → NoReport (link_heard setup handle octets facts)
+link_reports setup octets handle facts = passed_reports (link_heard setup handle octets facts) (heard_quiet handle octets setup facts)
+
 pub phase_reports : (setup : Setup) (facts : Facts) → EachOutcome setup facts NoReport
 phase_reports setup facts = record {
   rests = tt;
@@ -764,15 +776,16 @@ phase_reports setup facts = record {
       passed_reports (scanner_heard (Some on) false channel pdu facts)
       (answered_quiet facts.view (scan_answer on.params facts.view.accepted on.recent pdu) pdu);
   connects = λ channel octets pdu on access handle doing is_on hears answers next free in_range. tt;
-  received = λ handle octets.
-      passed_reports (link_heard setup handle octets facts) (heard_quiet handle octets setup facts);
+  received = λ handle octets. link_reports setup octets handle facts;
 }
 
 pub turn_kinds : (setup : Setup) (facts : Facts) (step : Step) → IsInTurn step
     → AreNot is_taking (notes_after setup facts step) ⊎ AreNot is_report (notes_after setup facts step)
 turn_kinds setup facts (HostOctet octet) turn = absurd turn
 turn_kinds setup facts (TurnBegins slot on) turn = inr (begun_reports facts setup slot on)
-turn_kinds setup facts (PacketHeard octets) turn = inr (heard_is setup facts NoReport (phase_reports setup facts) facts.turn.doing octets refl)
+turn_kinds setup facts (PacketHeard octets) turn =
+    inr (heard_is setup facts NoReport (phase_reports setup facts) facts.turn.doing octets refl
+    (λ handle. link_reports setup octets handle (facts_with_words setup handle facts)))
 turn_kinds setup facts NothingHeard turn = inr (unheard_is setup facts NoReport (phase_reports setup facts) facts.turn.doing refl)
 turn_kinds setup facts TurnEnds turn =
     inl (both_not is_taking (notes_handed facts) (notes_leaving (facts_handed facts)) (handed_not is_taking (λ octets. refl) facts)

@@ -183,6 +183,7 @@ short_kept setup = record {
           both_short facts.received (piece_taken slot room (link_at handle facts.links) octets) are
           (taken_short slot room octets (link_at handle facts.links));
     };
+    words = λ handle facts listens are. are;
   };
 }
 

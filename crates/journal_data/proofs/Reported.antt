@@ -37,6 +37,7 @@ use Rattle.journal_acks.specs.controller_model.Facts.{Facts, Setup}
 use Rattle.journal_acks.specs.controller_model.Links.{note_shut, notes_reset, notes_leaving}
 use Rattle.journal_acks.specs.controller_model.Notes.{is_event}
 use Rattle.journal_acks.specs.controller_model.Side.{facts_of, notes_after, notes_fed, result_of}
+use Rattle.journal_acks.specs.controller_model.Heard.{facts_with_words}
 use Rattle.journal_acks.specs.controller_model.Step.{Step, HostOctet, TurnBegins, PacketHeard, NothingHeard, TurnEnds}
 use Rattle.journal_acks.proofs.controller_model.Phases.{heard_is, unheard_is}
 use Rattle.journal_acks.proofs.controller_model.Always.{IsInTurn}
@@ -44,7 +45,7 @@ use Rattle.journal_acks.proofs.controller_model.Handles.{own_handles}
 use Rattle.journal_acks.proofs.controller_model.TurnNotes.{EachNote, turn_noted}
 use Rattle.journal_data.specs.Held.{IsOfOneHandle}
 use Rattle.journal_data.proofs.PieceLengths.{AreShort, all_short, packet_length}
-use Rattle.journal_data.proofs.Openness.{AreNot, NoReport, begun_reports, is_report, phase_reports, all_append, leaving_reports}
+use Rattle.journal_data.proofs.Openness.{AreNot, NoReport, begun_reports, is_report, phase_reports, all_append, leaving_reports, link_reports}
 
 -- a Number Of Completed Packets event is of one handle
 abbrev pub NamesOneHandle : Note → Type 0
@@ -173,7 +174,8 @@ step_lengths setup past (TurnBegins slot on) =
     no_length (notes_after setup (facts_of setup past) (TurnBegins slot on)) (begun_reports (facts_of setup past) setup slot on)
 step_lengths setup past (PacketHeard octets) =
     let facts = facts_of setup past in
-    no_length (notes_after setup facts (PacketHeard octets)) (heard_is setup facts NoReport (phase_reports setup facts) facts.turn.doing octets refl)
+    no_length (notes_after setup facts (PacketHeard octets)) (heard_is setup facts NoReport (phase_reports setup facts) facts.turn.doing octets refl
+    (λ handle. link_reports setup octets handle (facts_with_words setup handle facts)))
 step_lengths setup past NothingHeard =
     let facts = facts_of setup past in
     no_length (notes_after setup facts NothingHeard) (unheard_is setup facts NoReport (phase_reports setup facts) facts.turn.doing refl)

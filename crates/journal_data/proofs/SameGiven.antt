@@ -1,6 +1,6 @@
 -- In the calls of a turn each open link of a controller keeps the packets that it was given, and a new one has none.
 use Rattle.std.proofs.Common.{◌≡◌, ℕ, ◌==◌, ◌||◌, ◌⊎◌, inl, inr, Bool, true, false, Option, Some, None, List, [], ◌++◌, map, refl, sym, ap, subst, ◌∙◌, if◌then◌else◌}
-use Rattle.std.specs.Prelude.{◌&&◌, nat_lt, ⊤}
+use Rattle.std.specs.Prelude.{IfSome, ◌&&◌, nat_lt, ⊤}
 use Rattle.ble_base.specs.declared.notes.Note.{Note}
 use Rattle.std.specs.Option.{option_map}
 use Rattle.acl_banks.specs.History.{HostData}
@@ -8,7 +8,7 @@ use Rattle.journal_acks.specs.link_model.Data.{Data, data_acked_if}
 use Rattle.journal_acks.specs.link_model.Sending.{data_sent_as}
 use Rattle.journal_acks.specs.link_model.Facts.{Facts as EndFacts}
 use Rattle.journal_acks.specs.link_model.Setup.{Setup as EndSetup}
-use Rattle.journal_acks.specs.link_model.Step.{Step as EndStep, EventEntered, PduFixed, PacketSent, PacketReceived, DataReported, RequestAnswered}
+use Rattle.journal_acks.specs.link_model.Step.{Step as EndStep, EventEntered, PduFixed, PacketSent, PacketReceived, DataReported, WordsGiven}
 use Rattle.journal_acks.specs.link_model.declared.setup.LinkSetup.{LinkSetup}
 use Rattle.journal_acks.proofs.link_model.Pasts.{grows}
 use Rattle.scan_init.specs.Reports.{does_ask, scan_answer}
@@ -21,7 +21,7 @@ use Rattle.journal_acks.specs.controller_model.declared.doing.Doing.{Doing}
 use Rattle.journal_acks.specs.controller_model.declared.doing.Doing.TheVariants.{Advertises, CentralSends, PeripheralListens, PeripheralSends}
 use Rattle.journal_acks.specs.controller_model.Facts.{Setup, Facts}
 use Rattle.journal_acks.specs.controller_model.Events.{notes_of_events}
-use Rattle.journal_acks.specs.controller_model.Heard.{asks_if, has_room, link_received, link_taken, opens, replies_in, reply_if, scanner_after, with_scanner}
+use Rattle.journal_acks.specs.controller_model.Heard.{asks_if, facts_with_words, has_room, link_received, link_taken, opens, replies_in, reply_if, scanner_after, with_scanner}
 use Rattle.journal_acks.specs.controller_model.Links.{events_opened}
 use Rattle.journal_acks.specs.controller_model.Outcome.{Outcome, facts_passed, notes_passed}
 use Rattle.journal_acks.specs.controller_model.Packets.{facts_doing, links_sending}
@@ -35,8 +35,9 @@ use Rattle.journal_acks.proofs.run_model.OpenedNotes.{is_opened, opened_was_free
 use Rattle.journal_acks.proofs.open_links.Handles.{changed_is, other_stays}
 use Rattle.journal_acks.proofs.link_calls.UnderHandles.{IsOpenedIf, map_under, opened_under}
 use Rattle.std.proofs.lemmas.Bool.{eq-eqb, eqb-false, eqb-true}
-use Rattle.journal_data.proofs.DataSteps.{IsKeptByEnd, IsOwnStep, link_keeps}
-use Rattle.journal_acks.proofs.controller_model.Places.{link_receiving, receiving_is, refusal, refused_if, refuses_at}
+use Rattle.journal_data.proofs.DataSteps.{IsKeptByEnd, IsOwnStep, asked_own, link_keeps}
+use Rattle.journal_acks.proofs.controller_model.Asked.{IsAskedStep}
+use Rattle.journal_acks.proofs.controller_model.Places.{link_receiving, receiving_is, refusal_at, refusal_is, refused_if}
 use Rattle.journal_acks.specs.controller_model.Data.{facts_handed}
 use Rattle.journal_acks.specs.link_model.End.{facts_of as end_facts}
 
@@ -229,17 +230,27 @@ opens_goes under link facts = by (opened_at under (record { link = link; opened 
       ap (λ b. b || is_opened under (notes_of_events facts.view (events_opened facts.view link) ++ [])) new.1,
     )
 
--- a link receives, and may refuse a request at once
-receiving_same : (refuses : Bool) (step : EndStep) (link : OpenLink) → IsOwnStep step → given_in (refused_if refuses (link_after step link)) ≡ given_in link
-receiving_same true step link own = own_same (RequestAnswered refusal) (link_after step link) tt ∙ own_same step link own
-receiving_same false step link own = own_same step link own
+-- a link receives, and may answer a request at once
+receiving_same : (refusal : Option EndStep) (step : EndStep) (link : OpenLink) → IfSome refusal IsAskedStep → IsOwnStep step
+    → given_in (refused_if refusal (link_after step link)) ≡ given_in link
+receiving_same (Some answer) step link asks own = own_same answer (link_after step link) (asked_own answer asks) ∙ own_same step link own
+receiving_same None step link asks own = own_same step link own
 
 receives_stays : (under handle : ℕ) (room : Bool) (octets : List ℕ) (facts : Facts)
     → Stays (link_at under facts.links) (link_at under (link_received handle room octets facts).links)
 receives_stays under handle room octets facts =
     subst (λ (links : Links). Stays (link_at under facts.links) (link_at under links)) (sym (receiving_is handle room octets facts))
     (under_stays under handle (link_receiving handle room octets facts)
-    (λ link. receiving_same (refuses_at handle room octets facts) (PacketReceived facts.turn.slot octets room) link tt) facts.links)
+    (λ link. receiving_same (refusal_at handle room octets facts) (PacketReceived facts.turn.slot octets room) link (refusal_is handle room octets facts) tt) facts.links)
+
+-- with the words that a peripheral was given
+worded_stays : (under : ℕ) (setup : Setup) (handle : ℕ) (octets : List ℕ) (facts : Facts) → let worded = facts_with_words setup handle facts in
+    Stays (link_at under facts.links) (link_at under (link_received handle (has_room setup facts) octets worded).links)
+worded_stays under setup handle octets facts =
+    let worded = facts_with_words setup handle facts in
+    stays_then (link_at under facts.links) (link_at under worded.links) _
+    (under_stays under handle (link_after (WordsGiven _ _)) (λ link. own_same (WordsGiven _ _) link tt) facts.links)
+    (receives_stays under handle (has_room setup facts) octets worded)
 
 each_goes : (under : ℕ) (setup : Setup) (facts : Facts) → EachOutcome setup facts (Passes under (link_at under facts.links))
 each_goes under setup facts = let same = stays_same (link_at under facts.links) in record {
@@ -271,6 +282,10 @@ step_goes under setup facts (TurnBegins slot on) turn =
     inl (start_keeps (StaysIn under before) (StaysIn under before) (kept_starts under before) slot on facts (stays_same before))
 step_goes under setup facts (PacketHeard octets) turn =
     heard_is setup facts (Passes under (link_at under facts.links)) (each_goes under setup facts) facts.turn.doing octets refl
+    (λ handle.
+    let worded = facts_with_words setup handle facts in
+    inl (sends_on under (link_at under facts.links) (reply_if (replies_in facts.turn.slot (has_room setup facts) (link_at handle worded.links) octets) handle)
+    (link_received handle (has_room setup facts) octets worded) (worded_stays under setup handle octets facts)))
 step_goes under setup facts NothingHeard turn = unheard_is setup facts (Passes under (link_at under facts.links)) (each_goes under setup facts) facts.turn.doing refl
 step_goes under setup facts TurnEnds turn =
     let before = link_at under facts.links in

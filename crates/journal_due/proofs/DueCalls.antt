@@ -8,6 +8,7 @@ use Rattle.ble_base.specs.declared.roles.Side.{Side}
 use Rattle.journal_controls.specs.controller_model.Entering.{notes_all_entering}
 use Rattle.journal_controls.specs.controller_model.Events.{notes_of_events}
 use Rattle.journal_controls.specs.controller_model.Facts.{Setup, Facts}
+use Rattle.host_view.specs.Links.{was_encrypted}
 use Rattle.journal_controls.specs.controller_model.Heard.{events_received, heard, link_hearing, link_received, notes_taken, replies_in, reply_if}
 use Rattle.journal_controls.specs.controller_model.Links.{facts_ending, note_shut, notes_ended, notes_ending}
 use Rattle.journal_controls.specs.controller_model.Outcome.{notes_passed}
@@ -150,27 +151,29 @@ module _ (side : Side) (link_of : ℕ → ℕ) (last : ℕ) where
         done = λ kind. ap (λ n. Done side n kind) named;
       }))
 
-  pub received_told : (setup : Setup) (facts : Facts) (handle : ℕ) (octets pdu : List ℕ) (room : Bool) (link : OpenLink) (front : List Entry)
-      → heard setup facts.turn.doing octets facts ≡ link_hearing handle room octets facts → link_at handle facts.links ≡ Some link → link.setup.link.handle ≡ handle
-      → good_pdu link.setup (facts_in link) octets ≡ Some pdu → turn_now front ≡ facts.turn.slot
-      → keyed_on side (link_of handle) front ≡ Some (keyed_of (facts_before_taking link.setup.link.role facts.turn.slot (header_in pdu) (facts_in link)))
+  -- with the facts as it hears it
+  pub received_told : (setup : Setup) (facts hearing : Facts) (handle : ℕ) (octets pdu : List ℕ) (room : Bool) (link : OpenLink) (front : List Entry)
+      → heard setup facts.turn.doing octets facts ≡ link_hearing handle room octets hearing → link_at handle hearing.links ≡ Some link → link.setup.link.handle ≡ handle
+      → good_pdu link.setup (facts_in link) octets ≡ Some pdu → turn_now front ≡ hearing.turn.slot
+      → keyed_on side (link_of handle) front ≡ Some (keyed_of (facts_before_taking link.setup.link.role hearing.turn.slot (header_in pdu) (facts_in link)))
       → IsDueOn side (link_of handle) (due_hearing side (link_of handle) (acks_control (has_acknowledged (facts_in link) (header_in pdu)) (facts_in link)) (facts_in link).control) front
       → AreAllTold side front (map line (notes_after setup facts (PacketHeard octets)))
-  received_told setup facts handle octets pdu room link front is at own good now keyed on =
-      let slot = facts.turn.slot in
+  received_told setup facts hearing handle octets pdu room link front is at own good now keyed on =
+      let slot = hearing.turn.slot in
+      let encrypted = was_encrypted handle hearing.view.links in
       let taken = end_notes link.setup (facts_in link) (PacketReceived slot octets room) in
-      let events = events_received handle slot room (Some link) octets in
-      let ups = notes_of_events facts.view events in
-      let doing = reply_if (replies_in slot room (link_at handle facts.links) octets) handle in
-      let sends = notes_doing doing (link_received handle room octets facts) in
+      let events = events_received encrypted handle slot room (Some link) octets in
+      let ups = notes_of_events hearing.view events in
+      let doing = reply_if (replies_in slot room (link_at handle hearing.links) octets) handle in
+      let sends = notes_doing doing (link_received handle room octets hearing) in
       let one = subst (λ lines. AreAllTold side front lines) (sym (received_lines handle slot octets room link own))
       (receiving_told side (link_of handle) front link.setup (facts_in link) octets pdu room slot now good keyed on) in
       let mid = front ++ map line taken in
-      let two = events_told side link_of last facts.view events mid one.left in
+      let two = events_told side link_of last hearing.view events mid one.left in
       let next = mid ++ map line ups in
-      let three = plain_told side next (map line sends) (plain_lines side link_of last sends (doing_noted IsPlain (λ other number llid body. refl) doing (link_received handle room octets facts))) two.left in
+      let three = plain_told side next (map line sends) (plain_lines side link_of last sends (doing_noted IsPlain (λ other number llid body. refl) doing (link_received handle room octets hearing))) two.left in
       subst (λ outcome. AreAllTold side front (map line (notes_passed outcome))) (sym is)
-      (subst (λ found. AreAllTold side front (map line ((notes_taken slot room found octets ++ notes_of_events facts.view (events_received handle slot room found octets)) ++ sends))) (sym at)
+      (subst (λ found. AreAllTold side front (map line ((notes_taken slot room found octets ++ notes_of_events hearing.view (events_received encrypted handle slot room found octets)) ++ sends))) (sym at)
       (subst (λ lines. AreAllTold side front lines) (sym (map-append line (taken ++ ups) sends ∙ ap (λ lines. lines ++ map line sends) (map-append line taken ups)))
       (told_both side front (map line taken ++ map line ups) (map line sends) (told_both side front (map line taken) (map line ups) one two)
       (subst (λ xs. AreAllTold side xs (map line sends)) (append_assoc front (map line taken) (map line ups)) three))))

@@ -49,7 +49,7 @@ use Rattle.journal_controls.proofs.journal_packets.SoFar.{IsBelongingSoFar, send
 use Rattle.journal_controls.proofs.journal_acks.run_laws.DistinctAccess.{AreApart}
 use Rattle.journal_controls.proofs.journal_acks.run_laws.Hearings.{wanted_is}
 use Rattle.journal_controls.proofs.journal_acks.run_laws.TurnPlaces.{Within, at_stage}
-use Rattle.journal_controls.proofs.run_model.LinkEnds.{is_listener, received_event}
+use Rattle.journal_controls.proofs.run_model.LinkEnds.{is_listener, received_packet}
 use Rattle.journal_controls.proofs.run_model.Parts.{journal_event}
 use Rattle.journal_controls.proofs.run_model.Stations.{among, is_in}
 use Rattle.journal_controls.proofs.run_model.Walk.{AtPackets, Place}
@@ -272,7 +272,7 @@ module _ (nth : AreNth) (apart : AreApart) (given : Given) (are_two : IsOfTwo gi
       where
         received_as : (got : Bool) → has_received other hearings ≡ got → packet_received other after ≡ (if got then Some octets else packet_received other history)
         received_as got is =
-            received_event other history (Transmitted station channel octets hearings) ∙ ap (λ b. if b then Some octets else packet_received other history) is
+            received_packet given fates other station channel octets history unseen ∙ ap (λ b. if b then Some octets else packet_received other history) is
 
         good_is : (got : Bool) → has_received other hearings ≡ got → is_good hearing.verdict ≡ got
         good_is got is = sym (ap (has_received other) has_one ∙ other_received other hearing (same_number other)) ∙ is

@@ -36,7 +36,7 @@ use Rattle.journal_due.specs.ProcedureLines.{RestsAt, first_of}
 use Rattle.journal_due.proofs.DueEntries.{AreAllTold, line_then, no_lines, told_both}
 use Rattle.journal_due.proofs.DueLines.{said_due}
 use Rattle.journal_due.proofs.DueSteps.{AreProcedureLines, IsOwnLine, after_own, done_lines, each_told, on_rests, seen_own, taking_lines, turn_stays}
-use Rattle.journal_due.proofs.GivenAlike.{gives_alike}
+use Rattle.journal_controls.proofs.GivenAlike.{gives_alike}
 
 module _ (side : Side) (number : ℕ) where
   took_own : (count llid : ℕ) (body : List ℕ) → IsOwnLine side number (Took side number count llid body)

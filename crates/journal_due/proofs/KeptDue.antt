@@ -5,6 +5,7 @@ use Rattle.std.proofs.lemmas.Bool.{eqb-true}
 use Rattle.std.proofs.lemmas.List.Elements.{All-append, All-from_recursion, All-nil}
 use Rattle.ble_base.specs.declared.roles.Side.{Side}
 use Rattle.journal_controls.specs.controller_model.Facts.{Setup, Facts, Listens, Sends}
+use Rattle.host_view.specs.Links.{was_encrypted}
 use Rattle.journal_controls.specs.controller_model.Heard.{events_received, has_room, heard, link_heard, link_received, notes_taken, replies_in, reply_if}
 use Rattle.journal_controls.specs.controller_model.Events.{notes_of_events}
 use Rattle.journal_controls.specs.controller_model.Outcome.{notes_passed}
@@ -23,8 +24,10 @@ use Rattle.journal_controls.specs.LineSteps.{keyed_on, turn_now}
 use Rattle.journal_controls.specs.LinesDue.{due_hearing}
 use Rattle.journal_controls.specs.journal_acks.link_calls.Uses.{listens_under}
 use Rattle.journal_controls.specs.journal_packets.Belonging.{is_side}
-use Rattle.journal_controls.specs.link_model.Facts.{keyed_of}
+use Rattle.journal_controls.specs.link_model.Facts.{Facts as EndFacts, keyed_of}
+use Rattle.journal_controls.specs.link_model.Setup.{Setup as EndSetup}
 use Rattle.journal_controls.specs.link_model.Packets.{good_pdu}
+use Rattle.journal_controls.specs.journal_acks.link_calls.Phases.{link_worded}
 use Rattle.journal_controls.specs.link_model.Receiving.{acks_control, facts_before_taking, has_acknowledged}
 use Rattle.journal_controls.specs.run_model.Due.{Each}
 use Rattle.journal_controls.specs.run_model.History.{Event, TurnBegan, HostFed, Called, Noted, Transmitted, Hearing, packet_received, turns_begun}
@@ -60,6 +63,8 @@ use Rattle.journal_controls.proofs.run_model.Stations.{among, is_in, not_before}
 use Rattle.journal_controls.proofs.run_model.Walk.{AtBegins, AtEnds, AtFeeds, AtListening, AtPackets, IsKept, NoTurn, Place}
 use Rattle.journal_due.specs.EachLine.{IsDueOn}
 use Rattle.journal_due.specs.ProcedureLines.{RestsAt}
+use Rattle.journal_controls.proofs.journal_ends.WordedLinks.{facts_on, heard_on, worded_as, worded_at, worded_good, worded_none}
+use Rattle.journal_controls.proofs.LinkMoves.{hearing_still}
 use Rattle.journal_due.proofs.DueAhead.{IsDueAhead, Nothing, Taking, ahead_rests, rests_ahead}
 use Rattle.journal_due.proofs.DueCalls.{begin_told, received_told}
 use Rattle.journal_due.proofs.DueLines.{quiet_due}
@@ -231,13 +236,6 @@ module _ (given : Given) (are_two : IsOfTwo given) where
 
   -- ---- a phase passes
 
-  heard_on : (setup : Setup) (facts : Facts) (octets : List ℕ) (handle : ℕ) (doing : Doing) → listens_under handle doing ≡ true
-      → heard setup doing octets facts ≡ link_heard setup handle octets facts
-  heard_on setup facts octets handle (CentralListens other) on = ap (λ n. link_heard setup n octets facts) (eqb-true other handle on)
-  heard_on setup facts octets handle (PeripheralListens other) on = ap (λ n. link_heard setup n octets facts) (eqb-true other handle on)
-  heard_on setup facts octets handle (Advertises channel) on = absurd cc
-  heard_on setup facts octets handle other on = absurd cc
-
   -- no link takes a packet
   not_open : (setup : Setup) (facts : Facts) (octets : List ℕ) (handle : ℕ) (found : Option OpenLink) → link_at handle facts.links ≡ found
       → ((link : OpenLink) → found ≡ Some link → Some octets ≡ None) → All IsPlain (notes_passed (link_heard setup handle octets facts))
@@ -246,7 +244,8 @@ module _ (given : Given) (are_two : IsOfTwo given) where
       let slot = facts.turn.slot in
       let room = has_room setup facts in
       let later = link_received handle room octets facts in
-      subst (λ found. All IsPlain ((notes_taken slot room found octets ++ notes_of_events facts.view (events_received handle slot room found octets))
+      subst (λ found. All IsPlain ((notes_taken slot room found octets
+      ++ notes_of_events facts.view (events_received (was_encrypted handle facts.view.links) handle slot room found octets))
       ++ notes_doing (reply_if (replies_in slot room found octets) handle) later)) (sym is) (All-nil IsPlain)
 
   phase_plain : (setup : Setup) (facts : Facts) (received : Option (List ℕ)) (doing : Doing) → facts.turn.doing ≡ doing
@@ -257,25 +256,35 @@ module _ (given : Given) (are_two : IsOfTwo given) where
       subst (λ (d : Doing). All IsPlain (notes_passed (heard setup d octets facts))) (sym is)
       (not_open setup facts octets handle (link_at handle facts.links) refl (λ link at. deaf handle link (same_number handle) at))
   phase_plain setup facts (Some octets) (PeripheralListens handle) is deaf =
-      subst (λ (d : Doing). All IsPlain (notes_passed (heard setup d octets facts))) (sym is)
-      (not_open setup facts octets handle (link_at handle facts.links) refl (λ link at. deaf handle link (same_number handle) at))
+      subst (λ (d : Doing). All IsPlain (notes_passed (heard setup d octets facts))) (sym is) (by (link_at handle facts.links) refl)
+    where
+      worded : Facts
+      worded = facts_on setup facts (PeripheralListens handle) handle
+
+      by : (found : Option OpenLink) → link_at handle facts.links ≡ found → All IsPlain (notes_passed (link_heard setup handle octets worded))
+      by (Some link) at = absurd (let h : Some octets ≡ None = deaf handle link (same_number handle) at in absurd cc)
+      by None none =
+          not_open setup worded octets handle None (worded_none setup facts (PeripheralListens handle) handle none)
+          (λ link some. absurd (let h : None ≡ Some link = some in absurd cc))
   phase_plain setup facts (Some octets) (Advertises channel) is deaf =
       subst (λ (d : Doing). All IsPlain (notes_passed (heard setup d octets facts))) (sym is) (heard_plain setup facts octets (Advertises channel) (λ handle. refl))
   phase_plain setup facts (Some octets) doing is deaf =
       subst (λ (d : Doing). All IsPlain (notes_passed (heard setup d octets facts))) (sym is) (heard_plain setup facts octets doing (λ handle. refl))
 
   -- a link takes one: no link is opened
-  taking_opens : (setup : Setup) (facts : Facts) (handle : ℕ) (octets : List ℕ) (link : OpenLink) → heard setup facts.turn.doing octets facts ≡ link_heard setup handle octets facts
-      → link_at handle facts.links ≡ Some link → All OpensNo (notes_after setup facts (PacketHeard octets))
-  taking_opens setup facts handle octets link is at =
-      let slot = facts.turn.slot in
-      let room = has_room setup facts in
-      let later = link_received handle room octets facts in
+  taking_opens : (setup : Setup) (facts hearing : Facts) (handle : ℕ) (octets : List ℕ) (link : OpenLink)
+      → heard setup facts.turn.doing octets facts ≡ link_heard setup handle octets hearing
+      → link_at handle hearing.links ≡ Some link → All OpensNo (notes_after setup facts (PacketHeard octets))
+  taking_opens setup facts hearing handle octets link is at =
+      let slot = hearing.turn.slot in
+      let room = has_room setup hearing in
+      let encrypted = was_encrypted handle hearing.view.links in
+      let later = link_received handle room octets hearing in
       let taken = notes_taken slot room (Some link) octets in
-      let ups = notes_of_events facts.view (events_received handle slot room (Some link) octets) in
-      let doing = reply_if (replies_in slot room (link_at handle facts.links) octets) handle in
+      let ups = notes_of_events hearing.view (events_received encrypted handle slot room (Some link) octets) in
+      let doing = reply_if (replies_in slot room (link_at handle hearing.links) octets) handle in
       subst (λ outcome. All OpensNo (notes_passed outcome)) (sym is)
-      (subst (λ found. All OpensNo ((notes_taken slot room found octets ++ notes_of_events facts.view (events_received handle slot room found octets)) ++ notes_doing doing later)) (sym at)
+      (subst (λ found. All OpensNo ((notes_taken slot room found octets ++ notes_of_events hearing.view (events_received encrypted handle slot room found octets)) ++ notes_doing doing later)) (sym at)
       (All-append OpensNo (taken ++ ups) (notes_doing doing later)
       (All-append OpensNo taken ups
       (All-from_recursion OpensNo taken (received_each OpensNo link.setup slot room (good_pdu link.setup (facts_in link) octets) (facts_in link) (record {
@@ -283,7 +292,7 @@ module _ (given : Given) (are_two : IsOfTwo given) where
         refused = λ kind code. refl;
         done = λ kind. refl;
       })))
-      (events_noted OpensNo opens_ups facts.view (events_received handle slot room (Some link) octets)))
+      (events_noted OpensNo opens_ups hearing.view (events_received encrypted handle slot room (Some link) octets)))
       (doing_noted OpensNo (λ other number llid body. refl) doing later)))
 
   module _ (phases : ℕ) (done left : List ℕ) (station : ℕ) (history rest : List Event) (are : given.stations ≡ done ++ station ∷ left)
@@ -301,14 +310,28 @@ module _ (given : Given) (are_two : IsOfTwo given) where
             (due_hearing (side_of station) (number_at station handle history) (acks_control (has_acknowledged (facts_in link) (header_in pdu)) (facts_in link)) (facts_in link).control) (journal_of history)
             → history_of (run_of given) ≡ history ++ Called station (PacketHeard octets) ∷ rest → IsTold (side_of station) (after_call given station (PacketHeard octets) history)
         taking handle link octets pdu on at good is_due before =
+            let side = side_of station in
             let setup = setup_at given station in
             let facts = facts_at given station history in
             let links = links_of history in
-            let heard_is = heard_on setup facts octets handle facts.turn.doing on in
-            told_lines (side_of station) history (after_call given station (PacketHeard octets) history) _
-            (lines_called station given (PacketHeard octets) history (taking_opens setup facts handle octets link heard_is at)) due.each
-            (received_told (side_of station) (links.link_of station) (links.last_of station) setup facts handle octets pdu (has_room setup facts) link (journal_of history) heard_is at
-            (handle_is 0 handle facts.links link (has.holds.so_far.last.each station in_it).own.handles at) good slot_is (knows.hears history rest station octets pdu handle link before in_it on at good) is_due)
+            let doing = facts.turn.doing in
+            let hearing = facts_on setup facts doing handle in
+            let worded = link_worded setup facts doing link in
+            let words = worded_as setup facts doing link in
+            let heard_is = heard_on setup facts octets handle doing on in
+            let worded_is = worded_at setup facts doing handle link at in
+            let good_there = worded_good link worded words octets ∙ good in
+            let number = number_at station handle history in
+            let header = header_in pdu in
+            let due_there = λ (f : EndFacts). IsDueOn side number (due_hearing side number (acks_control (has_acknowledged f header) f) f.control) (journal_of history) in
+            let keyed = knows.hears history rest station octets pdu handle link before in_it on at good
+            ∙ ap Some (sym ((λ i. keyed_of (facts_before_taking (words.setup_is i).link.role facts.turn.slot header (words.facts_is i)))
+            ∙ hearing_still link.setup.link.role facts.turn.slot (Some pdu) (facts_in link) words.response)) in
+            told_lines side history (after_call given station (PacketHeard octets) history) _
+            (lines_called station given (PacketHeard octets) history (taking_opens setup facts hearing handle octets worded heard_is worded_is)) due.each
+            (received_told side (links.link_of station) (links.last_of station) setup facts hearing handle octets pdu (has_room setup facts) worded (journal_of history) heard_is worded_is
+            (ap (λ (s : EndSetup). s.link.handle) words.setup_is ∙ handle_is 0 handle facts.links link (has.holds.so_far.last.each station in_it).own.handles at) good_there slot_is keyed
+            (subst due_there (sym words.facts_is) is_due))
 
         by : IsDueAhead given station history received → history_of (run_of given) ≡ history ++ Called station (step_of received) ∷ rest
             → IsTold (side_of station) (after_call given station (step_of received) history)

@@ -2,7 +2,6 @@
 pub mod DueLines
 pub mod DueSteps
 pub mod DueEntries
-pub mod GivenAlike
 pub mod DueReceptions
 pub mod DuePlain
 pub mod DueTurns

@@ -38,7 +38,8 @@ pub fn an_end_that_enters_an_event_says_what_is_due()
 /// PDU of a good packet, and by which to its side just the line is due of a procedure that the packet
 /// completes by an acknowledgement, the lines of the end that takes the packet are due: that line
 /// first; and just after the line of a PDU that is taken those of the procedure that it refuses and
-/// of the one that it completes, and those of a PDU that was kept until then. Then nothing is due (Core 5.2, volume 6 part B, sections 4.5.9 and 5.1).
+/// of the one that it completes, and those of a PDU that was kept until then. Then nothing is due
+/// (Core 5.2, volume 6 part B, sections 4.5.9 and 5.1).
 pub fn an_end_that_takes_a_packet_says_what_is_due()
     ensures each { (side : Side) (number : ℕ) (setup : Setup) (past : List Step)
         (octets pdu : List ℕ) (room : Bool) (journal : List Entry)

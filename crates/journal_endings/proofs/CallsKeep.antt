@@ -1,14 +1,15 @@
--- The open links of a controller, call by call: no procedure of an end ended the link but for an Instant that has passed, and
--- the reasons that the end sends and takes are those that hosts may give.
+-- The open links of a controller, call by call: no end ended the link but for an Instant that has passed or for a failed
+-- integrity, and the reasons that the end sends and takes are those that hosts may give, or that one has no key.
 use Rattle.std.proofs.Common.{◌≡◌, ◌⊎◌, inl, inr, ℕ, Bool, true, false, not, List, Option, Some, None, is_none, is_some, refl, sym, ap, subst, ◌∙◌, if◌then◌else◌}
 use Rattle.std.specs.Prelude.{IfSome, nat_lt, ⊤}
-use Rattle.ble_base.specs.ErrorCodes.{command_disallowed, instant_passed, invalid_hci_parameters, success, unknown_connection_identifier}
+use Rattle.ble_base.specs.ErrorCodes.{command_disallowed, instant_passed, invalid_hci_parameters, mic_failure, success, unknown_connection_identifier}
 use Rattle.ble_base.specs.declared.error_codes.ErrCode.{ErrCode}
 use Rattle.ble_base.specs.declared.roles.Role.{Role}
 use Rattle.ble_base.specs.declared.roles.Role.TheVariants.{Central, Peripheral}
 use Rattle.ble_base.specs.declared.verdicts.Verdict.TheVariants.{Broken as BrokenPacket, Forged, Good}
 use Rattle.air_frame.specs.declared.Heard.{Heard}
 use Rattle.air_frame.specs.declared.Heard.TheVariants.{Broken, NotOurs, Whole}
+use Rattle.controller_model.specs.Commands.{moment_of}
 use Rattle.controller_model.specs.Facts.{Facts, Setup}
 use Rattle.controller_model.specs.Heard.{has_room}
 use Rattle.controller_model.specs.Side.{facts_after}
@@ -23,57 +24,64 @@ use Rattle.host_view.specs.Status.{is_reason}
 use Rattle.host_view.specs.Unbuilt.{status_of}
 use Rattle.host_view.specs.View.{View}
 use Rattle.link_calls.specs.Hosts.{GetsData, HasHeardHost, IsAsked, Unchanged}
-use Rattle.link_calls.specs.Phases.{HasPassed, IsNew, Stays, Takes, link_receiving, refusal, refused_if, refuses_at}
+use Rattle.link_calls.specs.Phases.{HasPassed, IsNew, Stays, Takes, base_receiving, link_worded, refusal_at, refused_if}
 use Rattle.link_calls.specs.Turns.{fixed_if, sent_if}
 use Rattle.link_calls.specs.Uses.{listens_under, sends_under}
+use Rattle.link_runs.specs.link_pairs.control_model.Control.{ended}
 use Rattle.link_calls.specs.link_model.End.{facts_of as end_facts_of}
 use Rattle.link_calls.specs.link_model.Facts.{Facts as EndFacts}
-use Rattle.link_calls.specs.link_model.Packets.{good_pdu, heard_of, is_forged_pdu, pdu_read, pdu_read_in, verdict_of, whole_pdu}
+use Rattle.link_calls.specs.link_model.Packets.{good_pdu, heard_of, is_forged, is_forged_pdu, pdu_read, pdu_read_in, verdict_of, whole_pdu}
 use Rattle.link_calls.specs.link_model.Payload.{opens_now}
-use Rattle.link_calls.specs.link_model.Receiving.{facts_received}
+use Rattle.link_calls.specs.link_model.Receiving.{facts_forged_if, facts_received}
 use Rattle.link_calls.specs.link_model.Setup.{Setup as EndSetup}
-use Rattle.link_calls.specs.link_model.Step.{DataGiven, DataReported, Disconnected, EventEntered, PacketReceived, PacketSent, PduFixed, ProcedureAsked, RequestAnswered, Step as EndStep}
+use Rattle.link_calls.specs.link_model.Step.{DataGiven, DataReported, Disconnected, EventEntered, KeyAnswered, PacketReceived, PacketSent, PduFixed, ProcedureAsked, RequestAnswered, Step as EndStep, WordsGiven}
 use Rattle.link_calls.specs.link_model.procedure_values.declared.asks.Ask.{Ask}
 use Rattle.link_calls.specs.link_model.procedure_values.declared.asks.Ask.TheVariants.{Features, Version}
-use Rattle.link_calls.specs.link_model.Verdicts.{has_room_for, pdu_by, pdu_of, verdict_by, whole_in}
+use Rattle.link_calls.specs.link_model.Verdicts.{has_room_for, pdu_by, verdict_by, whole_in}
 use Rattle.link_calls.specs.link_model.declared.state.PeerFacts.{PeerFacts}
 use Rattle.link_calls.specs.open_links.Data.{complete_in, link_reported}
 use Rattle.link_calls.specs.open_links.OpenLinks.{Links, OpenLink, facts_in, link_after, link_at, new_link}
 use Rattle.link_calls.specs.open_links.Turns.{enters_in, link_entered}
+use Rattle.controller_model.specs.link_commands.declared.moments.Moment.{Moment}
 use Rattle.controller_model.specs.link_commands.Commands.{ask_unless, host_step_of, is_about, map_by, step_if_about}
 use Rattle.link_calls.specs.run_model.Run.{step_of}
 use Rattle.link_calls.proofs.HostSteps.{accepted_status, asked_is_well}
 use Rattle.link_calls.proofs.LinkCalls.{HasBegun, begins_under, phase_under}
 use Rattle.link_calls.proofs.UnderHandles.{ended_under, host_under}
-use Rattle.link_calls.proofs.link_model.Plain.{past_plain, received_plain}
+use Rattle.link_calls.proofs.link_model.KnownEnds.{IsPast}
 use Rattle.link_calls.proofs.open_links.Unmoved.{entered_setup}
 use Rattle.link_calls.proofs.run_laws.Agreed.{step_facts}
+use Rattle.link_calls.proofs.AtOnce.{IsRefusal, refusal_is}
+use Rattle.link_calls.proofs.Worded.{each_worded, worded_setup}
 use Rattle.run_pairs.proofs.OneSide.{taken_setup}
-use Rattle.journal_endings.proofs.EndReasons.{CarriesReason, GivesReasons, MayStep, first_gives, step_gives}
+use Rattle.run_pairs.proofs.Worded.{good_same, worded_verdict}
+use Rattle.journal_endings.proofs.EndReasons.{GivesReasons, MayStep, NewCarries, first_gives, forged_gives, step_gives}
 use Rattle.journal_endings.proofs.EndingProcedures.{is_receiving, same_ends}
-use Rattle.journal_endings.proofs.HostReasons.{IsReason}
+use Rattle.journal_endings.proofs.HostReasons.{IsReason, host_reason, is_ending}
 
 -- ---- an end
 
--- no procedure ended the link, or one did with 28
-abbrev pub EndsLate : Option ErrCode → Type 0
-EndsLate ends = IfSome ends (λ code. code.0 ≡ instant_passed)
+-- no procedure ended the link, or one did with 28, or the end did with 3D
+abbrev pub EndsByRules : Option ErrCode → Type 0
+EndsByRules ends = IfSome ends (λ code. (code.0 ≡ instant_passed) ⊎ (code.0 ≡ mic_failure))
 
 pub record KeepsRules (facts : EndFacts) : Type 0 where
   pub reasons : GivesReasons facts
-  pub late : EndsLate facts.control.ends
+  pub ends : EndsByRules facts.control.ends
 
 abbrev pub IsKept : OpenLink → Type 0
 IsKept link = KeepsRules (facts_in link)
+
+link_past : (link : OpenLink) → IsPast link.setup (facts_in link)
+link_past link = record { past = link.past; is = refl }
 
 -- its steps, but for what it receives
 kept_after : (link : OpenLink) (step : EndStep) → is_receiving step ≡ false → MayStep link.setup (facts_in link) step → IsKept link
     → IsKept (link_after step link)
 kept_after link step off may kept =
-    let plain = past_plain link.setup link.past in
     subst KeepsRules (sym (step_facts link step)) (record {
-      reasons = step_gives link.setup (facts_in link) step plain may kept.reasons;
-      late = subst EndsLate (sym (same_ends link.setup (facts_in link) step plain off)) kept.late;
+      reasons = step_gives link.setup (facts_in link) (link_past link) kept.reasons step may;
+      ends = subst EndsByRules (sym (same_ends link.setup (facts_in link) step off)) kept.ends;
     })
 
 kept_same : (one other : OpenLink) → other.setup ≡ one.setup → other.past ≡ one.past → IsKept one → IsKept other
@@ -81,7 +89,7 @@ kept_same one other setup past kept = subst KeepsRules (λ i. end_facts_of (sym 
 
 kept_new : (end : EndSetup) → IsKept (new_link end)
 unfolding end_facts_of
-kept_new end = record { reasons = first_gives end; late = tt }
+kept_new end = record { reasons = first_gives end; ends = tt }
 
 kept_if : (does : Bool) (link : OpenLink) (step : EndStep) → is_receiving step ≡ false → MayStep link.setup (facts_in link) step → IsKept link
     → IsKept (if does then link_after step link else link)
@@ -123,25 +131,26 @@ third_passes false true third is = absurd (cc)
 third_passes false false true is = absurd (cc)
 third_passes false false false is = refl
 
-reason_given : (view : View) (handle reason : ℕ) → status_of view (Disconnect handle reason) ≡ 0 → is_reason reason ≡ true
+reason_given : (view : View) (handle reason : ℕ) → status_of view (Disconnect handle reason) ≡ 0 → is_ending reason ≡ true
 unfolding status_of
 reason_given view handle reason accepted =
     let link = link_in view.links handle in
-    not_not (is_reason reason)
-    (third_passes (is_none link) (link_has link (λ l. l.disconnecting)) (not (is_reason reason)) (table_accepts _ _ accepted))
+    host_reason reason
+    (not_not (is_reason reason)
+    (third_passes (is_none link) (link_has link (λ l. l.disconnecting)) (not (is_reason reason)) (table_accepts _ _ accepted)))
 
-step_asks : (view : View) (command : Command) (slot : ℕ) (role : Role) (peer : PeerFacts) (step : EndStep) → status_of view command ≡ 0
-    → host_step_of command slot role peer ≡ Some step → AsksReason step
-step_asks view (Disconnect handle reason) slot role peer step ok is = asks_by _ step (reason_given view handle reason ok) is
-step_asks view (ReadRemoteVersion handle) slot role peer step ok is = asks_by _ step (unless_asks (is_some peer.version) Version) is
-step_asks view (LeReadRemoteFeatures handle) slot role peer step ok is = asks_by _ step (unless_asks (is_some peer.features) Features) is
-step_asks view (LeSetChannels map) slot role peer step ok is = asks_by _ step (map_asks role map) is
-step_asks view other slot role peer step ok is = asks_by _ step tt is
+step_asks : (view : View) (command : Command) (moment : Moment) (role : Role) (peer : PeerFacts) (step : EndStep) → status_of view command ≡ 0
+    → host_step_of command moment role peer ≡ Some step → AsksReason step
+step_asks view (Disconnect handle reason) moment role peer step ok is = asks_by _ step (reason_given view handle reason ok) is
+step_asks view (ReadRemoteVersion handle) moment role peer step ok is = asks_by _ step (unless_asks (is_some peer.version) Version) is
+step_asks view (LeReadRemoteFeatures handle) moment role peer step ok is = asks_by _ step (unless_asks (is_some peer.features) Features) is
+step_asks view (LeSetChannels map) moment role peer step ok is = asks_by _ step (map_asks role map) is
+step_asks view other moment role peer step ok is = asks_by _ step tt is
 
-about_asks : (view : View) (command : Command) (slot : ℕ) (role : Role) (peer : PeerFacts) (step : EndStep) → status_of view command ≡ 0 → (about : Bool)
-    → step_if_about about (host_step_of command slot role peer) ≡ Some step → AsksReason step
-about_asks view command slot role peer step ok true is = step_asks view command slot role peer step ok is
-about_asks view command slot role peer step ok false is = absurd (cc)
+about_asks : (view : View) (command : Command) (moment : Moment) (role : Role) (peer : PeerFacts) (step : EndStep) → status_of view command ≡ 0 → (about : Bool)
+    → step_if_about about (host_step_of command moment role peer) ≡ Some step → AsksReason step
+about_asks view command moment role peer step ok true is = step_asks view command moment role peer step ok is
+about_asks view command moment role peer step ok false is = absurd (cc)
 
 -- the steps of a host receive nothing
 record IsHosts (setup : EndSetup) (facts : EndFacts) (step : EndStep) : Type 0 where
@@ -151,6 +160,7 @@ record IsHosts (setup : EndSetup) (facts : EndFacts) (step : EndStep) : Type 0 w
 host_step : (setup : EndSetup) (facts : EndFacts) (step : EndStep) → IsAskedStep step → AsksReason step → IsHosts setup facts step
 host_step setup facts (ProcedureAsked ask) by_host asks = record { off = refl; may = tt }
 host_step setup facts (RequestAnswered answer) by_host asks = record { off = refl; may = tt }
+host_step setup facts (KeyAnswered key slot) by_host asks = record { off = refl; may = tt }
 host_step setup facts (Disconnected reason slot) by_host asks = record { off = refl; may = asks }
 host_step setup facts (DataGiven start body) by_host asks = absurd by_host
 host_step setup facts step by_host asks = absurd by_host
@@ -160,15 +170,15 @@ host_step setup facts step by_host asks = absurd by_host
 abbrev pub AreKept : Links → Type 0
 AreKept links = (handle : ℕ) (link : OpenLink) → link_at handle links ≡ Some link → IsKept link
 
-heard_host : (facts : Facts) (octet handle : ℕ) (after : OpenLink) → AreKept facts.links → HasHeardHost facts octet handle after → IsKept after
-heard_host facts octet handle after kept (Unchanged was) = kept handle after was
-heard_host facts octet handle after kept (GetsData link start body was is) =
+heard_host : (setup : Setup) (facts : Facts) (octet handle : ℕ) (after : OpenLink) → AreKept facts.links → HasHeardHost setup facts octet handle after → IsKept after
+heard_host setup facts octet handle after kept (Unchanged was) = kept handle after was
+heard_host setup facts octet handle after kept (GetsData link start body was is) =
     subst IsKept (sym is) (kept_after link (DataGiven start body) refl tt (kept handle link was))
-heard_host facts octet handle after kept (IsAsked link command step was accepted asks is) =
+heard_host setup facts octet handle after kept (IsAsked link command step was accepted asks is) =
     let role = link.setup.link.role in
     let peer = (facts_in link).peer in
-    let well = asked_is_well facts octet handle command role peer step accepted asks in
-    let reason = about_asks facts.view command facts.turn.begun role peer step (accepted_status facts octet command accepted) (is_about handle command) asks in
+    let well = asked_is_well setup facts octet handle command role peer step accepted asks in
+    let reason = about_asks facts.view command (moment_of setup facts) role peer step (accepted_status facts octet command accepted) (is_about handle command) asks in
     let hosts = host_step link.setup (facts_in link) step well.by_host reason in
     subst IsKept (sym is) (kept_after link step hosts.off hosts.may (kept handle link was))
 
@@ -200,49 +210,84 @@ good_or_none setup facts octets = of (heard_of setup facts octets)
 
 -- what is known of a good packet that a link receives: the PDU in it, and how the end is after the call
 pub record IsSound (facts : Facts) (octets : List ℕ) (link after : OpenLink) : Type 0 where
-  pub carries : IfSome (good_pdu link.setup (facts_in link) octets) (λ pdu. CarriesReason (pdu_of pdu))
-  pub late : EndsLate (facts_in after).control.ends
+  pub carries : IfSome (good_pdu link.setup (facts_in link) octets) (NewCarries (facts_in link))
+  pub ends : EndsByRules (facts_in after).control.ends
 
-refused_kept : (refuses : Bool) (link : OpenLink) → IsKept link → IsKept (refused_if refuses link)
-refused_kept true link kept = kept_after link (RequestAnswered refusal) refl tt kept
-refused_kept false link kept = kept
+forged_kept : (forged : Bool) (facts : EndFacts) → KeepsRules facts → KeepsRules (facts_forged_if forged facts)
+forged_kept false facts kept = kept
+forged_kept true facts kept = record { reasons = forged_gives true facts kept.reasons; ends = by (is_none facts.control.ends) }
+  where
+    by : (goes : Bool) → EndsByRules (if goes then ended (record { 0 = mic_failure }) facts.control else facts.control).ends
+    by true = inr refl
+    by false = kept.ends
+
+refusal_off : (step : EndStep) → IsRefusal step → is_receiving step ≡ false
+refusal_off (RequestAnswered answer) is = refl
+refusal_off (KeyAnswered key slot) is = refl
+refusal_off step is = absurd is
+
+refusal_may : (setup : EndSetup) (facts : EndFacts) (step : EndStep) → IsRefusal step → MayStep setup facts step
+refusal_may setup facts (RequestAnswered answer) is = tt
+refusal_may setup facts (KeyAnswered key slot) is = tt
+refusal_may setup facts step is = absurd is
+
+refused_kept : (answer : Option EndStep) (link : OpenLink) → IfSome answer IsRefusal → IsKept link → IsKept (refused_if answer link)
+refused_kept (Some step) link is kept = kept_after link step (refusal_off step is) (refusal_may link.setup (facts_in link) step is) kept
+refused_kept None link is kept = kept
+
+-- it is given words
+worded_kept : (setup : Setup) (facts : Facts) (doing : Doing) (link : OpenLink) → IsKept link → IsKept (link_worded setup facts doing link)
+worded_kept setup facts doing link kept =
+    each_worded IsKept setup facts doing link kept (λ skd_s iv_s. kept_after link (WordsGiven skd_s iv_s) refl tt kept)
+
+carries_worded : (setup : Setup) (facts : Facts) (doing : Doing) (link : OpenLink) (octets : List ℕ)
+    → IfSome (good_pdu link.setup (facts_in link) octets) (NewCarries (facts_in link)) → let base = link_worded setup facts doing link in
+    IfSome (good_pdu base.setup (facts_in base) octets) (NewCarries (facts_in base))
+carries_worded setup facts doing link octets carries =
+    each_worded (λ base. IfSome (good_pdu base.setup (facts_in base) octets) (NewCarries (facts_in base))) setup facts doing link carries
+    (λ skd_s iv_s.
+    let step = WordsGiven skd_s iv_s in
+    subst (λ (f : EndFacts). IfSome (good_pdu link.setup f octets) (NewCarries f)) (sym (step_facts link step))
+    (subst (λ (pdu : Option (List ℕ)). IfSome pdu (NewCarries (facts_in link))) (sym (good_same link.setup skd_s iv_s octets (facts_in link)))
+    carries))
 
 -- the reasons alone, of a link that receives
 abbrev Reasons : OpenLink → Type 0
 Reasons link = GivesReasons (facts_in link)
 
 reasons_after : (link : OpenLink) (step : EndStep) → MayStep link.setup (facts_in link) step → Reasons link → Reasons (link_after step link)
-reasons_after link step may reasons = subst GivesReasons (sym (step_facts link step)) (step_gives link.setup (facts_in link) step (past_plain link.setup link.past) may reasons)
+reasons_after link step may reasons = subst GivesReasons (sym (step_facts link step)) (step_gives link.setup (facts_in link) (link_past link) reasons step may)
 
-reasons_refused : (refuses : Bool) (link : OpenLink) → Reasons link → Reasons (refused_if refuses link)
-reasons_refused true link reasons = reasons_after link (RequestAnswered refusal) tt reasons
-reasons_refused false link reasons = reasons
+reasons_refused : (answer : Option EndStep) (link : OpenLink) → IfSome answer IsRefusal → Reasons link → Reasons (refused_if answer link)
+reasons_refused (Some step) link is reasons = reasons_after link step (refusal_may link.setup (facts_in link) step is) reasons
+reasons_refused None link is reasons = reasons
 
 reasons_sent : (sends : Bool) (slot : ℕ) (link : OpenLink) → Reasons link → Reasons (sent_if sends slot link)
 reasons_sent true slot link reasons = reasons_after link (PacketSent slot) tt reasons
 reasons_sent false slot link reasons = reasons
 
 module _ (facts : Facts) (room : Bool) (octets : List ℕ) (handle : ℕ) (sends : Bool) (link after : OpenLink)
-    (is : after ≡ sent_if sends facts.turn.slot (link_receiving handle room octets facts link)) (kept : IsKept link) where
+    (is : after ≡ sent_if sends facts.turn.slot (base_receiving handle room octets facts link)) (kept : IsKept link) where
   abbrev heard_step : EndStep
   heard_step = PacketReceived facts.turn.slot octets room
 
-  -- nothing is received
+  -- nothing is received, or a forged packet ends the link
   unheard_kept : good_pdu link.setup (facts_in link) octets ≡ None → IsKept after
   unheard_kept none =
-      let same : facts_in (link_after heard_step link) ≡ facts_in link =
-      step_facts link heard_step ∙ received_plain link.setup (facts_in link) facts.turn.slot octets room (past_plain link.setup link.past)
-      ∙ ap (λ (pdu : Option (List ℕ)). facts_received link.setup.link.role facts.turn.slot room pdu (facts_in link)) none in
+      let forged = is_forged link.setup (facts_in link) octets in
+      let same : facts_in (link_after heard_step link) ≡ facts_forged_if forged (facts_in link) =
+      step_facts link heard_step
+      ∙ ap (λ (pdu : Option (List ℕ)). facts_forged_if forged (facts_received link.setup.link.role facts.turn.slot room pdu (facts_in link))) none in
       subst IsKept (sym is)
-      (sent_kept sends facts.turn.slot (link_receiving handle room octets facts link)
-      (refused_kept (refuses_at handle room octets facts) (link_after heard_step link) (subst KeepsRules (sym same) kept)))
+      (sent_kept sends facts.turn.slot (base_receiving handle room octets facts link)
+      (refused_kept (refusal_at handle room octets facts link) (link_after heard_step link) (refusal_is handle room octets facts link) (subst KeepsRules (sym same) (forged_kept forged (facts_in link) kept))))
 
   heard_kept : IsSound facts octets link after → IsKept after
   heard_kept sound = record {
     reasons = subst Reasons (sym is)
-        (reasons_sent sends facts.turn.slot (link_receiving handle room octets facts link)
-        (reasons_refused (refuses_at handle room octets facts) (link_after heard_step link) (reasons_after link heard_step sound.carries kept.reasons)));
-    late = sound.late;
+        (reasons_sent sends facts.turn.slot (base_receiving handle room octets facts link)
+        (reasons_refused (refusal_at handle room octets facts link) (link_after heard_step link) (refusal_is handle room octets facts link) (reasons_after link heard_step sound.carries kept.reasons)));
+    ends = sound.ends;
   }
 
   by_verdict : (verdict_of link.setup (facts_in link) octets ≡ Good → IsSound facts octets link after)
@@ -262,13 +307,20 @@ HearsSoundly setup facts received =
 
 passed_kept : (setup : Setup) (facts : Facts) (received : Option (List ℕ)) (handle : ℕ) (after : OpenLink) → HearsSoundly setup facts received
     → link_at handle (facts_after setup facts (step_of received)).links ≡ Some after → AreKept facts.links
-    → HasPassed facts (has_room setup facts) received handle (facts_after setup facts (step_of received)).turn.doing after → IsKept after
+    → HasPassed setup facts (has_room setup facts) received handle (facts_after setup facts (step_of received)).turn.doing after → IsKept after
 passed_kept setup facts received handle after sound is kept (IsNew end made opened off) = subst IsKept (sym made) (kept_new end)
 passed_kept setup facts received handle after sound is kept (Stays was none nothing listened) = kept handle after was
 passed_kept setup facts received handle after sound is kept (Takes link octets was got on same) =
     let sends = sends_under handle (facts_after setup facts (step_of received)).turn.doing in
-    let setups = ap (λ (l : OpenLink). l.setup) same ∙ taken_setup sends handle (has_room setup facts) octets facts link in
-    taken_kept facts (has_room setup facts) octets handle sends link after same (kept handle link was) (sound handle octets link after got was on is setups)
+    let setups = ap (λ (l : OpenLink). l.setup) same ∙ taken_setup sends setup handle (has_room setup facts) octets facts link in
+    let doing = facts.turn.doing in
+    let base = link_worded setup facts doing link in
+    taken_kept facts (has_room setup facts) octets handle sends base after same (worded_kept setup facts doing link (kept handle link was))
+    (λ good.
+    let judged = sym (worded_verdict link.setup setup facts doing link octets) ∙ ap (λ (s : EndSetup). verdict_of s (facts_in base) octets) (sym (worded_setup setup facts doing link))
+    ∙ good in
+    let hears = sound handle octets link after got was on is setups judged in
+    record { carries = carries_worded setup facts doing link octets hears.carries; ends = hears.ends })
 
 pub reported_kept : (link : OpenLink) → IsKept link → IsKept (link_reported link)
 reported_kept link kept = kept_if (nat_lt 0 (complete_in link)) link DataReported refl tt kept
@@ -278,7 +330,7 @@ HearsIn setup facts (PacketHeard octets) = HearsSoundly setup facts (Some octets
 HearsIn setup facts step = ⊤
 
 pub call_kept : (setup : Setup) (facts : Facts) (step : Step) → HearsIn setup facts step → AreKept facts.links → AreKept (facts_after setup facts step).links
-call_kept setup facts (HostOctet octet) hears kept = λ handle link is. heard_host facts octet handle link kept (host_under setup facts octet handle link is)
+call_kept setup facts (HostOctet octet) hears kept = λ handle link is. heard_host setup facts octet handle link kept (host_under setup facts octet handle link is)
 call_kept setup facts (TurnBegins slot on) hears kept = λ handle link is.
     begun_kept facts slot on handle (facts_after setup facts (TurnBegins slot on)).turn.doing link kept (begins_under setup facts slot on handle link is)
 call_kept setup facts (PacketHeard octets) hears kept = λ handle link is.

@@ -1,7 +1,9 @@
--- What an end sends, what waits there, and the code that it takes of its peer are reasons that hosts may give, step by step.
-use Rattle.std.proofs.Common.{◌≡◌, ℕ, ◌&&◌, not, Bool, true, false, List, [], ◌∷◌, ◌++◌, Option, Some, None, is_some, refl, sym, subst, if◌then◌else◌}
+-- What an end sends, what waits there, and the code that it takes of its peer are reasons that hosts may give, or that one has no
+-- key, step by step.
+use Rattle.std.proofs.Common.{◌≡◌, ℕ, ◌&&◌, ◌||◌, not, Bool, true, false, List, [], ◌∷◌, Option, Some, None, is_none, is_some, refl, ap, sym, subst, ◌∙◌, if◌then◌else◌}
 use Rattle.std.specs.Prelude.{IfSome, ⊤}
-use Rattle.std.specs.List.{AllByRecursion}
+use Rattle.std.proofs.lemmas.Bool.{and_parts}
+use Rattle.ble_base.specs.ErrorCodes.{mic_failure}
 use Rattle.ble_base.specs.declared.error_codes.ErrCode.{ErrCode}
 use Rattle.ble_base.specs.declared.roles.Role.{Role}
 use Rattle.acl_banks.specs.declared.pieces.Piece.{Piece}
@@ -11,25 +13,25 @@ use Rattle.data_pdu.specs.declared.ctrl.CtrlRead.{CtrlRead}
 use Rattle.data_pdu.specs.declared.ctrl.CtrlRead.TheVariants.{Bare, Known, Unknown}
 use Rattle.data_pdu.specs.declared.header.DataHeader.{DataHeader}
 use Rattle.data_pdu.specs.Header.{header_in}
-use Rattle.data_pdu.specs.Reading.{ctrl_of, opcode_of}
+use Rattle.data_pdu.specs.Reading.{ctrl_of}
 use Rattle.instants.specs.Track.{event_of}
-use Rattle.link_runs.specs.link_pairs.control_model.Control.{Asks, Control, Enters, SeesAcknowledged, Sends, Step as ControlStep, Takes}
-use Rattle.link_runs.specs.link_pairs.control_model.Supported.{begins_encryption, read_supported}
+use Rattle.link_runs.specs.link_pairs.control_model.Control.{Answers, Asks, Control, Disconnects, Sends, Takes, ended}
 use Rattle.link_runs.specs.link_pairs.link_model.control_end.Answers.{effect_shown, goes_on as goes_on_held, nothing_taken, step_shown}
 use Rattle.link_runs.specs.link_pairs.link_model.control_end.Held.{held_after, held_of}
+use Rattle.link_runs.specs.link_pairs.link_model.control_end.declared.answers.Taken.{Taken}
+use Rattle.link_runs.specs.link_pairs.link_model.keyed_control.KeyedSteps.{Enters as keyed_enters, SeesAcknowledged as keyed_sees_acknowledged, Takes as keyed_takes, TakesData as keyed_takes_data, keyed_after}
+use Rattle.link_runs.specs.link_pairs.link_model.phased_end.Taking.{drawn}
 use Rattle.link_runs.specs.link_pairs.link_model.Acknowledgement.{Acknowledgement, Pdu, empty_pdu, is_acked, next_sent, with_acked}
-use Rattle.link_runs.specs.link_pairs.link_model.ControlSteps.{control_steps_in, step_if, steps_received}
 use Rattle.link_runs.specs.link_pairs.link_model.Controls.{goes_on, is_procedure_pdu, is_quiet_now, next_control, pdu_fixed, pdu_of_control, read_of}
-use Rattle.link_runs.specs.link_pairs.link_model.Data.{Data, data_acked_if, data_given, is_control, is_data, is_empty, llid_of, next_piece, pdu_with}
+use Rattle.link_runs.specs.link_pairs.link_model.Data.{Data, data_acked_if, data_given, is_accepted, is_control, is_data, is_empty, llid_of, next_piece, pdu_with}
 use Rattle.link_runs.specs.link_pairs.link_model.End.{facts_after}
 use Rattle.link_runs.specs.link_pairs.link_model.Entering.{facts_entered_if}
-use Rattle.link_runs.specs.link_pairs.link_model.Facts.{Facts, first_facts}
+use Rattle.link_runs.specs.link_pairs.link_model.Facts.{Facts, first_facts, keyed_of}
 use Rattle.link_runs.specs.link_pairs.link_model.Fixing.{data_cut, data_fixed_by, data_goes, fixed_anew}
-use Rattle.link_runs.specs.link_pairs.link_model.Hosts.{asked_unless, ends_without_key, is_to_come, leaving_from_if}
-use Rattle.link_runs.specs.link_pairs.link_model.Packets.{good_pdu}
+use Rattle.link_runs.specs.link_pairs.link_model.Hosts.{asked_unless, ends_without_key, facts_key_answered, is_to_come, key_step, leaving_from_if}
+use Rattle.link_runs.specs.link_pairs.link_model.Packets.{good_pdu, has_new_pdu, is_forged}
 use Rattle.link_runs.specs.link_pairs.link_model.Payload.{payload_made}
-use Rattle.link_runs.specs.link_pairs.link_model.Plain.{IsPlain, control_acked_if, plain_accepted_if, plain_acknowledged_if, plain_before_taking, plain_gives, plain_hearing, plain_takes_if}
-use Rattle.link_runs.specs.link_pairs.link_model.Receiving.{accepts, acks_control, answers_with_control, code_of, facts_received, has_acknowledged, heard_in_slot, leaving_by}
+use Rattle.link_runs.specs.link_pairs.link_model.Receiving.{accepted_if, accepts, acknowledged_if, acks_control, answers_with_control, code_of, control_taken, data_taken_if, ended_by_forgery, facts_before_taking, facts_forged_if, facts_hearing, facts_received, has_acknowledged, heard_in_slot, kept_give, keyed_acked_if, leaving_by, procedures_give, procedures_take_if}
 use Rattle.link_runs.specs.link_pairs.link_model.Sending.{control_gone_if, data_sent_as, facts_sent, takes_leave}
 use Rattle.link_runs.specs.link_pairs.link_model.Setup.{Setup}
 use Rattle.link_runs.specs.link_pairs.link_model.Step.{DataGiven, DataReported, Disconnected, EventEntered, KeyAnswered, PacketReceived, PacketSent, PduFixed, ProcedureAsked, RequestAnswered, Step, WordsGiven}
@@ -46,10 +48,12 @@ use Rattle.link_runs.specs.link_pairs.procedures.Taking.{facts_with, lacks_room,
 use Rattle.link_runs.specs.link_pairs.procedures.declared.outcome.Outcome.{Outcome}
 use Rattle.link_runs.proofs.link_pairs.control_model.Calls.{settled_as}
 use Rattle.link_runs.proofs.link_pairs.TerminatingPdus.{outcome_ends}
-use Rattle.link_runs.proofs.link_pairs.link_model.ControlSteps.{one_step}
-use Rattle.link_runs.proofs.link_pairs.link_model.Plain.{hearing_plain, received_plain}
+use Rattle.link_runs.proofs.link_pairs.link_model.Acknowledging.{ack_before_taking}
+use Rattle.link_runs.proofs.link_pairs.link_model.KnownEnds.{IsPast, knows_accepted, knows_before_taking, past_knows}
+use Rattle.link_runs.proofs.link_pairs.link_model.Views.{AsRead, AsUnknown, Ended, Handed, Knows, Over, SeenAs, Taking, Withheld, reading_view, taken_view}
 use Rattle.joint_laws.proofs.joint_phases.Outcomes.{keeps_open}
-use Rattle.journal_endings.proofs.HostReasons.{EndsWithReason, HoldsReasons, IsReason, QueuesReasons, ReadsReason, SaysReason, next_says, reads_reason, steps_hold}
+use Rattle.journal_endings.proofs.HostReasons.{HoldsReasons, IsReason, QueuesReasons, ReadsReason, SaysReason, next_says, reads_reason, step_holds}
+use Rattle.journal_endings.proofs.KeyedReasons.{again_step, keyed_holds}
 
 -- ---- what an end holds
 
@@ -160,173 +164,186 @@ module _ (f : TableFacts) (slot : ℕ) (quiet : Bool) where
       settled_gives read reads (lacks_room f outcome) outcome.step.ends (facts_with f slot outcome)
   took_gives read reads false = tt
 
-supported : (read : CtrlRead) → ReadsReason read → ReadsReason (read_supported read)
-supported (Known ctrl) reads = by (begins_encryption ctrl)
-  where
-    by : (begins : Bool) → ReadsReason (if begins then Unknown (opcode_of ctrl) else Known ctrl)
-    by true = tt
-    by false = reads
-supported (Unknown opcode) reads = tt
-supported Bare reads = tt
+seen_reads : (read seen : CtrlRead) → SeenAs read seen → ReadsReason read → ReadsReason seen
+seen_reads read seen (AsRead is) reads = subst ReadsReason (sym is) reads
+seen_reads read seen (AsUnknown ctrl named is seen_is) reads = subst ReadsReason (sym seen_is) tt
+
+-- what the procedures give for a PDU, in any phase
+abbrev GivesReason : Taken → Type 0
+GivesReason taken = IfSome (code_of taken.effect) IsReason
+
+given_reason : (quiet : Bool) (c : Control) (read : CtrlRead) (slot : ℕ) (taken kept : Taken) (d : Control) → ReadsReason read
+    → Taking quiet c read slot taken kept d → GivesReason taken
+given_reason quiet c read slot taken kept d reads (Over over none kept_none is) = subst GivesReason (sym none) tt
+given_reason quiet c read slot taken kept d reads (Withheld lasts loud class none kept_none is) = subst GivesReason (sym none) tt
+given_reason quiet c read slot taken kept d reads (Ended code lasts apart none kept_none is) = subst GivesReason (sym none) tt
+given_reason quiet c read slot taken kept d reads (Handed seen middle lasts sees loud owing is kept_is) =
+    subst GivesReason (sym is)
+    (took_gives c.table slot quiet seen (seen_reads read seen sees reads) (goes_on_held (held_after (Takes seen slot quiet) (held_of c))))
 
 left_by : (code : Option ErrCode) (leaving : Leaving) → IfSome code IsReason → IfSome leaving.ended_by_peer IsReason
     → IfSome (leaving_by code leaving).ended_by_peer IsReason
 left_by None leaving is before = before
 left_by (Some code) leaving is before = is
 
-taken_peer : (takes : Bool) (pdu : Pdu) (slot : ℕ) (facts : Facts) → (takes ≡ true → is_control pdu ≡ true) → CarriesReason pdu
-    → IfSome facts.leaving.ended_by_peer IsReason → IfSome (plain_takes_if takes pdu slot facts).leaving.ended_by_peer IsReason
-taken_peer false pdu slot facts control carries before = before
-taken_peer true pdu slot facts control carries before =
-    left_by (code_of (plain_gives pdu slot facts).effect) facts.leaving
-    (took_gives facts.control.table slot true (read_of pdu) (supported (ctrl_of pdu.body) (carries (control refl)))
-    (goes_on_held (held_after (Takes (read_of pdu) slot true) (held_of facts.control))))
-    before
+-- ---- the layers of a reception
 
-taken_pdus : (takes : Bool) (pdu : Pdu) (slot : ℕ) (facts : Facts) → PdusCarry facts.acknowledgement facts.outgoing
-    → PdusCarry (plain_takes_if takes pdu slot facts).acknowledgement (plain_takes_if takes pdu slot facts).outgoing
-taken_pdus true pdu slot facts carry = carry
-taken_pdus false pdu slot facts carry = carry
+acked_queue : (acked : Bool) (facts : Facts) → Knows (keyed_of facts) → HoldsReasons facts.control
+    → HoldsReasons (keyed_acked_if acked (keyed_of facts)).phased.control
+acked_queue true facts knows has =
+    keyed_holds keyed_sees_acknowledged (keyed_of facts) (λ goes. again_step (keyed_of facts).phased (knows.request goes)) has
+acked_queue false facts knows has = has
 
--- ---- the steps of the control part
-
--- the host ends the link with such a reason, and the PDU that is received has one
-abbrev pub MayStep : Setup → Facts → Step → Type 0
-MayStep setup facts (Disconnected reason slot) = IsReason reason
-MayStep setup facts (PacketReceived slot octets room) = IfSome (good_pdu setup facts octets) (λ pdu. CarriesReason (pdu_of pdu))
-MayStep setup facts step = ⊤
-
-both : (steps more : List ControlStep) → AllByRecursion EndsWithReason steps → AllByRecursion EndsWithReason more → AllByRecursion EndsWithReason (steps ++ more)
-both [] more here later = later
-both (step ∷ steps) more here later = (here.0, both steps more here.1 later)
-
-perhaps : (is_taken : Bool) (step : ControlStep) → EndsWithReason step → AllByRecursion EndsWithReason (step_if is_taken step)
-perhaps true step is = (is, tt)
-perhaps false step is = tt
-
-received_ends : (role : Role) (slot : ℕ) (room : Bool) (pdu : Option (List ℕ)) (facts : Facts) → AllByRecursion EndsWithReason (steps_received role slot room pdu facts)
-received_ends role slot room None facts = tt
-received_ends role slot room (Some octets) facts =
-    let header = header_in octets in
-    let pdu = pdu_of octets in
-    let own = plain_acknowledged_if (has_acknowledged facts header) (heard_in_slot slot header.md facts) in
-    let now = plain_before_taking role slot header facts in
-    let sees = step_if (acks_control (has_acknowledged facts header) facts) SeesAcknowledged in
-    let sends = step_if (answers_with_control role own) (Sends slot true) in
-    let takes = step_if (accepts room header pdu now && is_procedure_pdu pdu) (Takes (read_of pdu) slot true) in
-    both (sees ++ sends) takes
-    (both sees sends (perhaps (acks_control (has_acknowledged facts header) facts) SeesAcknowledged tt)
-    (perhaps (answers_with_control role own) (Sends slot true) tt))
-    (perhaps (accepts room header pdu now && is_procedure_pdu pdu) (Takes (read_of pdu) slot true) tt)
-
-steps_end : (setup : Setup) (facts : Facts) (step : Step) → MayStep setup facts step → AllByRecursion EndsWithReason (control_steps_in setup facts step)
-steps_end setup facts (DataGiven start body) may = tt
-steps_end setup facts (ProcedureAsked ask) may = perhaps (not (is_to_come ask facts)) (Asks ask) tt
-steps_end setup facts (RequestAnswered answer) may = (tt, tt)
-steps_end setup facts (KeyAnswered key slot) may = tt
-steps_end setup facts (Disconnected reason slot) may = (may, tt)
-steps_end setup facts (EventEntered slot) may = perhaps (goes_on facts) (Enters slot true) tt
-steps_end setup facts PduFixed may = tt
-steps_end setup facts (PacketSent slot) may = perhaps (takes_leave facts) (Sends slot true) tt
-steps_end setup facts (WordsGiven skd_s iv_s) may = tt
-steps_end setup facts (PacketReceived slot octets room) may = received_ends setup.link.role slot room (good_pdu setup facts octets) facts
-steps_end setup facts DataReported may = tt
-
-queue_after : (setup : Setup) (facts : Facts) (step : Step) → IsPlain setup.link.role facts → MayStep setup facts step → GivesReasons facts
-    → QueuesReasons (facts_after setup facts step).control.table.queue
-queue_after setup facts step plain may gives =
-    subst HoldsReasons (sym (one_step setup facts step plain)) (steps_hold (control_steps_in setup facts step) facts.control (steps_end setup facts step may) gives.queue)
-
--- ---- each step
-
-abbrev PartsGive : Facts → Type 0
-PartsGive facts = PdusCarry facts.acknowledgement facts.outgoing × IfSome facts.leaving.ended_by_peer IsReason
-
-same_parts : (facts : Facts) → GivesReasons facts → PartsGive facts
-same_parts facts gives = (gives.pdus, gives.peer)
-
-asked_parts : (comes : Bool) (ask : Ask) (facts : Facts) → GivesReasons facts → PartsGive (asked_unless comes ask facts)
-asked_parts true ask facts gives = same_parts facts gives
-asked_parts false ask facts gives = same_parts facts gives
-
-entered_parts : (goes : Bool) (setup : Setup) (slot : ℕ) (facts : Facts) → GivesReasons facts → PartsGive (facts_entered_if goes setup slot facts)
-entered_parts true setup slot facts gives = same_parts facts gives
-entered_parts false setup slot facts gives = same_parts facts gives
-
-fixed_parts : (stays : Bool) (facts : Facts) → GivesReasons facts → PartsGive (if stays then facts else fixed_anew facts)
-fixed_parts true facts gives = same_parts facts gives
-fixed_parts false facts gives =
-    ((gives.pdus.0, anew_carries (is_some (next_control facts)) (waiting_in facts.control.table.queue) (is_quiet_now facts) (data_goes facts) (data_cut facts)), gives.peer)
-
-gone_peer : (goes : Bool) (slot : ℕ) (facts : Facts) → GivesReasons facts → IfSome (control_gone_if goes slot facts).leaving.ended_by_peer IsReason
-gone_peer true slot facts gives = gives.peer
-gone_peer false slot facts gives = gives.peer
-
-sent_parts : (slot : ℕ) (facts : Facts) → GivesReasons facts → PartsGive (facts_sent slot facts)
-sent_parts slot facts gives =
-    let now = control_gone_if (takes_leave facts) slot facts in
-    let payload = payload_made now.encryption.end now.outgoing.fixed in
-    (sent_carries payload (is_acked now.acknowledgement) now.acknowledgement now.outgoing (gone_carries (takes_leave facts) slot facts gives), gone_peer (takes_leave facts) slot facts gives)
-
-control_of : (accepted control empty : Bool) → (accepted && (control && not empty)) ≡ true → control ≡ true
-control_of true true empty is = refl
-control_of true false empty is = absurd (cc)
-control_of false control empty is = absurd (cc)
-
-heard_parts : (role : Role) (slot : ℕ) (room : Bool) (header : DataHeader) (pdu : Pdu) (facts : Facts) → CarriesReason pdu
-    → GivesReasons (plain_acknowledged_if (has_acknowledged facts header) (heard_in_slot slot header.md facts)) → PartsGive (plain_hearing role slot room header pdu facts)
-heard_parts role slot room header pdu facts carries gives =
-    let own = plain_acknowledged_if (has_acknowledged facts header) (heard_in_slot slot header.md facts) in
-    let goes = answers_with_control role own in
-    let now = plain_before_taking role slot header facts in
-    let accepted = accepts room header pdu now in
-    let takes = accepted && is_procedure_pdu pdu in (
-      taken_pdus takes pdu slot (plain_accepted_if accepted pdu now) (gone_carries goes slot own gives),
-      taken_peer takes pdu slot (plain_accepted_if accepted pdu now) (control_of accepted (is_control pdu) (is_empty pdu)) carries (gone_peer goes slot own gives),
-    )
-
-acked_queue : (acked : Bool) (c : Control) → HoldsReasons c → HoldsReasons (control_acked_if acked c)
-acked_queue true c has = steps_hold (SeesAcknowledged ∷ []) c (tt, tt) has
-acked_queue false c has = has
-
-acked_gives : (acked : Bool) (slot : ℕ) (more : Bool) (facts : Facts) → GivesReasons facts → GivesReasons (plain_acknowledged_if acked (heard_in_slot slot more facts))
-acked_gives acked slot more facts gives = record {
-  queue = acked_queue (acks_control acked facts) facts.control gives.queue;
+acked_gives : (acked : Bool) (facts : Facts) → Knows (keyed_of facts) → GivesReasons facts → GivesReasons (acknowledged_if acked facts)
+acked_gives acked facts knows gives = record {
+  queue = acked_queue (acks_control acked facts) facts knows gives.queue;
   pdus = acked_carries (acked && is_data facts.acknowledgement.last) (with_acked acked facts.acknowledgement) facts.outgoing gives.pdus;
   peer = gives.peer;
 }
 
-received_parts : (role : Role) (slot : ℕ) (room : Bool) (pdu : Option (List ℕ)) (facts : Facts) → IsPlain role facts → IfSome pdu (λ octets. CarriesReason (pdu_of octets))
-    → GivesReasons facts → PartsGive (facts_received role slot room pdu facts)
-received_parts role slot room None facts plain carries gives = same_parts facts gives
-received_parts role slot room (Some octets) facts plain carries gives =
-    let header = header_in octets in
-    subst PartsGive (sym (hearing_plain role role slot room header (pdu_of octets) facts plain))
-    (heard_parts role slot room header (pdu_of octets) facts carries (acked_gives (has_acknowledged facts header) slot header.md facts gives))
+gone_gives : (goes : Bool) (slot : ℕ) (facts : Facts) → GivesReasons facts → GivesReasons (control_gone_if goes slot facts)
+gone_gives true slot facts gives = record {
+  queue = step_holds (Sends slot (is_quiet_now facts)) facts.control tt gives.queue;
+  pdus = gone_carries true slot facts gives;
+  peer = gives.peer;
+}
+gone_gives false slot facts gives = gives
+
+before_gives : (role : Role) (slot : ℕ) (header : DataHeader) (facts : Facts) → Knows (keyed_of facts) → GivesReasons facts
+    → GivesReasons (facts_before_taking role slot header facts)
+before_gives role slot header facts knows gives =
+    let heard = heard_in_slot slot header.md facts in
+    let own = acknowledged_if (has_acknowledged facts header) heard in
+    gone_gives (answers_with_control role own) slot own
+    (acked_gives (has_acknowledged facts header) heard knows (record { queue = gives.queue; pdus = gives.pdus; peer = gives.peer }))
+
+taken_gives : (takes : Bool) (pdu : Pdu) (slot : ℕ) (facts : Facts) → Knows (keyed_of facts) → (takes ≡ true → ReadsReason (ctrl_of pdu.body))
+    → GivesReasons facts → GivesReasons (procedures_take_if takes pdu slot facts)
+taken_gives false pdu slot facts knows reads gives = gives
+taken_gives true pdu slot facts knows reads gives = record {
+  queue = keyed_holds (keyed_takes (read_of pdu) slot (drawn facts.encryption.response)) (keyed_of facts) (λ goes. tt) gives.queue;
+  pdus = gives.pdus;
+  peer = left_by (code_of (procedures_give pdu slot facts).effect) facts.leaving
+      (given_reason (is_quiet_now facts) facts.control (read_of pdu) slot (procedures_give pdu slot facts) (kept_give pdu slot facts) (control_taken pdu slot facts)
+      (seen_reads (ctrl_of pdu.body) (read_of pdu) (reading_view pdu) (reads refl)) (taken_view pdu slot facts knows))
+      gives.peer;
+}
+
+data_gives : (takes : Bool) (facts : Facts) → GivesReasons facts → GivesReasons (data_taken_if takes facts)
+data_gives true facts gives = record { queue = keyed_holds keyed_takes_data (keyed_of facts) (λ goes. tt) gives.queue; pdus = gives.pdus; peer = gives.peer }
+data_gives false facts gives = gives
+
+-- ---- a step
+
+-- a new PDU carries such a reason
+abbrev pub NewCarries : Facts → List ℕ → Type 0
+NewCarries facts octets = has_new_pdu facts (header_in octets) ≡ true → CarriesReason (pdu_of octets)
+
+-- the host ends the link with such a reason, and the PDU that is received has one
+abbrev pub MayStep : Setup → Facts → Step → Type 0
+MayStep setup facts (Disconnected reason slot) = IsReason reason
+MayStep setup facts (PacketReceived slot octets room) = IfSome (good_pdu setup facts octets) (NewCarries facts)
+MayStep setup facts step = ⊤
+
+forged_holds : (c : Control) → HoldsReasons c → HoldsReasons (ended_by_forgery c)
+forged_holds c has = by (is_none c.ends)
+  where
+    by : (goes : Bool) → HoldsReasons (if goes then ended (record { 0 = mic_failure }) c else c)
+    by true = has
+    by false = has
+
+pub forged_gives : (forged : Bool) (facts : Facts) → GivesReasons facts → GivesReasons (facts_forged_if forged facts)
+forged_gives true facts gives = record { queue = forged_holds facts.control gives.queue; pdus = gives.pdus; peer = gives.peer }
+forged_gives false facts gives = gives
 
 -- the end without a key may end the link, as a host does
 left_from : (leaves : Bool) (slot : ℕ) (leaving : Leaving) → IfSome leaving.ended_by_peer IsReason → IfSome (leaving_from_if leaves slot leaving).ended_by_peer IsReason
 left_from true slot leaving before = before
 left_from false slot leaving before = before
 
-parts_after : (setup : Setup) (facts : Facts) (step : Step) → IsPlain setup.link.role facts → MayStep setup facts step → GivesReasons facts → PartsGive (facts_after setup facts step)
-parts_after setup facts (DataGiven start body) plain may gives =
-    (given_carries setup.link.handle start body facts.acknowledgement facts.outgoing gives.pdus, gives.peer)
-parts_after setup facts (ProcedureAsked ask) plain may gives = asked_parts (is_to_come ask facts) ask facts gives
-parts_after setup facts (RequestAnswered answer) plain may gives = same_parts facts gives
-parts_after setup facts (KeyAnswered key slot) plain may gives = (gives.pdus, left_from (ends_without_key key facts) slot facts.leaving gives.peer)
-parts_after setup facts (Disconnected reason slot) plain may gives = same_parts facts gives
-parts_after setup facts (EventEntered slot) plain may gives = entered_parts (goes_on facts) setup slot facts gives
-parts_after setup facts PduFixed plain may gives = fixed_parts (is_control facts.outgoing.fixed) facts gives
-parts_after setup facts (PacketSent slot) plain may gives = sent_parts slot facts gives
-parts_after setup facts (WordsGiven skd_s iv_s) plain may gives = same_parts facts gives
-parts_after setup facts (PacketReceived slot octets room) plain may gives =
-    subst PartsGive (sym (received_plain setup facts slot octets room plain))
-    (received_parts setup.link.role slot room (good_pdu setup facts octets) facts plain may gives)
-parts_after setup facts DataReported plain may gives = same_parts facts gives
+module _ (setup : Setup) (facts : Facts) (p : IsPast setup facts) (gives : GivesReasons facts) where
+  heard_gives : (slot : ℕ) (room : Bool) (octets : List ℕ) → NewCarries facts octets
+      → GivesReasons (facts_hearing setup.link.role slot room (header_in octets) (pdu_of octets) facts)
+  heard_gives slot room octets carries =
+      let role = setup.link.role in
+      let header = header_in octets in
+      let pdu = pdu_of octets in
+      let now = facts_before_taking role slot header facts in
+      let accepted = accepts room header pdu now in
+      let opened = accepted_if accepted pdu now in
+      let before = before_gives role slot header facts (past_knows setup facts p) gives in
+      let takes = accepted && is_procedure_pdu pdu in
+      data_gives (accepted && is_data pdu) (procedures_take_if takes pdu slot opened)
+      (taken_gives takes pdu slot opened (knows_accepted accepted pdu now (knows_before_taking setup facts p role slot header))
+      (λ is. taken_carries (and_parts accepted (is_procedure_pdu pdu) is).0 (and_parts accepted (is_procedure_pdu pdu) is).1)
+      (record { queue = before.queue; pdus = before.pdus; peer = before.peer }))
+    where
+      taken_carries : accepts room (header_in octets) (pdu_of octets) (facts_before_taking setup.link.role slot (header_in octets) facts) ≡ true
+          → is_procedure_pdu (pdu_of octets) ≡ true → ReadsReason (ctrl_of (pdu_of octets).body)
+      taken_carries accepted procedure =
+          let header = header_in octets in
+          let pdu = pdu_of octets in
+          let now = facts_before_taking setup.link.role slot header facts in
+          let fresh = (and_parts (has_new_pdu now header) (room || not (is_data pdu))
+          (and_parts (is_accepted room (has_new_pdu now header) pdu) (is_empty pdu || not now.leaving.acknowledged) accepted).0).0 in
+          let same = ap (λ (a : Acknowledgement). has_new_pdu (record facts { acknowledgement = a }) header) (ack_before_taking setup.link.role slot header facts) in
+          carries (sym same ∙ fresh) (and_parts (is_control pdu) (not (is_empty pdu)) procedure).0
 
-pub step_gives : (setup : Setup) (facts : Facts) (step : Step) → IsPlain setup.link.role facts → MayStep setup facts step → GivesReasons facts
-    → GivesReasons (facts_after setup facts step)
-step_gives setup facts step plain may gives =
-    let parts = parts_after setup facts step plain may gives in
-    record { queue = queue_after setup facts step plain may gives; pdus = parts.0; peer = parts.1 }
+  received_gives : (slot : ℕ) (room forged : Bool) (pdu : Option (List ℕ)) → IfSome pdu (NewCarries facts)
+      → GivesReasons (facts_forged_if forged (facts_received setup.link.role slot room pdu facts))
+  received_gives slot room forged None carries = forged_gives forged facts gives
+  received_gives slot room forged (Some octets) carries = forged_gives forged _ (heard_gives slot room octets carries)
+
+  key_gives : (key : Option (List ℕ)) (slot : ℕ) → GivesReasons (facts_key_answered key slot facts)
+  key_gives key slot = record { queue = waiting key; pdus = gives.pdus; peer = left_from (ends_without_key key facts) slot facts.leaving gives.peer }
+    where
+      waiting : (key : Option (List ℕ)) → HoldsReasons (keyed_after (key_step key) (keyed_of facts)).phased.control
+      waiting None = keyed_holds (key_step None) (keyed_of facts) (λ goes. tt) gives.queue
+      waiting (Some ltk) = keyed_holds (key_step (Some ltk)) (keyed_of facts) (λ goes. tt) gives.queue
+
+  asked_gives : (comes : Bool) (ask : Ask) → GivesReasons (asked_unless comes ask facts)
+  asked_gives true ask = gives
+  asked_gives false ask = record { queue = step_holds (Asks ask) facts.control tt gives.queue; pdus = gives.pdus; peer = gives.peer }
+
+  entered_gives : (goes : Bool) (slot : ℕ) → GivesReasons (facts_entered_if goes setup slot facts)
+  entered_gives true slot =
+      record { queue = keyed_holds (keyed_enters slot) (keyed_of facts) (λ goes. tt) gives.queue; pdus = gives.pdus; peer = gives.peer }
+  entered_gives false slot = gives
+
+  fixed_gives : (stays : Bool) → GivesReasons (if stays then facts else fixed_anew facts)
+  fixed_gives true = gives
+  fixed_gives false = record {
+    queue = gives.queue;
+    pdus = (gives.pdus.0, anew_carries (is_some (next_control facts)) (waiting_in facts.control.table.queue) (is_quiet_now facts) (data_goes facts) (data_cut facts));
+    peer = gives.peer;
+  }
+
+  sent_gives : (slot : ℕ) → GivesReasons (facts_sent slot facts)
+  sent_gives slot =
+      let now = control_gone_if (takes_leave facts) slot facts in
+      let gone = gone_gives (takes_leave facts) slot facts gives in
+      let payload = payload_made now.encryption.end now.outgoing.fixed in record {
+        queue = gone.queue;
+        pdus = sent_carries payload (is_acked now.acknowledgement) now.acknowledgement now.outgoing gone.pdus;
+        peer = gone.peer;
+      }
+
+  pub step_gives : (step : Step) → MayStep setup facts step → GivesReasons (facts_after setup facts step)
+  step_gives (DataGiven start body) may = record {
+    queue = gives.queue;
+    pdus = given_carries setup.link.handle start body facts.acknowledgement facts.outgoing gives.pdus;
+    peer = gives.peer;
+  }
+  step_gives (ProcedureAsked ask) may = asked_gives (is_to_come ask facts) ask
+  step_gives (RequestAnswered answer) may =
+      record { queue = step_holds (Answers answer) facts.control tt gives.queue; pdus = gives.pdus; peer = gives.peer }
+  step_gives (KeyAnswered key slot) may = key_gives key slot
+  step_gives (Disconnected reason slot) may =
+      record { queue = step_holds (Disconnects reason) facts.control may gives.queue; pdus = gives.pdus; peer = gives.peer }
+  step_gives (EventEntered slot) may = entered_gives (goes_on facts) slot
+  step_gives PduFixed may = fixed_gives (is_control facts.outgoing.fixed)
+  step_gives (PacketSent slot) may = sent_gives slot
+  step_gives (WordsGiven skd_s iv_s) may = record { queue = gives.queue; pdus = gives.pdus; peer = gives.peer }
+  step_gives (PacketReceived slot octets room) may =
+      received_gives slot room (is_forged setup facts octets) (good_pdu setup facts octets) may
+  step_gives DataReported may = record { queue = gives.queue; pdus = gives.pdus; peer = gives.peer }

@@ -1,8 +1,9 @@
--- Each LL_TERMINATE_IND that an end queues and sends has a reason that its host may give.
-use Rattle.std.proofs.Common.{◌≡◌, ℕ, ◌<◌, ◌==◌, ◌&&◌, ◌||◌, Bool, true, false, List, [], ◌∷◌, ◌++◌, length, remove, Option, Some, None, is_some, Result, Ok, Err, refl, sym, subst, arith, if◌then◌else◌}
+-- Each LL_TERMINATE_IND that an end queues and sends has a reason that its host may give, or 06 where its host has no key.
+use Rattle.std.proofs.Common.{◌≡◌, ℕ, ◌<◌, ◌==◌, ◌&&◌, ◌||◌, Bool, true, false, List, [], ◌∷◌, ◌++◌, length, remove, Option, Some, None, is_some, Result, Ok, Err, refl, ap, sym, subst, arith, if◌then◌else◌}
 use Rattle.std.specs.Prelude.{IfSome, sum, ⊤}
 use Rattle.std.specs.List.{AllByRecursion}
 use Rattle.std.proofs.lemmas.Bool.{eqb-true}
+use Rattle.ble_base.specs.ErrorCodes.{pin_or_key_missing}
 use Rattle.ble_base.specs.declared.error_codes.ErrCode.{ErrCode}
 use Rattle.ble_base.specs.declared.roles.Role.{Role}
 use Rattle.ble_base.specs.declared.roles.Role.TheVariants.{Central as central_role, Peripheral as peripheral_role}
@@ -48,9 +49,17 @@ use Rattle.link_runs.proofs.link_pairs.link_model.table_laws.Outcomes.{is_reply,
 
 -- ---- a control PDU, as it is written and as it is read
 
--- LL_TERMINATE_IND has a reason that a host may give (Core 5.2, volume 4 part E, section 7.1.6)
+-- a reason that a host may give (Core 5.2, volume 4 part E, section 7.1.6), or that it has no key after a pause of the
+-- encryption (volume 6 part B, section 5.1.3.2)
+abbrev pub is_ending : ℕ → Bool
+is_ending code = is_reason code || (code == pin_or_key_missing)
+
+pub host_reason : (code : ℕ) → is_reason code ≡ true → is_ending code ≡ true
+host_reason code is = ap (λ b. b || (code == pin_or_key_missing)) is
+
+-- LL_TERMINATE_IND has such a reason
 abbrev pub SaysReason : Ctrl → Type 0
-SaysReason (TerminateInd code) = is_reason code ≡ true
+SaysReason (TerminateInd code) = is_ending code ≡ true
 SaysReason other = ⊤
 
 abbrev pub ReadsReason : CtrlRead → Type 0
@@ -83,6 +92,13 @@ reason_below code is =
     one_octet code 0x05 _ (omega arith) (one_octet code 0x13 _ (omega arith) (one_octet code 0x14 _ (omega arith) (one_octet code 0x15 _ (omega arith)
     (one_octet code 0x1A _ (omega arith) (one_octet code 0x29 _ (omega arith) (λ last. let equal = eqb-true code 0x3B last in omega (arith, equal))))))) is
 
+ending_below : (code : ℕ) → is_ending code ≡ true → code < 256
+ending_below code is = by (is_reason code) refl is
+  where
+    by : (b : Bool) → is_reason code ≡ b → (b || (code == pin_or_key_missing)) ≡ true → code < 256
+    by true host other = reason_below code host
+    by false host other = let equal = eqb-true code pin_or_key_missing other in omega (arith, equal)
+
 terminate_fits : (code : ℕ) → code < 256 → IsCtrl (TerminateInd code)
 terminate_fits code below = record { range = tt; fits = (omega arith, (omega (arith, below), tt)); six_offsets = tt }
 
@@ -90,7 +106,7 @@ terminate_fits code below = record { range = tt; fits = (omega arith, (omega (ar
 pub reads_reason : (ctrl : Ctrl) → SaysReason ctrl → ReadsReason (ctrl_of (written ctrl))
 unfolding ctrl_of makers little_endian
 reads_reason (TerminateInd code) says =
-    subst ReadsReason (sym (written_is_known (TerminateInd code) (terminate_fits code (reason_below code says)))) says
+    subst ReadsReason (sym (written_is_known (TerminateInd code) (terminate_fits code (ending_below code says)))) says
 reads_reason StartEncReq says = made_reads (maker_in makers 0x05) 0x05 (written StartEncReq) (λ numbers. tt)
 reads_reason other says = made_reads (maker_in makers (opcode_of other)) (opcode_of other) (written other) (λ numbers. tt)
 
@@ -101,7 +117,7 @@ WaitsWithReason (Cipher ctrl) = SaysReason ctrl
 WaitsWithReason other = ⊤
 
 abbrev pub IsReason : ErrCode → Type 0
-IsReason code = is_reason code.0 ≡ true
+IsReason code = is_ending code.0 ≡ true
 
 pub record QueuesReasons (queue : QueueFacts) : Type 0 where
   pub disconnect : IfSome queue.disconnect IsReason
@@ -208,10 +224,10 @@ begun_waits closing role used lengths ask queue has = with_one (is_open closing)
 abbrev pub HoldsReasons : Control → Type 0
 HoldsReasons c = QueuesReasons c.table.queue
 
--- the host ends the link with such a reason, and the layer above queues nothing
+-- the host ends the link with such a reason, and so does the layer above
 abbrev pub EndsWithReason : ControlStep → Type 0
 EndsWithReason (Disconnects reason) = IsReason reason
-EndsWithReason (Owes ctrl) = ⊥
+EndsWithReason (Owes ctrl) = SaysReason ctrl
 EndsWithReason other = ⊤
 
 entered_queue : (f : TableFacts) (holds : Bool) → QueuesReasons f.queue → QueuesReasons (entered_step f holds).0.queue
@@ -241,7 +257,7 @@ taken_holds : (c : Control) (g : TableFacts) (indication : Option Indication) �
 taken_holds c g None now before = now
 taken_holds c g (Some indication) now before = either_way HoldsReasons (is_to_come c.track indication) _ _ now before
 
-step_holds : (step : ControlStep) (c : Control) → EndsWithReason step → HoldsReasons c → HoldsReasons (after step c)
+pub step_holds : (step : ControlStep) (c : Control) → EndsWithReason step → HoldsReasons c → HoldsReasons (after step c)
 step_holds (Enters slot quiet) c is has =
     let f = (entered_step c.table (is_some (next_number c.track))).0 in
     any_step HoldsReasons (Enters slot quiet) c
@@ -266,7 +282,8 @@ step_holds (Takes read slot quiet) c is has =
     (took_by HoldsReasons c (λ code. has) read slot quiet
     (taken_holds c (facts_with c.table slot outcome) (indicated_by outcome.step.effect)
     (replying c.table.closing (role_of c.table.progress) c.table.version_used outcome.reply c.table.queue (took c.table quiet read).reply has) has)) has
-step_holds (Owes ctrl) c is has = absurd is
+step_holds (Owes ctrl) c is has =
+    any_step HoldsReasons (Owes ctrl) c (with_one (is_open c.table.closing) c.table.queue (Cipher ctrl) is has) has
 
 pub steps_hold : (steps : List ControlStep) (c : Control) → AllByRecursion EndsWithReason steps → HoldsReasons c → HoldsReasons (after_all steps c)
 steps_hold [] c are has = has

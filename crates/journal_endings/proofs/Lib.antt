@@ -1,5 +1,6 @@
 -- The lemmas of this crate.
 pub mod HostReasons
+pub mod KeyedReasons
 pub mod EndReasons
 pub mod EndingProcedures
 pub mod CallsKeep

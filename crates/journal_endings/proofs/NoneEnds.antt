@@ -1,10 +1,10 @@
 -- No line of a link that is shut has one of these errors.
-use Rattle.std.proofs.Common.{◌≡◌, ℕ, ◌==◌, ◌||◌, Bool, true, false, Option, Some, None, List, [], ◌∷◌, ◌++◌, append_assoc, refl, sym, ap, subst, ◌∙◌, if◌then◌else◌}
+use Rattle.std.proofs.Common.{◌≡◌, ◌⊎◌, inl, inr, ℕ, ◌==◌, ◌||◌, Bool, true, false, Option, Some, None, List, [], ◌∷◌, ◌++◌, append_assoc, refl, sym, ap, subst, ◌∙◌, if◌then◌else◌}
 use Rattle.std.specs.Prelude.{IfSome}
 use Rattle.std.specs.List.{list_any}
 use Rattle.std.specs.Option.{option_map}
 use Rattle.std.proofs.lemmas.Bool.{eqb-true, false_from_ne_true}
-use Rattle.ble_base.specs.ErrorCodes.{connection_not_established, connection_timeout, instant_passed, ll_response_timeout, success, terminated_by_local_host}
+use Rattle.ble_base.specs.ErrorCodes.{connection_not_established, connection_timeout, instant_passed, ll_response_timeout, mic_failure, success, terminated_by_local_host}
 use Rattle.ble_base.specs.declared.error_codes.ErrCode.{ErrCode}
 use Rattle.ble_base.specs.declared.roles.Side.{Side}
 use Rattle.controller_model.specs.Data.{facts_handed}
@@ -12,7 +12,6 @@ use Rattle.controller_model.specs.Facts.{Facts}
 use Rattle.controller_model.specs.Shutting.{IsLeaving, IsOverdue, IsShut, acknowledged, ended_by_peer, failed, leaving, not_acknowledged, not_established, overdue, reset, timed_out, unanswered}
 use Rattle.controller_model.specs.Step.{Step}
 use Rattle.controller_model.proofs.Shuts.{shuts_with_reason}
-use Rattle.host_view.specs.Status.{is_reason}
 use Rattle.journal.specs.declared.entries.Entry.{Entry}
 use Rattle.journal.specs.declared.entries.Entry.TheVariants.{Shut}
 use Rattle.link_calls.specs.control_end.Answers.{timeout_of}
@@ -35,7 +34,7 @@ use Rattle.journal_indications.proofs.journal_data.journal_acks.TwoStations.{IsO
 use Rattle.journal_indications.proofs.journal_data.journal_packets.AccessOrder.{AreNth}
 use Rattle.journal_endings.specs.Endings.{NoneEndsByProtocolError, is_protocol_error, is_protocol_failure}
 use Rattle.journal_endings.proofs.CallsKeep.{AreKept, IsKept, reported_kept}
-use Rattle.journal_endings.proofs.HostReasons.{IsReason}
+use Rattle.journal_endings.proofs.HostReasons.{IsReason, is_ending}
 use Rattle.journal_endings.proofs.KeptInRuns.{kept_in_run}
 use Rattle.journal_endings.proofs.PairedEnds.{LateAlone}
 
@@ -47,12 +46,12 @@ IsOther code = is_protocol_error (record { 0 = code }) ≡ false
 is_other : (code known : ℕ) → code ≡ known → IsOther known → IsOther code
 is_other code known is other = subst IsOther (sym is) other
 
-apart_from : (code bad : ℕ) → is_reason code ≡ true → is_reason bad ≡ false → (code == bad) ≡ false
+apart_from : (code bad : ℕ) → is_ending code ≡ true → is_ending bad ≡ false → (code == bad) ≡ false
 apart_from code bad is none =
-    false_from_ne_true (code == bad) (λ same. absurd (let h : true ≡ false = sym is ∙ ap is_reason (eqb-true code bad same) ∙ none in cc))
+    false_from_ne_true (code == bad) (λ same. absurd (let h : true ≡ false = sym is ∙ ap is_ending (eqb-true code bad same) ∙ none in cc))
 
--- a reason that a host may give is none of them
-reason_is_other : (code : ℕ) → is_reason code ≡ true → IsOther code
+-- a reason that a host may give, or that it has no key, is none of them
+reason_is_other : (code : ℕ) → is_ending code ≡ true → IsOther code
 reason_is_other code is =
     λ i. apart_from code 0x07 is refl i || (apart_from code 0x23 is refl i || apart_from code 0x2A is refl i)
 
@@ -77,10 +76,15 @@ overdue_other slot link code (not_acknowledged since heard answered asked out is
 if_some : (P : ErrCode → Type 0) (may : Option ErrCode) (code : ErrCode) → IfSome may P → may ≡ Some code → P code
 if_some P may code is same = subst (λ (one : Option ErrCode). IfSome one P) same is
 
+-- an end ended the link itself
+own_other : (known code : ℕ) → code ≡ known → (known ≡ instant_passed) ⊎ (known ≡ mic_failure) → IsOther code
+own_other known code is (inl late) = is_other code instant_passed (is ∙ late) refl
+own_other known code is (inr failed_mic) = is_other code mic_failure (is ∙ failed_mic) refl
+
 leaving_other : (link : OpenLink) (code : ℕ) → IsKept link → IsLeaving link code → IsOther code
 leaving_other link code kept (acknowledged seen is) = is_other code terminated_by_local_host is refl
 leaving_other link code kept (failed ended unseen ends is) =
-    is_other code instant_passed (is ∙ if_some (λ one. one.0 ≡ instant_passed) (facts_in link).control.ends ended kept.late ends) refl
+    own_other ended.0 code is (if_some (λ one. (one.0 ≡ instant_passed) ⊎ (one.0 ≡ mic_failure)) (facts_in link).control.ends ended kept.ends ends)
 leaving_other link code kept (ended_by_peer ended unseen goes answered took is) =
     subst IsOther (sym is) (reason_is_other ended.0 (if_some IsReason (facts_in link).leaving.ended_by_peer ended kept.reasons.peer took))
 

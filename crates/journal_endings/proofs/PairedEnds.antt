@@ -1,6 +1,6 @@
--- Where a station of two takes a good packet on a link, the PDU in it has a reason that a host may give if it ends the link, and
--- a procedure of the end ends the link only for an Instant that has passed.
-use Rattle.std.proofs.Common.{◌≡◌, ◌⊎◌, inl, inr, ℕ, ◌+◌, Bool, true, false, List, [], ◌∷◌, ◌++◌, append_assoc, Option, Some, None, refl, sym, ap, subst, ◌∙◌, arith, if◌then◌else◌}
+-- Where a station of two takes a good packet on a link, a new PDU in it has such a reason if it ends the link, and a procedure of
+-- the end ends the link only for an Instant that has passed.
+use Rattle.std.proofs.Common.{◌≡◌, ◌⊎◌, inl, inr, ℕ, ◌+◌, true, List, [], ◌∷◌, ◌++◌, append_assoc, Option, Some, None, refl, sym, ap, subst, ◌∙◌, arith, if◌then◌else◌}
 use Rattle.std.specs.Prelude.{IfSome}
 use Rattle.std.specs.List.{Contains}
 use Rattle.ble_base.specs.Side.{other_side}
@@ -15,8 +15,8 @@ use Rattle.controller_model.specs.Side.{facts_after}
 use Rattle.controller_model.specs.Step.{PacketHeard}
 use Rattle.link_calls.specs.Uses.{listens_under}
 use Rattle.link_calls.specs.link_model.Facts.{Facts as EndFacts}
-use Rattle.link_calls.specs.link_model.Hearing.{IsUnderstood as IsEndUnderstood, body_read, pdu_octets}
-use Rattle.link_calls.specs.link_model.Packets.{good_pdu, has_new_pdu, header_sent, pdu_sent, verdict_of}
+use Rattle.link_calls.specs.link_model.Hearing.{IsUnderstood as IsEndUnderstood, pdu_octets}
+use Rattle.link_calls.specs.link_model.Packets.{good_pdu, has_new_pdu, header_sent, payload_sent, pdu_sent, verdict_of}
 use Rattle.link_calls.specs.link_model.Setup.{Setup as EndSetup}
 use Rattle.link_calls.specs.link_model.Step.{PacketSent}
 use Rattle.link_calls.specs.link_model.Verdicts.{pdu_of}
@@ -30,18 +30,18 @@ use Rattle.link_calls.specs.run_model.LinkEnds.{HasConnectInd, HaveAddresses, Is
 use Rattle.link_calls.specs.run_model.Numbers.{AreNumbered}
 use Rattle.link_calls.specs.run_model.Run.{Given, facts_at, history_of, run_of, setup_at}
 use Rattle.link_calls.proofs.link_model.Hearing.{IsHeardWhole}
-use Rattle.link_calls.proofs.link_model.Received.{body_heard, heard_good}
+use Rattle.link_calls.proofs.link_model.Received.{body_heard, header_read, heard_good}
 use Rattle.link_calls.proofs.run_laws.Agreed.{step_facts}
 use Rattle.link_calls.proofs.run_laws.DistinctAccess.{AreApart}
 use Rattle.link_calls.proofs.run_laws.EachCall.{facts_called, facts_others}
 use Rattle.link_calls.proofs.run_laws.InRange.{ranges_before, ranges_in}
-use Rattle.link_calls.proofs.run_laws.Pieces.{ranged_understand, sent_readable}
+use Rattle.link_calls.proofs.run_laws.Pieces.{ranged_understand}
 use Rattle.link_calls.proofs.run_laws.SameEvent.{apart_ends, one_connect_ind}
 use Rattle.link_calls.proofs.run_laws.TwoStations.{AreTwo, are_two as two_are, differs_back}
 use Rattle.link_calls.proofs.run_model.LinkEnds.{AreTaken, IsUnderstood}
 use Rattle.link_calls.proofs.run_model.Numbers.{numbered_at}
 use Rattle.link_calls.proofs.run_model.Stations.{is_in}
-use Rattle.link_runs.proofs.link_pairs.Reading.{has_sent}
+use Rattle.link_runs.proofs.link_pairs.HasSent.{has_sent}
 use Rattle.link_runs.specs.Open.{GoOnUnlessLate}
 use Rattle.link_runs.specs.link_pairs.Sound.{EndsForInstant}
 use Rattle.journal_indications.specs.journal_data.journal_links.Begun.{LinkBegun, link_numbered}
@@ -63,8 +63,8 @@ use Rattle.journal_indications.proofs.journal_data.journal_links.OfTwo.{are_dist
 use Rattle.journal_indications.proofs.journal_data.journal_packets.AccessOrder.{AreNth}
 use Rattle.run_pairs.specs.InTurns.{HasSentNow, HearEachInTurn}
 use Rattle.run_pairs.proofs.FarEnds.{hear_in_turn, hears_in_turn}
-use Rattle.journal_endings.proofs.CallsKeep.{EndsLate, IsKept, IsSound}
-use Rattle.journal_endings.proofs.EndReasons.{CarriesReason}
+use Rattle.journal_endings.proofs.CallsKeep.{EndsByRules, IsKept, IsSound}
+use Rattle.journal_endings.proofs.EndReasons.{CarriesReason, NewCarries}
 
 -- ---- stations and sides
 
@@ -138,17 +138,12 @@ LateAlone given =
     → IsOpen given before peripheral
     → GoOnUnlessLate (record { central = Some (facts_in central.link); peripheral = Some (facts_in peripheral.link) })
 
--- a payload that is the body of its PDU is read so, whether or not the PDU is new
-either_body : (new : Bool) (body payload : List ℕ) → payload ≡ body → (if new then body else payload) ≡ body
-either_body true body payload is = refl
-either_body false body payload is = is
+goes_on_so : (ends : Option ErrCode) → ends ≡ None → EndsByRules ends
+goes_on_so ends is = subst EndsByRules (sym is) tt
 
-goes_late : (ends : Option ErrCode) → ends ≡ None → EndsLate ends
-goes_late ends is = subst EndsLate (sym is) tt
-
-unless_late : (c p : EndFacts) → (p.control.ends ≡ None) ⊎ EndsForInstant c p p.control.ends → EndsLate p.control.ends
-unless_late c p (inl none) = goes_late p.control.ends none
-unless_late c p (inr late) = subst EndsLate (sym late.0) refl
+unless_late : (c p : EndFacts) → (p.control.ends ≡ None) ⊎ EndsForInstant c p p.control.ends → EndsByRules p.control.ends
+unless_late c p (inl none) = goes_on_so p.control.ends none
+unless_late c p (inr late) = subst EndsByRules (sym late.0) (inl refl)
 
 module _ (heard_whole : IsHeardWhole) (understood : IsUnderstood) (taken : AreTaken) (nth : AreNth) (apart : AreApart) (given : Given) (are_two : IsOfTwo given)
     (six : HaveAddresses given) (late : LateAlone given) (before rest : List Event) (station : ℕ) (octets : List ℕ)
@@ -267,20 +262,25 @@ module _ (heard_whole : IsHeardWhole) (understood : IsUnderstood) (taken : AreTa
             ap (good_pdu link.setup (facts_in link)) sent_now.sent.packet
             ∙ heard_good heard_whole sender.setup link.setup (facts_in sender) (facts_in link) hears
 
-        body_is : body_read (facts_in sender) (facts_in link) ≡ (pdu_sent (facts_in sender)).body
-        body_is = either_body (has_new_pdu (facts_in link) (header_sent (facts_in sender))) _ _ (sent_readable sender from_ranges).opened
-
-        pdu_is : pdu_of (pdu_octets (facts_in sender) (facts_in link)) ≡ (facts_in sent_link).acknowledgement.last
-        pdu_is =
+        pdu_is : has_new_pdu (facts_in link) (header_sent (facts_in sender)) ≡ true
+            → pdu_of (pdu_octets (facts_in sender) (facts_in link)) ≡ (facts_in sent_link).acknowledgement.last
+        pdu_is new =
             body_heard (facts_in sender) (facts_in link) hears.llid
-            ∙ (λ i. record { llid = (pdu_sent (facts_in sender)).llid; body = body_is i })
+            ∙ (λ i. record {
+              llid = (pdu_sent (facts_in sender)).llid;
+              body = (if new i then (pdu_sent (facts_in sender)).body else payload_sent (facts_in sender));
+            })
             ∙ sym (has_sent slot (facts_in sender)).last
             ∙ ap (λ (f : EndFacts). f.acknowledgement.last) (sym (step_facts sender (PacketSent slot)))
 
-        carries : IfSome (good_pdu link.setup (facts_in link) octets) (λ pdu. CarriesReason (pdu_of pdu))
-        carries =
-            subst (λ (pdu : Option (List ℕ)). IfSome pdu (λ one. CarriesReason (pdu_of one))) (sym brings)
-            (subst CarriesReason (sym pdu_is) (kept sent_now.sent.handle sent_link sent_now.sent.is_open).reasons.pdus.0)
+        new_carries : NewCarries (facts_in link) (pdu_octets (facts_in sender) (facts_in link))
+        new_carries new =
+            subst CarriesReason
+            (sym (pdu_is (ap (has_new_pdu (facts_in link)) (sym (header_read (facts_in sender) (facts_in link) hears.llid)) ∙ new)))
+            (kept sent_now.sent.handle sent_link sent_now.sent.is_open).reasons.pdus.0
+
+        carries : IfSome (good_pdu link.setup (facts_in link) octets) (NewCarries (facts_in link))
+        carries = subst (λ (pdu : Option (List ℕ)). IfSome pdu (NewCarries (facts_in link))) (sym brings) new_carries
 
     -- ---- the end after it
 
@@ -307,18 +307,18 @@ module _ (heard_whole : IsHeardWhole) (understood : IsUnderstood) (taken : AreTa
           hear_in_turn understood taken apart given six distinct two then_on rest place central peripheral in_it in_too (apart_ends then_on central peripheral ends)
           (one_connect_ind then_on central peripheral ends)
 
-      late_by : AreBoth then_on own_now there → EndsLate (facts_in now).control.ends
-      late_by (OwnCentral ends) =
-          goes_late (facts_in now).control.ends
+      ends_by : AreBoth then_on own_now there → EndsByRules (facts_in now).control.ends
+      ends_by (OwnCentral ends) =
+          goes_on_so (facts_in now).control.ends
           (late then_on rest own_now there distinct six (is_of_two given are_two station on) (is_of_two given are_two other in_far) place ends
           (hear own_now there on in_far ends) own_open far_open).central
-      late_by (OwnPeripheral ends) =
+      ends_by (OwnPeripheral ends) =
           unless_late (facts_in far.far) (facts_in now)
           (late then_on rest there own_now distinct six (is_of_two given are_two other in_far) (is_of_two given are_two station on) place ends
           (hear there own_now in_far on ends) far_open own_open).peripheral
 
-      late_now : EndsLate (facts_in now).control.ends
-      late_now = late_by (both_later before call station handle link now there setups both)
+      ends_now : EndsByRules (facts_in now).control.ends
+      ends_now = ends_by (both_later before call station handle link now there setups both)
 
   pub sound_now : ((one : ℕ) (open_link : OpenLink) → link_at one (facts_at given other before).links ≡ Some open_link → IsKept open_link)
       → (handle : ℕ) (link now : OpenLink) → link_at handle facts.links ≡ Some link → listens_under handle facts.turn.doing ≡ true
@@ -327,5 +327,5 @@ module _ (heard_whole : IsHeardWhole) (understood : IsUnderstood) (taken : AreTa
   sound_now kept handle link now is_open listens is_now setups good =
       let far = far_before heard_whole understood taken nth apart given are_two six before rest station octets at handle link is_open listens in record {
         carries = carries handle link is_open far good listens kept;
-        late = late_now handle link is_open far now setups is_now;
+        ends = ends_now handle link is_open far now setups is_now;
       }

@@ -1,12 +1,11 @@
 -- What is seen of an end after a call with an octet of its host.
 use Rattle.std.proofs.Common.{◌≡◌, ℕ, ◌-◌, ◌<◌, true, Option, Some, None, List, [], ◌∷◌, ◌++◌, length, map, if◌then◌else◌, refl, sym, ap, ◌∙◌, append-nil, append_assoc}
-use Rattle.std.specs.Prelude.{flat_map, Result}
+use Rattle.std.specs.Prelude.{flat_map}
 use Rattle.std.specs.List.{AllByRecursion}
 use Rattle.std.proofs.lemmas.Bool.{lt-ltb}
 use Rattle.std.proofs.lemmas.Grind.{flat_map-append}
 use Rattle.std.proofs.lemmas.List.{append_cancel_left}
 use mathlib.Core.Path.{fun_ext}
-use Rattle.ble_base.specs.declared.error_codes.ErrCode.{ErrCode}
 use Rattle.ble_base.specs.declared.notes.Note.{Note}
 use Rattle.ble_base.specs.declared.roles.Side.{Side}
 use Rattle.hci_cmd.specs.declared.command.Command.{Command}
@@ -19,7 +18,6 @@ use Rattle.host_answers.specs.Calls.{answered_after, call_lines}
 use Rattle.journal_acks.specs.journal_links.Begun.{LinkBegun, link_numbered}
 use Rattle.journal_acks.specs.journal_links.LinkLines.{line_of, lines_of, link_named, where_named}
 use Rattle.journal_acks.specs.link_model.Step.{Step}
-use Rattle.journal_acks.specs.link_model.procedure_values.declared.asks.Ask.{Ask}
 use Rattle.journal_acks.specs.open_links.OpenLinks.{OpenLink, facts_in}
 use Rattle.journal_acks.specs.run_model.History.{Event, Called, Noted}
 use Rattle.journal_acks.specs.run_model.Journal.{entry_of, journal_from, journal_of, side_of}
@@ -63,7 +61,7 @@ module _ (side : Side) (number : ℕ) where
   abbrev asks : List Entry → Command → List Seen
   asks front command = asked_if (step_asked side number front command)
 
-  abbrev answering : List Entry → Command → List (Result Ask ErrCode)
+  abbrev answering : List Entry → Command → List Step
   answering front command = answers_if (step_asked side number front command)
 
   -- the end is asked the same before and after such a line

@@ -1,18 +1,25 @@
 -- How the past of the link under a handle grows in each call of a turn on a controller.
-use Rattle.std.proofs.Common.{◌≡◌, ℕ, Bool, true, false, Some, List, [], ◌∷◌, ◌++◌, refl, sym, ap, subst, ◌∙◌, append-nil, append_assoc}
-use Rattle.std.specs.Prelude.{nat_lt, if◌then◌else◌}
+use Rattle.std.proofs.Common.{◌≡◌, ℕ, Bool, true, false, Option, Some, None, List, [], ◌∷◌, ◌++◌, refl, sym, ap, subst, ◌∙◌, append-nil, append_assoc}
+use Rattle.std.specs.Prelude.{IfSome, Err, nat_lt, if◌then◌else◌, ⊤}
 use Rattle.std.specs.Option.{option_map}
+use Rattle.ble_base.specs.ErrorCodes.{unsupported_remote_feature}
+use Rattle.data_pdu.specs.declared.ctrl.Ctrl.{Ctrl}
+use Rattle.data_pdu.specs.declared.ctrl.Ctrl.TheVariants.{EncReq}
 use Rattle.journal_acks.specs.controller_model.Data.{facts_handed}
 use Rattle.journal_acks.specs.controller_model.Facts.{Setup, Facts}
+use Rattle.journal_acks.specs.controller_model.Heard.{answer_unless, effect_in, kept_effect_in, key_refusal, or_refusal, refusal_in, refusal_of}
 use Rattle.journal_acks.specs.controller_model.Side.{facts_after}
 use Rattle.journal_acks.specs.controller_model.Step.{TurnBegins, TurnEnds}
 use Rattle.journal_acks.proofs.controller_model.Always.{leaving_is}
-use Rattle.journal_acks.proofs.controller_model.Places.{link_receiving, refusal, refused_if, refuses_at}
-use Rattle.journal_acks.specs.link_model.Step.{Step, DataReported, EventEntered, PacketReceived, PacketSent, PduFixed, RequestAnswered}
+use Rattle.journal_acks.specs.link_model.Step.{Step, DataReported, EventEntered, KeyAnswered, PacketReceived, PacketSent, PduFixed, RequestAnswered}
+use Rattle.journal_acks.specs.link_model.procedure_stages.declared.steps.Effect.{Effect}
+use Rattle.journal_acks.specs.link_model.procedure_stages.declared.steps.Effect.TheVariants.{AskHost, Cipher}
+use Rattle.host_view.specs.View.{View}
 use Rattle.journal_acks.specs.open_links.Data.{complete_in, link_reported, links_reported}
 use Rattle.journal_acks.specs.open_links.OpenLinks.{Links, OpenLink, link_after, link_at}
 use Rattle.journal_acks.specs.open_links.Turns.{ending_in, entered_if, enters_in, links_without}
 use Rattle.journal_acks.proofs.link_calls.LinkCalls.{begins_under}
+use Rattle.journal_acks.specs.link_calls.Phases.{base_receiving, refusal_at, refused_if}
 use Rattle.journal_acks.specs.link_calls.Uses.{sends_under}
 use Rattle.journal_acks.proofs.link_calls.UnderHandles.{WasOpen, map_under, staying_under, was_open}
 use Rattle.journal_acks.specs.link_calls.Turns.{change_if, sent_if}
@@ -93,6 +100,43 @@ ended_grown setup facts handle after at =
 
 -- ---- a phase passes
 
+-- a request that is withheld from the host is answered at once, as a host does
+abbrev pub IsRefusal : Step → Type 0
+IsRefusal (RequestAnswered answer) = ⊤
+IsRefusal (KeyAnswered key slot) = ⊤
+IsRefusal step = ⊥
+
+unless_refusal : (passes : Bool) (step : Step) → IsRefusal step → IfSome (answer_unless passes step) IsRefusal
+unless_refusal true step is = tt
+unless_refusal false step is = is
+
+key_refuses : (view : View) (handle slot : ℕ) (ctrl : Ctrl) → IfSome (key_refusal view handle slot ctrl) IsRefusal
+key_refuses view handle slot (EncReq rand ediv skd_m iv_m) = unless_refusal _ (KeyAnswered None slot) tt
+key_refuses view handle slot other = tt
+
+effect_refuses : (view : View) (handle slot : ℕ) (effect : Effect) → IfSome (refusal_of view handle slot effect) IsRefusal
+effect_refuses view handle slot (AskHost min max latency timeout) =
+    unless_refusal _ (RequestAnswered (Err (record { 0 = unsupported_remote_feature }))) tt
+effect_refuses view handle slot (Cipher ctrl) = key_refuses view handle slot ctrl
+effect_refuses view handle slot other = tt
+
+either_refuses : (one other : Option Step) → IfSome one IsRefusal → IfSome other IsRefusal → IfSome (or_refusal one other) IsRefusal
+either_refuses None other is also = also
+either_refuses (Some step) other is also = is
+
+pub refusal_in_is : (view : View) (handle slot : ℕ) (room : Bool) (place : Option OpenLink) (octets : List ℕ) → IfSome (refusal_in view handle slot room place octets) IsRefusal
+refusal_in_is view handle slot room place octets =
+    either_refuses _ _ (effect_refuses view handle slot (effect_in slot room place octets)) (effect_refuses view handle slot (kept_effect_in slot room place octets))
+
+pub refusal_is : (handle : ℕ) (room : Bool) (octets : List ℕ) (facts : Facts) (base : OpenLink) → IfSome (refusal_at handle room octets facts base) IsRefusal
+refusal_is handle room octets facts base = refusal_in_is facts.view handle facts.turn.slot room (Some base) octets
+
+-- which is not seen
+refusal_deaf : (step : Step) → IsRefusal step → IsDeaf step
+refusal_deaf (RequestAnswered answer) is = (refl, λ setup facts. refl)
+refusal_deaf (KeyAnswered key slot) is = (refl, λ setup facts. refl)
+refusal_deaf step is = absurd is
+
 -- it received these octets, and heard nothing after that
 pub record HasTaken (slot : ℕ) (octets : List ℕ) (room : Bool) (base after : OpenLink) : Type 0 where
   pub setup_is : after.setup ≡ base.setup
@@ -101,20 +145,21 @@ pub record HasTaken (slot : ℕ) (octets : List ℕ) (room : Bool) (base after :
   pub deaf : AreDeaf steps
 
 pub taken_grown : (sends : Bool) (handle : ℕ) (room : Bool) (octets : List ℕ) (facts : Facts) (base after : OpenLink)
-    → after ≡ sent_if sends facts.turn.slot (link_receiving handle room octets facts base) → HasTaken facts.turn.slot octets room base after
+    → after ≡ sent_if sends facts.turn.slot (base_receiving handle room octets facts base) → HasTaken facts.turn.slot octets room base after
 taken_grown sends handle room octets facts base after is =
     let step = PacketReceived facts.turn.slot octets room in
     let taken = link_after step base in
-    let refuses = refuses_at handle room octets facts in
+    let refusal = refusal_at handle room octets facts base in
     let all = subst (IsGrown taken) (sym is)
-    (grown_then taken (refused_if refuses taken) (sent_if sends facts.turn.slot (refused_if refuses taken)) (refused refuses taken)
-    (grown_if sends (PacketSent facts.turn.slot) (refused_if refuses taken) (refl, λ setup held. refl))) in record {
+    (grown_then taken (refused_if refusal taken) (sent_if sends facts.turn.slot (refused_if refusal taken))
+    (refused refusal taken (refusal_is handle room octets facts base))
+    (grown_if sends (PacketSent facts.turn.slot) (refused_if refusal taken) (refl, λ setup held. refl))) in record {
       setup_is = all.setup_is;
       steps = all.steps;
       past_is = all.past_is ∙ append_assoc base.past (step ∷ []) all.steps;
       deaf = all.deaf;
     }
   where
-    refused : (refuses : Bool) (link : OpenLink) → IsGrown link (refused_if refuses link)
-    refused true link = grown_after (RequestAnswered refusal) link (refl, λ setup held. refl)
-    refused false link = grown_same link
+    refused : (refusal : Option Step) (link : OpenLink) → IfSome refusal IsRefusal → IsGrown link (refused_if refusal link)
+    refused None link is = grown_same link
+    refused (Some step) link is = grown_after step link (refusal_deaf step is)

@@ -1,7 +1,6 @@
 -- The link under a handle, after an octet of the host: what it was asked by the command that the octet completes.
 use Rattle.std.proofs.Common.{◌≡◌, ℕ, ◌+◌, ◌==◌, ◌&&◌, Bool, true, false, Option, Some, None, List, [], ◌∷◌, ◌++◌, cond, if◌then◌else◌, refl, sym, ap, subst, ◌∙◌, append-nil, eqb-true}
-use Rattle.std.specs.Prelude.{flat_map, is_none, is_some, Result, ⊤}
-use Rattle.ble_base.specs.declared.error_codes.ErrCode.{ErrCode}
+use Rattle.std.specs.Prelude.{flat_map, is_none, is_some, ⊤}
 use Rattle.ble_base.specs.declared.roles.Role.{Role}
 use Rattle.ble_base.specs.declared.roles.Role.TheVariants.{Central, Peripheral}
 use Rattle.ble_base.specs.declared.roles.Side.{Side}
@@ -9,64 +8,69 @@ use Rattle.h4_frames.specs.declared.packet.HostPacket.TheVariants.{Command as Ho
 use Rattle.h4_frames.specs.declared.packet.Fed.{Fed}
 use Rattle.h4_frames.specs.declared.packet.Fed.TheVariants.{More, Packet, LostSync}
 use Rattle.hci_cmd.specs.declared.command.Command.{Command}
-use Rattle.hci_cmd.specs.declared.command.Command.TheVariants.{Disconnect, HostCompleted, LeConnectionUpdate, LeParamNegative, LeParamReply, LeReadRemoteFeatures, LeSetChannels, LeSetDataLength, LeSetPhy, ReadRemoteVersion, Reset}
+use Rattle.hci_cmd.specs.declared.command.Command.TheVariants.{Disconnect, HostCompleted, LeConnectionUpdate, LeEnableEncryption, LeKeyNegative, LeKeyReply, LeParamNegative, LeParamReply, LeReadRemoteFeatures, LeSetChannels, LeSetDataLength, LeSetPhy, ReadRemoteVersion, Reset}
 use Rattle.hci_cmd.specs.declared.command.CmdRead.{CmdRead}
 use Rattle.hci_cmd.specs.declared.command.CmdRead.TheVariants.{Known, UnknownOpcode, BadLength}
 use Rattle.hci_cmd.specs.Command.{command_of}
 use Rattle.host_view.specs.OnLinks.{asks_links}
 use Rattle.host_view.specs.Unbuilt.{status_of}
 use Rattle.host_view.specs.View.{View}
-use Rattle.journal_acks.specs.controller_model.Commands.{facts_asking, facts_commanded, facts_known, links_after}
+use Rattle.journal_acks.specs.controller_model.Commands.{facts_asking, facts_commanded, facts_known, links_after, moment_of}
 use Rattle.journal_acks.specs.controller_model.Data.{facts_offered, offer_of}
 use Rattle.journal_acks.specs.controller_model.Facts.{Setup, Facts}
 use Rattle.journal_acks.specs.controller_model.Host.{commands_accepted_by, commands_accepted_in}
 use Rattle.journal_acks.specs.controller_model.Side.{facts_after, facts_fed, result_of}
 use Rattle.journal_acks.specs.controller_model.Step.{HostOctet}
-use Rattle.journal_acks.specs.controller_model.link_commands.Commands.{ask_unless, host_step_of, is_about, map_by, step_if_about, step_on, update_by}
+use Rattle.journal_acks.specs.controller_model.link_commands.declared.moments.Moment.{Moment}
+use Rattle.journal_acks.specs.controller_model.link_commands.Commands.{ask_unless, host_step_of, is_about, map_by, step_if_about, step_on}
 use Rattle.journal_acks.specs.controller_model.link_commands.LinksCommanded.{link_after_if, links_commanded, links_commanded_from, place_commanded}
 use Rattle.host_answers.specs.Calls.{answered_after, answered_commands}
 use Rattle.journal_acks.specs.link_model.End.{facts_after as end_after, notes_from}
-use Rattle.journal_acks.specs.link_model.Facts.{Facts as EndFacts}
+use Rattle.journal_acks.specs.link_model.Facts.{Facts as EndFacts, keyed_of}
 use Rattle.journal_acks.specs.link_model.Hosts.{asked_unless, is_to_come}
 use Rattle.journal_acks.specs.link_model.Setup.{Setup as EndSetup}
-use Rattle.journal_acks.specs.link_model.Step.{Step, DataGiven, Disconnected, ProcedureAsked, RequestAnswered}
-use Rattle.journal_acks.specs.link_model.control_model.Control.{Control, Step as ControlStep, Answers, Asks as AsksFor, Disconnects, after as control_after, moved, table_if}
+use Rattle.journal_acks.specs.link_model.Step.{Step, DataGiven, Disconnected, KeyAnswered, ProcedureAsked, RequestAnswered}
+use Rattle.journal_acks.specs.link_model.control_model.Control.{Control, Step as ControlStep, Answers, Asks as AsksFor, Disconnects, Owes, after as control_after, moved, table_if}
 use Rattle.journal_acks.specs.link_model.declared.state.PeerFacts.{PeerFacts}
+use Rattle.journal_acks.specs.link_model.keyed_control.Keyed.{Keyed}
 use Rattle.journal_acks.specs.link_model.procedure_stages.Closing.{is_open}
 use Rattle.journal_acks.specs.link_model.procedure_stages.InProgress.{is_host_asked}
 use Rattle.journal_acks.specs.link_model.procedures.Going.{host_answer_step, is_answer, terminate_step}
 use Rattle.journal_acks.specs.link_model.procedures.Table.{TableFacts}
 use Rattle.journal_acks.specs.link_model.procedure_values.declared.asks.Ask.{Ask}
-use Rattle.journal_acks.specs.link_model.procedure_values.declared.asks.Ask.TheVariants.{Encrypt, Features, Version}
+use Rattle.journal_acks.specs.link_model.procedure_values.declared.asks.Ask.TheVariants.{Features, Version}
 use Rattle.journal_acks.specs.open_links.OpenLinks.{Links, OpenLink, facts_in, link_after, link_at, link_from, without_links}
 use Rattle.journal_acks.specs.open_links.declared.offers.Offer.{Offer}
 use Rattle.journal_acks.specs.open_links.declared.offers.Offer.TheVariants.{NoLink, Empty, Overflow, Kept}
 use Rattle.journal_acks.specs.link_calls.Turns.{change_if}
 use Rattle.journal_acks.proofs.link_calls.UnderHandles.{WasOpen, change_under, map_under}
 use Rattle.journal_acks.proofs.link_model.Pasts.{grows}
+use Rattle.journal_acks.proofs.link_model.Views.{Owed, Owing, Same, key_view}
 use Rattle.journal_ends.specs.Answering.{answers_if, answers_in_step}
+use Rattle.journal_ends.specs.Asked.{moment_in}
 use Rattle.journal_ends.specs.Seen.{Seen, asked_if, asked_in_step, seen_in_steps}
+use Rattle.journal_ends.proofs.NoWords.{drawn_alike}
 
 grows_by : (link : OpenLink) (step : Step) → facts_in (link_after step link) ≡ end_after link.setup (facts_in link) step
 grows_by link step = grows link.setup link.past step
 
 -- the step that a command asks of an end, in this slot
 abbrev pub step_of : ℕ → ℕ → OpenLink → Command → Option Step
-step_of handle slot link command = step_on handle command slot link.setup.link.role (facts_in link).peer
+step_of handle slot link command = step_on handle command (moment_in slot) link.setup.link.role (facts_in link).peer
 
 -- what is seen of that as asked
 abbrev pub asked_of : ℕ → ℕ → OpenLink → Command → List Seen
 asked_of handle slot link command = asked_if (step_of handle slot link command)
 
 -- what the host answers by it
-abbrev pub answers_of : ℕ → ℕ → OpenLink → Command → List (Result Ask ErrCode)
+abbrev pub answers_of : ℕ → ℕ → OpenLink → Command → List Step
 answers_of handle slot link command = answers_if (step_of handle slot link command)
 
--- a step that a host asks: no command asks for an encryption yet
+-- a step that a host asks
 abbrev pub IsHostStep : Step → Type 0
-IsHostStep (ProcedureAsked (Encrypt rand ediv ltk skd_m iv_m)) = ⊥
 IsHostStep (ProcedureAsked ask) = ⊤
 IsHostStep (RequestAnswered answer) = ⊤
+IsHostStep (KeyAnswered key slot) = ⊤
 IsHostStep (Disconnected reason slot) = ⊤
 IsHostStep step = ⊥
 
@@ -78,6 +82,11 @@ IfHostStep (Some step) = IsHostStep step
 abbrev pub control_asked : OpenLink → Option Step → Control
 control_asked base None = (facts_in base).control
 control_asked base (Some step) = (end_after base.setup (facts_in base) step).control
+
+-- its procedures, its phase and its keys after that
+abbrev pub keyed_asked : OpenLink → Option Step → Keyed
+keyed_asked base None = keyed_of (facts_in base)
+keyed_asked base (Some step) = keyed_of (end_after base.setup (facts_in base) step)
 
 -- it was asked what these commands ask, and noted nothing
 pub record IsAsked (handle slot : ℕ) (commands : List Command) (base after : OpenLink) : Type 0 where
@@ -91,6 +100,7 @@ pub record IsAsked (handle slot : ℕ) (commands : List Command) (base after : O
   pub commands_answer : flat_map (answers_of handle slot base) commands ≡ answers_if asked
   pub asks : (side : Side) (number : ℕ) → seen_in_steps side number base.setup (facts_in base) steps ≡ asked_if asked
   pub control_is : (facts_in after).control ≡ control_asked base asked
+  pub keyed_is : keyed_of (facts_in after) ≡ keyed_asked base asked
 
 pub record HasAsked (links : Links) (handle slot : ℕ) (commands : List Command) (after : OpenLink) : Type 0 where
   pub base : OpenLink
@@ -128,6 +138,7 @@ same_asked links handle slot commands after none at = record {
     commands_answer = (none after).answer;
     asks = λ side number. refl;
     control_is = refl;
+    keyed_is = refl;
   };
 }
 
@@ -137,12 +148,14 @@ host_seen : (side : Side) (number : ℕ) (setup : EndSetup) (facts : EndFacts) (
     → seen_in_steps side number setup facts (step ∷ []) ≡ asked_in_step step
 host_seen side number setup facts (ProcedureAsked ask) by_host = refl
 host_seen side number setup facts (RequestAnswered answer) by_host = refl
+host_seen side number setup facts (KeyAnswered key slot) by_host = refl
 host_seen side number setup facts (Disconnected reason slot) by_host = refl
 host_seen side number setup facts other by_host = absurd by_host
 
 host_notes : (setup : EndSetup) (facts : EndFacts) (step : Step) → IsHostStep step → notes_from setup facts (step ∷ []) ≡ []
 host_notes setup facts (ProcedureAsked ask) by_host = refl
 host_notes setup facts (RequestAnswered answer) by_host = refl
+host_notes setup facts (KeyAnswered key slot) by_host = refl
 host_notes setup facts (Disconnected reason slot) by_host = refl
 host_notes setup facts other by_host = absurd by_host
 
@@ -157,7 +170,7 @@ table_ends : (may : Bool) (table : TableFacts) (c : Control) → (table_if may t
 table_ends true table c = refl
 table_ends false table c = refl
 
-host_ends : (setup : EndSetup) (facts : EndFacts) (step : Step) → IsHostStep step → (end_after setup facts step).control.ends ≡ facts.control.ends
+pub host_ends : (setup : EndSetup) (facts : EndFacts) (step : Step) → IsHostStep step → (end_after setup facts step).control.ends ≡ facts.control.ends
 host_ends setup facts (ProcedureAsked ask) by_host = by (is_to_come ask facts)
   where
     by : (known : Bool) → (asked_unless known ask facts).control.ends ≡ facts.control.ends
@@ -165,6 +178,11 @@ host_ends setup facts (ProcedureAsked ask) by_host = by (is_to_come ask facts)
     by false = ends_moved (AsksFor ask) facts.control (λ c. refl)
 host_ends setup facts (RequestAnswered answer) by_host =
     ends_moved (Answers answer) facts.control (λ c. table_ends (is_host_asked c.table.progress && is_answer answer) (host_answer_step c.table answer) c)
+host_ends setup facts (KeyAnswered key slot) by_host = by (key_view key facts)
+  where
+    by : {d : Control} → Owing facts.control d → d.ends ≡ facts.control.ends
+    by (Same is) = ap (λ (c : Control). c.ends) is
+    by (Owed ctrl may is) = ap (λ (c : Control). c.ends) is ∙ ends_moved (Owes ctrl) facts.control (λ c. refl)
 host_ends setup facts (Disconnected reason slot) by_host =
     ends_moved (Disconnects reason) facts.control (λ c. table_ends (is_open c.table.closing) (terminate_step c.table reason) c)
 host_ends setup facts other by_host = absurd by_host
@@ -176,24 +194,19 @@ asked_goes_on base (Some step) by_host = host_ends base.setup (facts_in base) st
 
 -- ---- which commands ask
 
-unless_known : (known : Bool) (ask : Ask) → IsHostStep (ProcedureAsked ask) → IfHostStep (ask_unless known ask)
-unless_known true ask by_host = tt
-unless_known false ask by_host = by_host
-
-update_by_host : (role : Role) (min max latency timeout : ℕ) → IsHostStep (ProcedureAsked (update_by role min max latency timeout))
-update_by_host Central min max latency timeout = tt
-update_by_host Peripheral min max latency timeout = tt
+unless_known : (known : Bool) (ask : Ask) → IfHostStep (ask_unless known ask)
+unless_known true ask = tt
+unless_known false ask = tt
 
 map_by_host : (role : Role) (map : ℕ) → IfHostStep (map_by role map)
 map_by_host Central map = tt
 map_by_host Peripheral map = tt
 
-step_of_host : (command : Command) (slot : ℕ) (role : Role) (peer : PeerFacts) → IfHostStep (host_step_of command slot role peer)
-step_of_host (ReadRemoteVersion handle) slot role peer = unless_known (is_some peer.version) Version tt
-step_of_host (LeReadRemoteFeatures handle) slot role peer = unless_known (is_some peer.features) Features tt
-step_of_host (LeConnectionUpdate handle min max latency timeout lengths) slot role peer = update_by_host role min max latency timeout
-step_of_host (LeSetChannels map) slot role peer = map_by_host role map
-step_of_host other slot role peer = tt
+step_of_host : (command : Command) (moment : Moment) (role : Role) (peer : PeerFacts) → IfHostStep (host_step_of command moment role peer)
+step_of_host (ReadRemoteVersion handle) moment role peer = unless_known (is_some peer.version) Version
+step_of_host (LeReadRemoteFeatures handle) moment role peer = unless_known (is_some peer.features) Features
+step_of_host (LeSetChannels map) moment role peer = map_by_host role map
+step_of_host other moment role peer = tt
 
 one_answered : (view : View) (command : Command) → asks_links view command ≡ true → answered_commands (command ∷ []) ≡ command ∷ []
 one_answered view (HostCompleted counts) asks = absurd cc
@@ -211,6 +224,9 @@ none_asks view (LeSetPhy given all tx rx options) handle slot link none = absurd
 none_asks view (LeConnectionUpdate given min max latency timeout lengths) handle slot link none = absurd cc
 none_asks view (LeParamReply given min max latency timeout lengths) handle slot link none = absurd cc
 none_asks view (LeParamNegative given reason) handle slot link none = absurd cc
+none_asks view (LeEnableEncryption given rand ediv key) handle slot link none = absurd cc
+none_asks view (LeKeyReply given key) handle slot link none = absurd cc
+none_asks view (LeKeyNegative given) handle slot link none = absurd cc
 none_asks view (HostCompleted counts) handle slot link none = no_commands handle slot link
 none_asks view other handle slot link none = none_of handle slot other link refl
 
@@ -223,31 +239,35 @@ command_leaves other handle links after at = at
 
 -- ---- the link under a handle, after a command that asks
 
-asked_from : (command : Command) (slot first handle : ℕ) (links : Links)
-    → link_from first handle (links_commanded_from first command slot links)
-    ≡ place_commanded (is_about handle command) command slot (link_from first handle links)
-asked_from command slot first handle [] = none (is_about handle command)
+asked_from : (command : Command) (moment : Moment) (first handle : ℕ) (links : Links)
+    → link_from first handle (links_commanded_from first command moment links)
+    ≡ place_commanded (is_about handle command) command moment (link_from first handle links)
+asked_from command moment first handle [] = none (is_about handle command)
   where
-    none : (about : Bool) → None ≡ place_commanded about command slot None
+    none : (about : Bool) → None ≡ place_commanded about command moment None
     none true = refl
     none false = refl
-asked_from command slot first handle (place ∷ links) = by (first == handle) refl (asked_from command slot (first + 1) handle links)
+asked_from command moment first handle (place ∷ links) = by (first == handle) refl (asked_from command moment (first + 1) handle links)
   where
     by : (same : Bool) → (first == handle) ≡ same
-        → link_from (first + 1) handle (links_commanded_from (first + 1) command slot links)
-        ≡ place_commanded (is_about handle command) command slot (link_from (first + 1) handle links)
-        → (if same then place_commanded (is_about first command) command slot place
-        else link_from (first + 1) handle (links_commanded_from (first + 1) command slot links))
-        ≡ place_commanded (is_about handle command) command slot (if same then place else link_from (first + 1) handle links)
-    by true is rest = ap (λ (h : ℕ). place_commanded (is_about h command) command slot place) (eqb-true first handle is)
+        → link_from (first + 1) handle (links_commanded_from (first + 1) command moment links)
+        ≡ place_commanded (is_about handle command) command moment (link_from (first + 1) handle links)
+        → (if same then place_commanded (is_about first command) command moment place
+        else link_from (first + 1) handle (links_commanded_from (first + 1) command moment links))
+        ≡ place_commanded (is_about handle command) command moment (if same then place else link_from (first + 1) handle links)
+    by true is rest = ap (λ (h : ℕ). place_commanded (is_about h command) command moment place) (eqb-true first handle is)
     by false is rest = rest
 
-module _ (command : Command) (slot handle : ℕ) (links : Links) (after : OpenLink) where
+module _ (command : Command) (moment : Moment) (handle : ℕ) (links : Links) (after : OpenLink)
+    (wordless : (role : Role) (peer : PeerFacts) → host_step_of command moment role peer ≡ host_step_of command (moment_in moment.slot) role peer) where
+  abbrev slot : ℕ
+  slot = moment.slot
+
   abbrev step_for : OpenLink → Option Step
-  step_for link = host_step_of command slot link.setup.link.role (facts_in link).peer
+  step_for link = host_step_of command moment link.setup.link.role (facts_in link).peer
 
   step_is : (about : Bool) (link : OpenLink) → is_about handle command ≡ about → step_of handle slot link command ≡ step_if_about about (step_for link)
-  step_is about link is = ap (λ b. step_if_about b (step_for link)) is
+  step_is about link is = λ i. step_if_about (is i) (sym (wordless link.setup.link.role (facts_in link).peer) i)
 
   step_by_host : (link : OpenLink) (step : Option Step) → is_about handle command ≡ true → link_at handle links ≡ Some link
       → step_for link ≡ step → IfHostStep step → Some (link_after_if step link) ≡ Some after
@@ -271,6 +291,7 @@ module _ (command : Command) (slot handle : ℕ) (links : Links) (after : OpenLi
           commands_answer = none.answer;
           asks = λ side number. refl;
           control_is = ap (λ (l : OpenLink). (facts_in l).control) (sym same);
+          keyed_is = ap (λ (l : OpenLink). keyed_of (facts_in l)) (sym same);
         };
       }
   step_by_host link (Some step) about was is by_host same =
@@ -289,19 +310,20 @@ module _ (command : Command) (slot handle : ℕ) (links : Links) (after : OpenLi
           commands_answer = ap (λ asked. answers_if asked ++ []) one ∙ append-nil (answers_in_step step);
           asks = λ side number. host_seen side number link.setup (facts_in link) step by_host;
           control_is = ap (λ (l : OpenLink). (facts_in l).control) (sym now) ∙ ap (λ (f : EndFacts). f.control) (grows_by link step);
+          keyed_is = ap (λ (l : OpenLink). keyed_of (facts_in l)) (sym now) ∙ ap (λ (f : EndFacts). keyed_of f) (grows_by link step);
         };
       }
 
   place_asked : (about : Bool) (place : Option OpenLink) → is_about handle command ≡ about → link_at handle links ≡ place
-      → place_commanded about command slot place ≡ Some after → HasAsked links handle slot (command ∷ []) after
+      → place_commanded about command moment place ≡ Some after → HasAsked links handle slot (command ∷ []) after
   place_asked false place about was at =
       same_asked links handle slot (command ∷ []) after (λ link. none_of handle slot command link (step_is false link about)) (was ∙ at)
   place_asked true None about was at = absurd cc
   place_asked true (Some link) about was at =
-      step_by_host link (step_for link) about was refl (step_of_host command slot link.setup.link.role (facts_in link).peer) at
+      step_by_host link (step_for link) about was refl (step_of_host command moment link.setup.link.role (facts_in link).peer) at
 
-  command_asked : link_at handle (links_commanded command slot links) ≡ Some after → HasAsked links handle slot (command ∷ []) after
-  command_asked at = place_asked (is_about handle command) (link_at handle links) refl refl (sym (asked_from command slot 0 handle links) ∙ at)
+  command_asked : link_at handle (links_commanded command moment links) ≡ Some after → HasAsked links handle slot (command ∷ []) after
+  command_asked at = place_asked (is_about handle command) (link_at handle links) refl refl (sym (asked_from command moment 0 handle links) ∙ at)
 
 -- ---- what an octet completes
 
@@ -310,7 +332,7 @@ module _ (setup : Setup) (facts : Facts) (handle : ℕ) (after : OpenLink) where
   Asked commands = HasAsked facts.links handle facts.turn.begun (answered_commands commands) after
 
   known_asked : (command : Command) (took asks : Bool) → (status_of facts.view command == 0) ≡ took → asks_links facts.view command ≡ asks
-      → link_at handle (facts_asking (took && asks) facts command (facts_known took setup facts command)).links ≡ Some after
+      → link_at handle (facts_asking (took && asks) setup facts command (facts_known took setup facts command)).links ≡ Some after
       → Asked (cond took (command ∷ []) [])
   known_asked command false asks took is at = same_asked facts.links handle facts.turn.begun [] after (no_commands handle facts.turn.begun) at
   known_asked command true false took is at =
@@ -318,7 +340,7 @@ module _ (setup : Setup) (facts : Facts) (handle : ℕ) (after : OpenLink) where
       (λ link. none_asks facts.view command handle facts.turn.begun link is) (command_leaves command handle facts.links after at)
   known_asked command true true took is at =
       subst (λ commands. HasAsked facts.links handle facts.turn.begun commands after) (sym (one_answered facts.view command is))
-      (command_asked command facts.turn.begun handle facts.links after at)
+      (command_asked command (moment_of setup facts) handle facts.links after (drawn_alike facts.view command took (moment_of setup facts)) at)
 
   read_asked : (read : CmdRead) → link_at handle (facts_commanded setup facts read).links ≡ Some after → Asked (commands_accepted_by facts read)
   read_asked (Known command) at = known_asked command (status_of facts.view command == 0) (asks_links facts.view command) refl refl at
@@ -346,6 +368,7 @@ module _ (setup : Setup) (facts : Facts) (handle : ℕ) (after : OpenLink) where
           asks = λ side number. refl;
           control_is = ap (λ (l : OpenLink). (facts_in l).control) same
               ∙ ap (λ (f : EndFacts). f.control) (grows_by was.link (DataGiven start body));
+          keyed_is = ap (λ (l : OpenLink). keyed_of (facts_in l)) same ∙ ap (λ (f : EndFacts). keyed_of f) (grows_by was.link (DataGiven start body));
         };
       }
 

@@ -19,7 +19,7 @@ use Rattle.journal_acks.specs.open_links.OpenLinks.{OpenLink, facts_in, link_aft
 use Rattle.journal_acks.specs.run_laws.Ends.{link_listened}
 use Rattle.journal_acks.specs.run_model.Due.{Each}
 use Rattle.journal_acks.specs.run_model.Feeding.{AreDistinct}
-use Rattle.journal_acks.specs.run_model.History.{Event, TurnBegan, HostFed, Called, Noted, Transmitted, has_received, is_good, packet_received, past_of, turns_begun}
+use Rattle.journal_acks.specs.run_model.History.{Event, TurnBegan, HostFed, Called, Noted, Transmitted, is_good, packet_received, past_of, turns_begun}
 use Rattle.journal_acks.specs.run_model.Journal.{journal_of, side_of}
 use Rattle.journal_acks.specs.run_model.LinkEnds.{HaveAddresses}
 use Rattle.journal_acks.specs.run_model.Links.{is_advertising}
@@ -43,7 +43,7 @@ use Rattle.journal_acks.proofs.run_laws.TurnPlaces.{Between, Within, at_stage, e
 use Rattle.journal_acks.proofs.run_model.Calls.{past_own, turns_called, turns_same}
 use Rattle.journal_acks.proofs.run_model.Fates.{turns_are}
 use Rattle.journal_acks.proofs.run_model.Fronts.{front_at}
-use Rattle.journal_acks.proofs.run_model.LinkEnds.{AreTaken, IsUnderstood, received_by, received_event}
+use Rattle.journal_acks.proofs.run_model.LinkEnds.{AreTaken, IsUnderstood, received_by, received_event, received_own}
 use Rattle.journal_acks.proofs.run_model.Notes.{NotedBefore, run_noted}
 use Rattle.journal_acks.proofs.run_model.Numbers.{numbered_at}
 use Rattle.journal_acks.proofs.run_model.Places.{each_at, each_called, each_event}
@@ -57,7 +57,7 @@ use Rattle.journal_acks.proofs.open_links.Handles.{handle_is as handle_under}
 use Rattle.journal_acks.proofs.HeardLines.{AreUnheard, IsUnheard, advertised_heard, feed_heard, none_unheard, turn_heard, unheard_called, unheard_event_at, unheard_packet_of}
 use Rattle.journal_acks.specs.link_calls.Uses.{listens_under}
 use Rattle.journal_acks.proofs.Standing.{PhasedBy, listens_wanted, phased_at, sending_on_link}
-use Rattle.journal_acks.proofs.TwoStations.{IsOfTwo, hearing_of, one_hearing, other_is, own_differs, own_received}
+use Rattle.journal_acks.proofs.TwoStations.{IsOfTwo, hearing_of, one_hearing, other_is}
 use Rattle.journal_ends.specs.Answering.{answers_from, answers_if}
 use Rattle.journal_ends.specs.Seen.{asked_if, heard_next, heard_where, seen_from}
 use Rattle.journal_ends.proofs.EndsKnown.{AreLined, begun_at, known_kept, lined_at, lined_before}
@@ -391,13 +391,10 @@ module _ (understood : IsUnderstood) (taken : AreTaken) (nth : AreNth) (apart : 
       → IsSilent given (AtPackets phases done (station ∷ left)) history
       → IsSilent given (AtPackets phases (done ++ station ∷ []) left) (history ++ Transmitted station channel octets (hearings_of given fates station channel octets history) ∷ [])
   packet_silent phases done left station channel octets fates history in_it silent = λ other sender is_other is_sender differs out.
-      let hearing = hearing_of given fates station channel octets history in
       let not = not_yet sender done station out (sender == station) refl in
       let one = other_is given are_two sender station is_sender in_it (differs_back sender station not.0) ∙ sym (other_is given are_two sender other is_sender is_other differs) in
-      received_event other history (Transmitted station channel octets (hearings_of given fates station channel octets history))
-      ∙ ap (λ xs. if has_received other xs then Some octets else packet_received other history) (one_hearing given are_two fates station channel octets history in_it)
-      ∙ ap (λ b. if b then Some octets else packet_received other history)
-      (ap (λ n. has_received n (hearing ∷ [])) (sym one) ∙ own_received station hearing (own_differs station))
+      subst (λ n. packet_received n (history ++ Transmitted station channel octets (hearings_of given fates station channel octets history) ∷ []) ≡ packet_received n history) one
+      (received_own given fates station channel octets history)
       ∙ silent other sender is_other is_sender differs not.1
 
   -- before a packet no station has one to take: nothing was heard of its sender, which does not listen

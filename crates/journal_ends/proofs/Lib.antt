@@ -1,10 +1,11 @@
 -- The lemmas of this crate.
 pub mod SeenLists
 pub mod PastSeen
+pub mod WordedLinks
 pub mod GrownLinks
+pub mod NoWords
 pub mod HostedLinks
 pub mod StandingLinks
-pub mod PeersTaken
 pub mod PeersKnown
 pub mod SeenEvents
 pub mod AskedCalls

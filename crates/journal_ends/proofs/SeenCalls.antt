@@ -30,7 +30,7 @@ use Rattle.journal_acks.proofs.Counting.{IsBegun, facts_event}
 use Rattle.journal_acks.proofs.link_calls.CallNotes.{OpensNone}
 use Rattle.journal_acks.proofs.Exchanging.{number_at, number_called, number_other}
 use Rattle.journal_acks.proofs.HeardLines.{AreUnheard, unheard_called, unheard_now}
-use Rattle.journal_acks.specs.link_calls.Phases.{HasPassed, IsNew, Stays, Takes}
+use Rattle.journal_acks.specs.link_calls.Phases.{HasPassed, IsNew, Stays, Takes, link_worded}
 use Rattle.journal_acks.proofs.link_calls.LinkCalls.{IsOpenedNow, passes_under, phase_quiet}
 use Rattle.journal_acks.specs.link_calls.Uses.{listens_under, sends_under}
 use Rattle.journal_acks.proofs.Standing.{PhasedBy}
@@ -40,6 +40,7 @@ use Rattle.journal_ends.proofs.GrownLinks.{HasTaken, IsGrown, grown_same, taken_
 use Rattle.journal_ends.proofs.PastSeen.{deaf_say, first_heard, past_new}
 use Rattle.journal_ends.proofs.SeenEvents.{IsSaying, call_says, grows_seen, lines_at, seen_at}
 use Rattle.journal_ends.proofs.SeenLists.{seen_unheard}
+use Rattle.journal_ends.proofs.WordedLinks.{IsWordedAs, worded_as, worded_verdict}
 
 -- ---- what is expected
 
@@ -221,15 +222,17 @@ module _ (given : Given) where
         pub hosted_own : seen_at own side after ≡ seen_in_link own side link → IsSeenThen
         hosted_own seen = seen_then number seen
 
-        -- it takes a packet
-        pub taking_own : IsInTurn step → (slot : ℕ) (octets : List ℕ) (room : Bool) → HasTaken slot octets room base link
+        -- it takes a packet, with the words that it was given before
+        pub taking_own : IsInTurn step → (slot : ℕ) (octets : List ℕ) (room : Bool) (worded : OpenLink) → IsWordedAs base worded → HasTaken slot octets room worded link
             → seen_at own side history ≡ seen_in_link own side base ++ heard_where (is_good (verdict_of base.setup (facts_in base) octets)) slot octets → IsSeenThen
-        taking_own turn slot octets room takes seen =
+        taking_own turn slot octets room worded given takes seen =
             let took = PacketReceived slot octets room in
             seen_then number
-            (grows_seen own side base.setup base.past (took ∷ takes.steps) (heard_in_step base.setup (facts_in base) took) history after (saying turn) lines_before
+            (grows_seen own side worded.setup worded.past (took ∷ takes.steps) (heard_in_step worded.setup (facts_in worded) took) history after (saying turn)
+            (lines_before ∙ sym (ap (map (line_of side own)) given.notes))
             (lines_now ∙ (λ i. map (line_of side own) (notes_opened_on (takes.setup_is i) (takes.past_is i))))
-            (first_heard side own base.setup (facts_in base) took takes.steps refl takes.deaf) seen
+            (first_heard side own worded.setup (facts_in worded) took takes.steps refl takes.deaf)
+            (seen ∙ sym (λ i. given.seen side own i ++ heard_where (is_good (worded_verdict base worded given octets i)) slot octets))
             ∙ sym (λ i. seen_of side own (takes.setup_is i) (takes.past_is i)))
 
       -- the link is one of this turn
@@ -281,16 +284,18 @@ module _ (given : Given) (station : ℕ) (history : List Event) (phases : ℕ) (
       fresh_own given station (step_of taken) history in_it lined lined_after handle link at (packet_received station next) none_next unheard (begun_after handle link at) now new
 
   passed : (handle : ℕ) (link : OpenLink) → link_at handle (facts_at given station next).links ≡ Some link → number_at station handle next ≡ number_at station handle history
-      → HasPassed facts (has_room (setup_at given station) facts) taken handle (facts_after (setup_at given station) facts (step_of taken)).turn.doing link → IsSeenNow handle link
+      → HasPassed (setup_at given station) facts (has_room (setup_at given station) facts) taken handle (facts_after (setup_at given station) facts (step_of taken)).turn.doing link → IsSeenNow handle link
   passed handle link at number (IsNew end made opened off) = fresh handle link at (ap (λ (l : OpenLink). l.setup.opened) made ∙ opened) (ap (λ (l : OpenLink). l.past) made)
   passed handle link at number (Stays was none nothing listened) =
       quiet_own given station (step_of taken) history in_it lined lined_after handle link at (packet_received station next) none_next number link was (phase_turn taken) (grown_same link)
       (whole taken handle facts.turn link (number_at station handle history) (side_of station) history nothing (seen station handle link in_it was))
   passed handle link at number (Takes base octets was some on same) =
-      let room = has_room (setup_at given station) facts in
+      let setup = setup_at given station in
+      let room = has_room setup facts in
+      let worded = link_worded setup facts facts.turn.doing base in
       let sends = sends_under handle (facts_after (setup_at given station) facts (step_of taken)).turn.doing in
       taking_own given station (step_of taken) history in_it lined lined_after handle link at (packet_received station next) none_next number base was (phase_turn taken) facts.turn.slot octets room
-      (taken_grown sends handle room octets facts base link same)
+      worded (worded_as setup facts facts.turn.doing base) (taken_grown sends handle room octets facts worded link same)
       (seen station handle base in_it was ∙ (λ i. seen_in_link (number_at station handle history) (side_of station) base ++ to_hear (on i) (some i) facts.turn.slot base))
 
   pub passes_own : (handle : ℕ) (link : OpenLink) → link_at handle (facts_at given station next).links ≡ Some link → IsSeenNow handle link

@@ -31,7 +31,7 @@ use Rattle.journal_acks.proofs.run_laws.Hearings.{wanted_is}
 use Rattle.journal_acks.proofs.run_laws.OwnLinks.{sent_begins}
 use Rattle.journal_acks.proofs.run_laws.TurnPlaces.{AllStand, Within, at_stage}
 use Rattle.journal_acks.proofs.run_model.Fates.{turns_are}
-use Rattle.journal_acks.proofs.run_model.LinkEnds.{is_listener, received_event}
+use Rattle.journal_acks.proofs.run_model.LinkEnds.{is_listener, received_own, received_packet}
 use Rattle.journal_acks.proofs.run_model.Stations.{is_in, among}
 use Rattle.journal_acks.proofs.run_model.Walk.{AtPackets, Place}
 use Rattle.journal_acks.proofs.Counting.{facts_event}
@@ -39,7 +39,7 @@ use Rattle.journal_acks.proofs.Exchanging.{number_at, number_sent}
 use Rattle.journal_acks.proofs.HeardLines.{far_side, own_side}
 use Rattle.journal_acks.specs.link_calls.Uses.{listens_under}
 use Rattle.journal_acks.proofs.Standing.{AreOne, PhasedBy, listener_role, one_listened, other_listens, phased_at, sender_role, sends_on}
-use Rattle.journal_acks.proofs.TwoStations.{IsListening, IsOfTwo, good_begins, hearing_of, judged, link_listens, one_hearing, other_is, other_of, other_received, own_differs, own_received, same_number, side_other, unchanged}
+use Rattle.journal_acks.proofs.TwoStations.{IsListening, IsOfTwo, good_handed, handed_begins, hearing_of, judged, link_listens, one_hearing, other_is, other_of, other_received, same_number, side_other, unchanged}
 use Rattle.journal_ends.specs.Seen.{heard_where}
 use Rattle.journal_ends.proofs.EndsKnown.{fits_at, own_numbers}
 use Rattle.journal_ends.proofs.SeenCalls.{AreSeenSo, IsSeenAt, from_whole, moved, seen_in_link, to_hear, whole}
@@ -108,9 +108,7 @@ module _ (nth : AreNth) (apart : AreApart) (given : Given) (are_two : IsOfTwo gi
       let number = number_at station handle history in
       moved handle link side after (packet_received station history) (packet_received station after) (facts station).turn (facts_at given station after).turn
       number (number_at station handle after)
-      (received_event station history (Transmitted station channel octets hearings)
-      ∙ ap (λ xs. if has_received station xs then Some octets else packet_received station history) has_one
-      ∙ ap (λ b. if b then Some octets else packet_received station history) (own_received station hearing (own_differs station)))
+      (received_own given fates station channel octets history)
       (ap (λ (f : Facts). f.turn) (same_facts station)) (number_sent station handle history station channel octets hearings)
       (packet_unseen number side station channel octets history hearings hearing has_one
       (unheard_bad number side history station channel octets hearing (ap (λ b. b && is_good hearing.verdict) (own_side station)))
@@ -199,7 +197,7 @@ module _ (nth : AreNth) (apart : AreApart) (given : Given) (are_two : IsOfTwo gi
               (ap (take 4) sent.packet ∙ sent_begins sent.link.setup (facts_in sent.link)))
               ∙ ap (λ s. first_number s octets 1 (links_begun (journal_of history))) centrals
               ∙ fits_at given are_two here history known nth apart other handle link octets is_too is_open
-              (good_begins link.setup (facts_in link) octets good_there) in cc
+              (handed_begins link.setup (facts_in link) octets (good_handed (verdict_of_end link.setup (facts_in link) octets) good_there)) in cc
 
           taken_then : IsSeenThen true handle link
           taken_then =
@@ -261,7 +259,7 @@ module _ (nth : AreNth) (apart : AreApart) (given : Given) (are_two : IsOfTwo gi
           subst (λ n. IsSeenAt (packet_received n after) handle (facts_at given n after).turn link (number_at n handle after) (side_of n) after) (sym equal)
           (moved handle link (side_of other) after (if has_received other hearings then Some octets else packet_received other history) (packet_received other after)
           (facts other).turn (facts_at given other after).turn (number_at other handle history) (number_at other handle after)
-          (received_event other history (Transmitted station channel octets hearings)) (ap (λ (f : Facts). f.turn) (same_facts other))
+          (received_packet given fates other station channel octets history unseen) (ap (λ (f : Facts). f.turn) (same_facts other))
           (number_sent other handle history station channel octets hearings)
           (other_aired is_too (is_advertising channel) refl unseen (silent other is_too (subst (λ n. (n == station) ≡ false) equal differs)) handle link
           (subst (λ n. link_at handle (facts_at given n history).links ≡ Some link) equal is_open)))

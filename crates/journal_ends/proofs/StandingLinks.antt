@@ -6,7 +6,7 @@ use Rattle.journal_acks.specs.controller_model.Facts.{Setup, Facts, first_facts}
 use Rattle.journal_acks.specs.controller_model.Heard.{has_room}
 use Rattle.journal_acks.specs.controller_model.Side.{facts_after, facts_of}
 use Rattle.journal_acks.specs.controller_model.Step.{Step as Call}
-use Rattle.journal_acks.specs.link_calls.Phases.{HasPassed, IsNew, Stays, Takes}
+use Rattle.journal_acks.specs.link_calls.Phases.{HasPassed, IsNew, Stays, Takes, link_worded}
 use Rattle.journal_acks.specs.link_calls.Uses.{sends_under}
 use Rattle.journal_acks.specs.link_model.Times.{ended_by_procedures}
 use Rattle.journal_acks.specs.link_model.control_model.Control.{Control}
@@ -20,6 +20,7 @@ use Rattle.journal_acks.proofs.run_laws.OpenSteps.{none_open, open_has}
 use Rattle.journal_acks.proofs.run_laws.Entering.{IsInTurn, turn_first, turn_kept}
 use Rattle.journal_acks.proofs.run_laws.TurnPlaces.{Between, IsTurned, Stage, Within, at_stage, standing, turned}
 use Rattle.journal_ends.proofs.GrownLinks.{begun_grown, ended_grown, taken_grown}
+use Rattle.journal_ends.proofs.WordedLinks.{worded_as}
 use Rattle.journal_ends.proofs.HostedLinks.{asked_goes_on, octet_asked}
 
 -- no procedure of an open link ended it
@@ -48,15 +49,16 @@ stays_on : (link : OpenLink) → ending_in link ≡ None → (facts_in link).con
 stays_on link is = none_ends (facts_in link).leaving.acknowledged (facts_in link).control.ends (facts_in link).leaving _ is
 
 passed_older : (setup : Setup) (facts : Facts) (phases begun : ℕ) (received : Option (List ℕ)) (handle : ℕ) (after : OpenLink) → AreOlder setup (Within phases) begun facts
-    → HasPassed facts (has_room setup facts) received handle (facts_after setup facts (step_of received)).turn.doing after → after.setup.opened < begun
+    → HasPassed setup facts (has_room setup facts) received handle (facts_after setup facts (step_of received)).turn.doing after → after.setup.opened < begun
 passed_older setup facts phases begun received handle after are (IsNew end made opened off) =
     let slot = are.in_turn.slot_is in
     let at : after.setup.opened ≡ facts.turn.slot = ap (λ (l : OpenLink). l.setup.opened) made ∙ opened in
     omega (arith, slot, at)
 passed_older setup facts phases begun received handle after are (Stays was none nothing listened) = are.older handle after was
 passed_older setup facts phases begun received handle after are (Takes link octets was some on same) =
-    let taken = taken_grown (sends_under handle (facts_after setup facts (step_of received)).turn.doing) handle (has_room setup facts) octets facts link after same in
-    same_opened begun link after taken.setup_is (are.older handle link was)
+    let base = link_worded setup facts facts.turn.doing link in
+    let taken = taken_grown (sends_under handle (facts_after setup facts (step_of received)).turn.doing) handle (has_room setup facts) octets facts base after same in
+    same_opened begun link after (taken.setup_is ∙ (worded_as setup facts facts.turn.doing link).setup_is) (are.older handle link was)
 
 one_later : (n m : ℕ) → n < m → n < m + 1
 one_later n m less = omega (arith, less)

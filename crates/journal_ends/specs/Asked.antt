@@ -6,6 +6,7 @@ use Rattle.ble_base.specs.declared.roles.Side.{Side}
 use Rattle.hci_cmd.specs.declared.command.Command.{Command}
 use Rattle.journal.specs.declared.entries.Entry.{Entry}
 use Rattle.journal.specs.declared.entries.Entry.TheVariants.{Opened, Shut, Took}
+use Rattle.journal_acks.specs.controller_model.link_commands.declared.moments.Moment.{Moment}
 use Rattle.journal_acks.specs.controller_model.link_commands.Commands.{step_on}
 use Rattle.journal_acks.specs.journal_links.Begun.{LinkBegun, link_numbered}
 use Rattle.journal_acks.specs.journal_links.LinkLines.{lines_of}
@@ -41,9 +42,13 @@ peer_by lines = fold peer_after no_peer lines
 
 -- ---- a command in the turn of a slot
 
+-- no command is accepted yet for which a side draws random words
+abbrev pub moment_in : ℕ → Moment
+moment_in slot = record { slot = slot; skd_m = 0; iv_m = 0 }
+
 abbrev pub step_if_open : Option (ℕ × Role) → PeerFacts → ℕ → Command → Option Step
 step_if_open None peer slot command = None
-step_if_open (Some (handle, role)) peer slot command = step_on handle command slot role peer
+step_if_open (Some (handle, role)) peer slot command = step_on handle command (moment_in slot) role peer
 
 -- the step that a command asks of the end with these lines
 abbrev pub step_by : List Entry → ℕ → Command → Option Step

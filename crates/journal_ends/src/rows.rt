@@ -6,7 +6,7 @@ ghost use Rattle.journal.specs.declared.entries.Entry.TheVariants.{Enter, Opened
 ghost use Rattle.journal_acks.specs.run_model.Rows.{first_reply};
 ghost use Rattle.journal_acks.specs.Rows.{data_acknowledged, data_packet, data_pdu, more_packet};
 ghost use Rattle.journal_acks.specs.Rows.{reply_packet};
-ghost use Rattle.journal_acks.specs.link_model.Step.{Disconnected, ProcedureAsked};
+ghost use Rattle.journal_acks.specs.link_model.Step.{Disconnected, ProcedureAsked, RequestAnswered};
 ghost use Rattle.journal_acks.specs.link_model.procedure_values.declared.asks.Ask.TheVariants.{Update, Version};
 ghost use Rattle.journal_ends.specs.Rows.{asked_of_central, ended_by_central, refused_to_central};
 ghost use Rattle.journal_ends.specs.Answering.{answers_from};
@@ -51,9 +51,10 @@ pub fn worked_asks()
 /// the command is refused, nor at the other end, nor on another link. Such an answer is not among
 /// what is seen of the end, and another command is none.
 pub fn worked_answers()
-    ensures passes { answers_from B 1 next_turn replied ≡ Ok (Update 24 0 72) ∷ [] }
+    ensures passes { answers_from B 1 next_turn replied
+        ≡ RequestAnswered (Ok (Update 24 0 72)) ∷ [] }
     ensures refuses { answers_from B 1 next_turn replied_negatively
-        ≡ Err (record { 0 = 0x3B }) ∷ [] }
+        ≡ RequestAnswered (Err (record { 0 = 0x3B })) ∷ [] }
     ensures refused { answers_from B 1 next_turn (reply_command ∷ reply_answer 0x20 0x0C ∷ [])
         ≡ [] }
     ensures peripheral { answers_from A 1 next_turn replied ≡ [] }

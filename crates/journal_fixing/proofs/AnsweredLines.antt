@@ -1,21 +1,18 @@
 -- The line of a new PDU in the middle of the call in which a peripheral takes a packet: it says the PDU with which the
 -- peripheral answers.
 use Rattle.std.proofs.Common.{◌≡◌, ℕ, ◌&&◌, not, Bool, true, false, Option, Some, None, List, [], ◌∷◌, ◌++◌, map, refl, sym, ap, subst, ◌∙◌, append_assoc, if◌then◌else◌}
-use Rattle.std.specs.Prelude.{All, ⊤}
+use Rattle.std.specs.Prelude.{All, IfSome, ⊤}
 use Rattle.std.proofs.lemmas.Bool.{eq-eqb}
 use Rattle.std.proofs.lemmas.List.Elements.{All-append, All-cons, All-head, All-nil, All-tail}
 use Rattle.ble_base.specs.declared.notes.Note.{Note}
 use Rattle.ble_base.specs.declared.notes.Note.TheVariants.{Up as UpNote, Sent as SentNote}
-use Rattle.ble_base.specs.declared.roles.Role.{Role}
-use Rattle.ble_base.specs.declared.roles.Role.TheVariants.{Central, Peripheral}
 use Rattle.ble_base.specs.declared.roles.Side.{Side}
 use Rattle.journal_controls.specs.controller_model.Facts.{Facts, Setup}
-use Rattle.journal_controls.specs.controller_model.Heard.{has_room, link_heard, link_received, replies_in, reply_if}
+use Rattle.journal_controls.specs.controller_model.Heard.{has_room, link_heard, link_received, refusal_in, replies_in, reply_if}
 use Rattle.journal_controls.specs.controller_model.Outcome.{notes_passed}
 use Rattle.journal_controls.specs.controller_model.Packets.{notes_doing, notes_sent}
 use Rattle.journal_controls.specs.controller_model.Side.{notes_after}
 use Rattle.journal_controls.specs.controller_model.Step.{PacketHeard}
-use Rattle.journal_controls.specs.journal_acks.link_calls.Phases.{link_receiving, refuses_at}
 use Rattle.journal_controls.specs.journal_acks.link_calls.Uses.{listens_under}
 use Rattle.journal_controls.specs.journal_ends.open_links.OpenLinks.{OpenLink, facts_in, link_after, link_at}
 use Rattle.journal_controls.specs.link_model.Acknowledgement.{Pdu, is_acked}
@@ -24,11 +21,9 @@ use Rattle.journal_controls.specs.link_model.Data.{is_empty, next_piece, numbere
 use Rattle.journal_controls.specs.link_model.End.{facts_after as end_after}
 use Rattle.journal_controls.specs.link_model.Facts.{Facts as EndFacts, keyed_of}
 use Rattle.journal_controls.specs.link_model.Fixing.{data_cut}
-use Rattle.journal_controls.specs.link_model.Packets.{good_pdu}
-use Rattle.journal_controls.specs.link_model.Receiving.{replies_by, replies_of}
 use Rattle.journal_controls.specs.link_model.Sending.{sent_notes_if}
 use Rattle.journal_controls.specs.link_model.Setup.{Setup as EndSetup}
-use Rattle.journal_controls.specs.link_model.Step.{PacketReceived}
+use Rattle.journal_controls.specs.link_model.Step.{Step, PacketReceived}
 use Rattle.journal_controls.specs.link_model.keyed_control.Keyed.{Keyed}
 use Rattle.journal_controls.specs.run_model.History.{Event, Called, Noted, past_of}
 use Rattle.journal_controls.specs.run_model.Journal.{journal_of, side_of}
@@ -41,9 +36,13 @@ use Rattle.journal_controls.proofs.journal_acks.NewPdus.{first_part}
 use Rattle.journal_controls.proofs.journal_acks.PhaseNotes.{IsOnLink, IsPhaseOf, IsPlainPhase, phase_of}
 use Rattle.journal_controls.proofs.journal_acks.TwoStations.{IsOfTwo}
 use Rattle.journal_controls.proofs.journal_acks.link_calls.CallNotes.{HasNoData, OpensNone}
-use Rattle.journal_controls.proofs.journal_acks.link_calls.LinkCalls.{IsOfTakes, received_noted, received_quiet, receiving_setup}
-use Rattle.journal_controls.proofs.journal_acks.link_calls.Refusals.{only_central_refuses}
-use Rattle.journal_controls.proofs.journal_ends.run_laws.Agreed.{step_facts}
+use Rattle.journal_controls.proofs.journal_acks.Worded.{link_worded, received_setup_is, worded, worded_here, worded_setup}
+use Rattle.journal_controls.proofs.journal_acks.link_calls.LinkCalls.{IsOfTakes, received_noted, received_quiet}
+use Rattle.journal_controls.proofs.controller_model.Places.{link_receiving, refused_if as places_refused}
+use Rattle.journal_controls.proofs.journal_ends.GrownLinks.{IsRefusal, refusal_in_is}
+use Rattle.journal_controls.proofs.EndSteps.{good_leave}
+use Rattle.journal_controls.proofs.Replies.{IsReply, replies_as, worded_reply, words_are}
+use Rattle.journal_controls.proofs.SendsAlike.{SendsAlike, alike_fixed, alike_then, answered_alike, given_alike}
 use Rattle.journal_controls.proofs.journal_ends.run_laws.DistinctAccess.{AreApart}
 use Rattle.journal_controls.proofs.journal_packets.AccessOrder.{AreNth}
 use Rattle.journal_controls.proofs.link_model.Hearing.{IsHeardWhole}
@@ -53,7 +52,6 @@ use Rattle.journal_controls.proofs.run_model.Stations.{is_in}
 use Rattle.journal_fixing.specs.NextPdu.{pdu_next}
 use Rattle.journal_fixing.specs.OnLines.{control_fixing, control_going}
 use Rattle.journal_fixing.specs.PastFixing.{facts_fixing}
-use Rattle.journal_fixing.proofs.FixingLinks.{unrefused}
 use Rattle.journal_fixing.proofs.SaidPdus.{IsSentNew, left_true}
 use Rattle.journal_fixing.proofs.SentPdus.{answer_by_lines, fixing_in_call}
 
@@ -84,22 +82,6 @@ note_sent handle count facts true is =
 note_in : (P : Note → Type 0) (earlier later : List Note) (note : Note) → All P (earlier ++ note ∷ later) → P note
 note_in P [] later note all = All-head P note later all
 note_in P (first ∷ earlier) later note all = note_in P earlier later note (All-tail P first (earlier ++ note ∷ later) all)
-
--- an end that replies is a peripheral, and the packet is good
-pub record IsReply (setup : EndSetup) (facts : EndFacts) (octets : List ℕ) : Type 0 where
-  pub role : setup.link.role ≡ Peripheral
-  pub pdu : List ℕ
-  pub good : good_pdu setup facts octets ≡ Some pdu
-
-reply_by : (setup : EndSetup) (facts : EndFacts) (octets : List ℕ) (role : Role) (ended : Bool) (found : Option (List ℕ)) → setup.link.role ≡ role → good_pdu setup facts octets ≡ found
-    → replies_by role ended found ≡ true → IsReply setup facts octets
-reply_by setup facts octets Central ended found role_is good is = absurd cc
-reply_by setup facts octets Peripheral ended None role_is good is = absurd cc
-reply_by setup facts octets Peripheral ended (Some pdu) role_is good is = record { role = role_is; pdu = pdu; good = good }
-
-pub replies_as : (setup : EndSetup) (facts : EndFacts) (slot : ℕ) (octets : List ℕ) (room : Bool) → replies_of setup facts slot octets room ≡ true → IsReply setup facts octets
-unfolding replies_of
-replies_as setup facts slot octets room is = reply_by setup facts octets setup.link.role _ (good_pdu setup facts octets) refl refl is
 
 -- a note of a new PDU is under this handle
 abbrev IsUnder : ℕ → Note → Type 0
@@ -134,12 +116,6 @@ module _ (setup : Setup) (facts : Facts) (octets : List ℕ) (handle count llid 
   abbrev room : Bool
   room = has_room setup facts
 
-  abbrev taken : OpenLink
-  taken = link_receiving handle room octets facts link
-
-  abbrev replies : Bool
-  replies = replies_in slot room (link_at handle facts.links) octets
-
   abbrev answering : EndFacts
   answering = end_after link.setup (facts_in link) (PacketReceived slot octets room)
 
@@ -150,26 +126,33 @@ module _ (setup : Setup) (facts : Facts) (octets : List ℕ) (handle count llid 
     new : IsSentNew true answering (record { llid = llid; body = body })
     opens : All (OpensNone handle) earlier
 
-  -- the notes of a packet that a link takes are under its handle
-  reply_under : (other : ℕ) (base : OpenLink) → link_at other facts.links ≡ Some base → (answers : Bool)
-      → All (IsUnder other) (notes_doing (reply_if answers other) (link_received other room octets facts))
-  reply_under other base is false = All-nil (IsUnder other)
-  reply_under other base is true =
-      let receiving = link_receiving other room octets facts base in
-      subst (All (IsUnder other)) (sym (ap (notes_sent slot) (received_at other octets room facts base is)))
+  -- the notes of a packet that a link takes are under its handle, whether it was given words before or not
+  reply_under : (words : Bool) (other : ℕ) (base : OpenLink) → link_at other facts.links ≡ Some base → (answers : Bool)
+      → All (IsUnder other) (notes_doing (reply_if answers other) (link_received other room octets (worded words setup other facts)))
+  reply_under words other base is false = All-nil (IsUnder other)
+  reply_under words other base is true =
+      let worded_facts = worded words setup other facts in
+      let there = link_worded words setup facts base in
+      let receiving = link_receiving other room octets worded_facts there in
+      subst (All (IsUnder other)) (sym (ap (notes_sent slot) (received_at other octets room worded_facts there (worded_here words setup other facts (Some base) is))))
       (under_if other receiving.setup.link.handle (numbered (facts_in receiving).acknowledgement.sent) (pdu_fixed (facts_in receiving))
       (is_acked (facts_in receiving).acknowledgement && not (is_empty (pdu_fixed (facts_in receiving))))
-      (ap (λ (end : EndSetup). end.link.handle) (receiving_setup other room octets facts base) ∙ handle_is 0 other facts.links base own.handles is))
+      (ap (λ (end : EndSetup). end.link.handle) (received_setup_is other room octets worded_facts there ∙ worded_setup setup facts base words)
+      ∙ handle_is 0 other facts.links base own.handles is))
 
-  link_noted : (other : ℕ) (found : Option OpenLink) → link_at other facts.links ≡ found → All (IsUnder other) (notes_passed (link_heard setup other octets facts))
-  link_noted other None is = subst (All (IsUnder other)) (sym (unfound setup facts other octets is)) (All-nil (IsUnder other))
-  link_noted other (Some base) is =
-      All-append (IsUnder other) (link_heard setup other octets facts).notes _ (received_noted (IsUnder other) (under_takes other) setup other octets facts)
-      (reply_under other base is (replies_in slot room (link_at other facts.links) octets))
+  link_noted : (words : Bool) (other : ℕ) (found : Option OpenLink) → link_at other facts.links ≡ found
+      → All (IsUnder other) (notes_passed (link_heard setup other octets (worded words setup other facts)))
+  link_noted words other None is =
+      subst (All (IsUnder other)) (sym (unfound setup (worded words setup other facts) other octets (worded_here words setup other facts None is))) (All-nil (IsUnder other))
+  link_noted words other (Some base) is =
+      let worded_facts = worded words setup other facts in
+      All-append (IsUnder other) (link_heard setup other octets worded_facts).notes _ (received_noted (IsUnder other) (under_takes other) setup other octets worded_facts)
+      (reply_under words other base is (replies_in slot room (link_at other worded_facts.links) octets))
 
   record IsOnIt : Type 0 where
     on : listens_under handle facts.turn.doing ≡ true
-    notes : notes_after setup facts (PacketHeard octets) ≡ notes_passed (link_heard setup handle octets facts)
+    words : Bool
+    notes : notes_after setup facts (PacketHeard octets) ≡ notes_passed (link_heard setup handle octets (worded words setup handle facts))
 
   on_it : IsOnIt
   on_it = by (phase_of setup facts (Some octets))
@@ -177,42 +160,73 @@ module _ (setup : Setup) (facts : Facts) (octets : List ℕ) (handle count llid 
       by : IsPhaseOf setup facts (Some octets) → IsOnIt
       by (IsPlainPhase none plain) =
           absurd (let h : true ≡ false = (note_in HasNoData earlier later note (subst (All HasNoData) notes_are plain)).sends in absurd cc)
-      by (IsOnLink other heard some listens is) =
+      by (IsOnLink other words heard some listens is) =
           let octets_are = same_octets heard octets some in
           let notes =
-          ap (λ xs. notes_after setup facts (PacketHeard xs)) (sym octets_are) ∙ ap notes_passed is ∙ (λ i. notes_passed (link_heard setup other (octets_are i) facts)) in
+          ap (λ xs. notes_after setup facts (PacketHeard xs)) (sym octets_are) ∙ ap notes_passed is
+          ∙ (λ i. notes_passed (link_heard setup other (octets_are i) (worded words setup other facts))) in
           let under : handle ≡ other =
-          note_in (IsUnder other) earlier later note (subst (All (IsUnder other)) (sym notes ∙ notes_are) (link_noted other (link_at other facts.links) refl)) in record {
+          note_in (IsUnder other) earlier later note (subst (All (IsUnder other)) (sym notes ∙ notes_are) (link_noted words other (link_at other facts.links) refl)) in record {
             on = listens handle ∙ eq-eqb other handle (sym under);
-            notes = notes ∙ (λ i. notes_passed (link_heard setup (sym under i) octets facts));
+            words = words;
+            notes = notes ∙ (λ i. notes_passed (link_heard setup (sym under i) octets (worded words setup (sym under i) facts)));
           }
 
-  on_link : notes_after setup facts (PacketHeard octets) ≡ notes_passed (link_heard setup handle octets facts)
+  -- the facts as it hears, its link as it is given words, and once it received
+  abbrev worded_facts : Facts
+  worded_facts = worded on_it.words setup handle facts
+
+  abbrev there : OpenLink
+  there = link_worded on_it.words setup facts link
+
+  there_at : link_at handle worded_facts.links ≡ Some there
+  there_at = worded_here on_it.words setup handle facts (Some link) at
+
+  abbrev taken : OpenLink
+  taken = link_receiving handle room octets worded_facts there
+
+  abbrev replies : Bool
+  replies = replies_in slot room (link_at handle worded_facts.links) octets
+
+  on_link : notes_after setup facts (PacketHeard octets) ≡ notes_passed (link_heard setup handle octets worded_facts)
   on_link = on_it.notes
 
-  reply_noted : (answers : Bool) → All (IsOfReply answers (facts_in taken)) (notes_doing (reply_if answers handle) (link_received handle room octets facts))
+  reply_noted : (answers : Bool) → All (IsOfReply answers (facts_in taken)) (notes_doing (reply_if answers handle) (link_received handle room octets worded_facts))
   reply_noted false = All-nil (IsOfReply false (facts_in taken))
   reply_noted true =
-      subst (All (IsOfReply true (facts_in taken))) (sym (ap (notes_sent slot) (received_at handle octets room facts link at)))
+      subst (All (IsOfReply true (facts_in taken))) (sym (ap (notes_sent slot) (received_at handle octets room worded_facts there there_at)))
       (note_sent taken.setup.link.handle (numbered (facts_in taken).acknowledgement.sent) (facts_in taken) _ refl)
 
   noted : IsSentNew replies (facts_in taken) (record { llid = llid; body = body })
   noted =
       note_in (IsOfReply replies (facts_in taken)) earlier later note
       (subst (All (IsOfReply replies (facts_in taken))) (sym on_link ∙ notes_are)
-      (All-append (IsOfReply replies (facts_in taken)) (link_heard setup handle octets facts).notes _
-      (received_noted (IsOfReply replies (facts_in taken)) (takes_none replies (facts_in taken)) setup handle octets facts) (reply_noted replies)))
+      (All-append (IsOfReply replies (facts_in taken)) (link_heard setup handle octets worded_facts).notes _
+      (received_noted (IsOfReply replies (facts_in taken)) (takes_none replies (facts_in taken)) setup handle octets worded_facts) (reply_noted replies)))
+
+  -- what it answers at once changes nothing of what it sends
+  refused_alike : (refusal : Option Step) → IfSome refusal IsRefusal → (base : OpenLink) → SendsAlike (facts_in (places_refused refusal base)) (facts_in base)
+  refused_alike None is base = answered_alike None is base
+  refused_alike (Some step) is base = answered_alike (Some step) is base
 
   answer_noted : IsAnswer
   answer_noted =
-      let reply = replies_as link.setup (facts_in link) slot octets room (ap (λ found. replies_in slot room found octets) (sym at) ∙ noted.sends) in
-      let heard = link_after (PacketReceived slot octets room) link in
-      let same : taken ≡ heard = unrefused (refuses_at handle room octets facts) heard (only_central_refuses facts handle room octets link at) reply.role in
-      let facts_are : facts_in taken ≡ answering = ap facts_in same ∙ step_facts link (PacketReceived slot octets room) in record {
+      let heard = link_after (PacketReceived slot octets room) there in
+      let words = words_are on_it.words setup facts link in
+      let replied = replies_as there.setup (facts_in there) slot octets room (ap (λ found. replies_in slot room found octets) (sym there_at) ∙ noted.sends) in
+      let reply = worded_reply link there words octets replied in
+      let refusal = refusal_in worded_facts.view handle slot room (link_at handle worded_facts.links) octets in
+      let alike = alike_then (facts_in taken) (facts_in heard) answering
+      (refused_alike refusal (refusal_in_is worded_facts.view handle slot room (link_at handle worded_facts.links) octets) heard) (given_alike link there words slot octets room) in
+      let acked = ap is_acked (sym alike.acknowledgement) ∙ noted.acked in record {
         on = on_it.on;
         reply = reply;
-        new = subst (λ (f : EndFacts). IsSentNew true f (record { llid = llid; body = body })) facts_are (record { sends = refl; acked = noted.acked; is = noted.is });
-        opens = first_part (OpensNone handle) earlier (note ∷ later) (subst (All (OpensNone handle)) (sym on_link ∙ notes_are) (received_quiet handle setup handle octets facts));
+        new = record {
+          sends = refl;
+          acked = acked;
+          is = noted.is ∙ alike_fixed (facts_in taken) answering alike (good_leave slot octets reply.pdu room link.setup (facts_in link) reply.role reply.good) acked;
+        };
+        opens = first_part (OpensNone handle) earlier (note ∷ later) (subst (All (OpensNone handle)) (sym on_link ∙ notes_are) (received_quiet handle setup handle octets worded_facts));
       }
 
 -- ---- in a run

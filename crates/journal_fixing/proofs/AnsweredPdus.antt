@@ -1,5 +1,5 @@
 -- What a peripheral sends that hears a packet after it fixed its PDU.
-use Rattle.std.proofs.Common.{◌≡◌, ℕ, ◌≤◌, ◌&&◌, not, Bool, true, false, Some, List, refl, ap, sym, ◌∙◌, if◌then◌else◌}
+use Rattle.std.proofs.Common.{◌≡◌, ℕ, ◌≤◌, ◌&&◌, not, Bool, true, false, Some, List, refl, ap, sym, subst, ◌∙◌, if◌then◌else◌}
 use Rattle.ble_base.specs.declared.roles.Role.{Role}
 use Rattle.ble_base.specs.declared.roles.Role.TheVariants.{Peripheral}
 use Rattle.ack_bit.specs.AckBits.{acknowledges}
@@ -21,7 +21,8 @@ use Rattle.journal_controls.specs.link_model.Step.{PacketReceived}
 use Rattle.journal_controls.specs.link_model.Verdicts.{pdu_of}
 use Rattle.journal_controls.specs.link_model.keyed_control.Keyed.{Keyed}
 use Rattle.journal_controls.proofs.CentralFixed.{acked_free, data_free, gone_acked, taking_free}
-use Rattle.journal_controls.proofs.EndSteps.{acks_by, left_of, not_true, received_is}
+use Rattle.journal_controls.proofs.EndSteps.{acks_by, good_leave, left_of, not_true, received_is}
+use Rattle.journal_controls.proofs.SendsAlike.{SendsAlike, alike_fixed}
 use Rattle.journal_fixing.specs.NextPdu.{IsFixedBy, data_waits, data_waits_after, more_with_new, more_with_old, pdu_next}
 use Rattle.journal_fixing.proofs.FixedPdus.{fixed_next, more_fixed, more_old}
 
@@ -174,6 +175,39 @@ module _ (setup : Setup) (facts : Facts) (slot : ℕ) (octets pdu : List ℕ) (r
       ap more_sent answering_is
       ∙ more_old fixing outgoing heard kept some (acked_heard false unacked)
       ∙ ap (λ (f : Facts). more_with_old fixing (keyed_of f) (data_waits outgoing)) (sym answering_is)
+
+  -- also with other words, and after its answer to a request that is withheld
+  module _ (now : Facts) (alike : SendsAlike now answering) where
+    was_acked : (value : Bool) → is_acked now.acknowledgement ≡ value → is_acked answering.acknowledgement ≡ value
+    was_acked value acked = ap is_acked (sym alike.acknowledgement) ∙ acked
+
+    pub now_sent : is_acked now.acknowledgement ≡ true → pdu_sent now ≡ pdu_sent answering
+    now_sent acked =
+        let was = was_acked true acked in
+        ap (λ b. if b then pdu_fixed now else now.acknowledgement.last) acked
+        ∙ alike_fixed now answering alike (good_leave slot octets pdu room setup facts role good) was
+        ∙ sym (ap (λ b. if b then pdu_fixed answering else answering.acknowledgement.last) was)
+
+    pub now_more : is_acked now.acknowledgement ≡ true → more_sent now ≡ more_with_new fixing (data_waits_after (pdu_sent now) outgoing)
+    now_more acked =
+        let was = was_acked true acked in
+        ap (λ b. if b then now.outgoing.more else not (is_empty (pdu_fixed now))) acked
+        ∙ ap (λ (o : Data). o.more) alike.outgoing
+        ∙ sym (ap (λ b. if b then answering.outgoing.more else not (is_empty (pdu_fixed answering))) was)
+        ∙ answer_more was
+        ∙ ap (λ one. more_with_new fixing (data_waits_after one outgoing)) (sym (now_sent acked))
+
+    now_fixed : is_acked now.acknowledgement ≡ false → IsFixedBy fixing outgoing now
+    now_fixed unacked =
+        let was = subst (IsFixedBy fixing outgoing) (sym answering_is)
+        (heard_fixed fixing outgoing facts is slot room (header_in pdu) (pdu_of pdu) (acked_heard false (was_acked false unacked))) in record {
+          control = alike.fixes ∙ was.control;
+          pdu = λ none. ap (λ (o : Data). o.fixed) alike.outgoing ∙ was.pdu none;
+          more = ap (λ (o : Data). o.more) alike.outgoing ∙ was.more;
+        }
+
+    pub now_old : 1 ≤ outgoing.limit → is_acked now.acknowledgement ≡ false → more_sent now ≡ more_with_old fixing (keyed_of now) (data_waits outgoing)
+    now_old some unacked = more_old fixing outgoing now (now_fixed unacked) some unacked
 
 -- ---- what the lines tell of it
 

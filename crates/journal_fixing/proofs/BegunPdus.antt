@@ -6,6 +6,7 @@ use Rattle.ble_base.specs.declared.notes.Note.TheVariants.{Sent as SentNote}
 use Rattle.ble_base.specs.declared.roles.Role.{Role}
 use Rattle.ble_base.specs.declared.roles.Role.TheVariants.{Central, Peripheral}
 use Rattle.ble_base.specs.declared.roles.Side.{Side}
+use Rattle.journal_controls.specs.Withheld.{nothing_withheld}
 use Rattle.journal_controls.specs.controller_model.Facts.{Facts}
 use Rattle.journal_controls.specs.controller_model.Side.{facts_after, facts_of as side_facts, notes_after}
 use Rattle.journal_controls.specs.controller_model.Step.{Step as Call, TurnBegins}
@@ -48,7 +49,7 @@ use Rattle.journal_controls.proofs.run_model.Parts.{journal_more, notes_noted}
 use Rattle.journal_controls.proofs.run_model.Stations.{is_in}
 use Rattle.journal_fixing.specs.NextPdu.{pdu_next}
 use Rattle.journal_fixing.specs.OnLines.{control_fixing, control_going, has_heard, is_fixed}
-use Rattle.journal_fixing.specs.PastFixing.{facts_fixing, past_fixing}
+use Rattle.journal_fixing.specs.PastFixing.{facts_fixing}
 use Rattle.journal_fixing.proofs.ControlKept.{fixing_now, going_now}
 use Rattle.journal_fixing.proofs.FirstNotes.{notes_unfixed, sends_last}
 use Rattle.journal_fixing.proofs.FixedPasts.{facts_begun}
@@ -147,7 +148,7 @@ module _ (heard_whole : IsHeardWhole) (understood : IsUnderstood) (taken : AreTa
       let begun_facts : Bool → EndFacts = λ b. fold (end_after base.setup) (facts_in base) (first_if enters (EventEntered slot) (first_if b PduFixed [])) in
       let new = said_in given station call history earlier later handle count llid body notes_are opens (IsSaidBy sends (begun_facts fixes))
       (map (line_of side own) (notes_from base.setup (facts_in base) (steps_begun enters fixes sends slot))) lines
-      (begun_said side own true no_response slot base.setup (facts_in base) enters fixes sends) in
+      (begun_said side own nothing_withheld no_response slot base.setup (facts_in base) enters fixes sends) in
       let phase = begins_in setup slot on facts in
       let fixing = user_fixes handle next.links doing phase (sends_uses handle doing new.sends) in
       let all_past = past ∙ ap (λ b. base.past ++ steps_begun enters b sends slot) fixing in

@@ -1,5 +1,5 @@
 -- What an end fixes by its procedures, its phase and its data, and what it sends then.
-use Rattle.std.proofs.Common.{◌≡◌, ℕ, ◌≤◌, nat_lt, ◌&&◌, ◌||◌, not, Bool, true, false, Option, Some, None, List, [], length, is_some, refl, ap, sym, ◌∙◌, if◌then◌else◌}
+use Rattle.std.proofs.Common.{◌≡◌, ℕ, ◌≤◌, nat_lt, ◌&&◌, ◌||◌, not, Bool, true, false, Option, Some, None, [], length, is_some, refl, ap, sym, ◌∙◌, if◌then◌else◌}
 use Rattle.data_pdu.specs.declared.ctrl.Ctrl.{Ctrl}
 use Rattle.data_pdu.specs.declared.ctrl.Ctrl.TheVariants.{StartEncReq}
 use Rattle.wire_fields.specs.Field.{little_endian}

@@ -9,12 +9,13 @@ use Rattle.journal_controls.specs.controller_model.Step.{HostOctet, TurnBegins, 
 use Rattle.journal_controls.specs.controller_model.declared.doing.Doing.{Doing}
 use Rattle.journal_controls.specs.controller_model.declared.doing.Doing.TheVariants.{Rests}
 use Rattle.journal_controls.specs.TurnSteps.{first_if, steps_begun}
-use Rattle.journal_controls.specs.journal_acks.link_calls.Phases.{HasPassed, IsNew, Stays, Takes, link_receiving, refuses_at}
+use Rattle.journal_controls.specs.journal_acks.link_calls.Phases.{HasPassed, IsNew, Stays, Takes, link_receiving, link_worded}
 use Rattle.journal_controls.specs.journal_acks.link_calls.Turns.{sent_if}
 use Rattle.journal_controls.specs.journal_acks.link_calls.Uses.{fixes_under, listens_under, sends_under}
 use Rattle.journal_controls.specs.link_model.Controls.{goes_on}
 use Rattle.journal_controls.specs.link_model.End.{facts_after as end_after, facts_of as end_facts}
 use Rattle.journal_controls.specs.link_model.Facts.{Facts as EndFacts}
+use Rattle.journal_controls.specs.link_model.Packets.{good_pdu}
 use Rattle.journal_controls.specs.link_model.Setup.{Setup as EndSetup}
 use Rattle.journal_controls.specs.link_model.Step.{Step, EventEntered, PacketReceived, PacketSent, PduFixed}
 use Rattle.journal_controls.specs.journal_ends.open_links.OpenLinks.{OpenLink, facts_in, link_after, link_at}
@@ -23,17 +24,18 @@ use Rattle.journal_controls.specs.run_model.Feeding.{AreDistinct}
 use Rattle.journal_controls.specs.run_model.History.{Event, past_of}
 use Rattle.journal_controls.specs.run_model.Run.{Given, facts_at, history_of, run_of, setup_at, step_of}
 use Rattle.journal_controls.proofs.CentralFixed.{IsFree, entered_free}
-use Rattle.journal_controls.proofs.FixedEnds.{AreFixed, begun_past, fixed_first, fixed_kept}
+use Rattle.journal_controls.proofs.FixedEnds.{AreFixed, begun_past, fixed_first, fixed_kept, sends_replying}
+use Rattle.journal_controls.proofs.Replies.{replies_as}
+use Rattle.journal_controls.proofs.SendsAlike.{SendsAlike, receiving_alike}
 use Rattle.journal_controls.proofs.journal_acks.Standing.{listener_role, listener_sends, sender_role}
 use Rattle.journal_controls.proofs.journal_acks.link_calls.LinkCalls.{passes_under, turn_begun_under}
 use Rattle.journal_controls.proofs.journal_acks.link_calls.RadioUses.{no_link}
-use Rattle.journal_controls.proofs.journal_acks.link_calls.Refusals.{only_central_refuses}
-use Rattle.journal_controls.proofs.journal_ends.run_laws.Agreed.{step_facts}
+use Rattle.journal_controls.proofs.journal_ends.WordedLinks.{worded_as, worded_good}
 use Rattle.journal_controls.proofs.journal_ends.run_laws.TurnPlaces.{Between, IsTurned, Stage, stands_in_run, turned}
 use Rattle.journal_controls.proofs.run_model.Stations.{is_in}
 use Rattle.journal_fixing.specs.PastFixing.{facts_fixing, past_fixing}
 use Rattle.journal_fixing.proofs.FixedPasts.{begun_past as past_begun, facts_begun, facts_more, fixing_begun, same_before}
-use Rattle.journal_fixing.proofs.FixingLinks.{listens_uses, receiving_fixed, sends_uses, unrefused, user_fixes, uses_on}
+use Rattle.journal_fixing.proofs.FixingLinks.{listens_uses, receiving_fixed, sends_uses, user_fixes, uses_on}
 use Rattle.journal_fixing.proofs.GoingLinks.{receiving_setup}
 use Rattle.journal_fixing.proofs.TellingMore.{TellsMore, answer_tells, fixed_tells}
 
@@ -115,37 +117,44 @@ other_role : (X : Type 0) (role : Role) → role ≡ Central → role ≡ Periph
 other_role X role is is_too = absurd (let h : Central ≡ Peripheral = sym is ∙ is_too in absurd cc)
 
 -- a peripheral that answers, in the phase in which it takes the packet
-module _ (setup : Setup) (facts : Facts) (received : Option (List ℕ)) (handle : ℕ) (link : OpenLink) (doing : Doing)
+module _ (setup : Setup) (facts : Facts) (received : Option (List ℕ)) (handle : ℕ) (link : OpenLink)
     (were : (base : OpenLink) → link_at handle facts.links ≡ Some base → listens_under handle facts.turn.doing ≡ true → base.setup.link.role ≡ Peripheral
     → let fixing = facts_fixing base.setup base.past in IsFree fixing × (facts_in base ≡ end_after base.setup fixing PduFixed))
-    (role : link.setup.link.role ≡ Peripheral) (on : sends_under handle doing ≡ true) where
+    (role : link.setup.link.role ≡ Peripheral) (on : sends_under handle (facts_after setup facts (step_of received)).turn.doing ≡ true) where
+  abbrev doing : Doing
+  doing = (facts_after setup facts (step_of received)).turn.doing
+
   abbrev room : Bool
   room = has_room setup facts
 
   abbrev slot : ℕ
   slot = facts.turn.slot
 
-  passed_tells : HasPassed facts room received handle doing link → (one : OpenLink) (now : ℕ) → link ≡ link_after (PacketSent now) one
+  passed_tells : HasPassed setup facts room received handle doing link → (one : OpenLink) (now : ℕ) → link ≡ link_after (PacketSent now) one
       → TellsMore (facts_fixing link.setup link.past) (facts_in one)
   passed_tells (IsNew end made opened off) one now is = absurd (let h : true ≡ false = sym (uses_on handle doing (sends_uses handle doing on)) ∙ off in absurd cc)
   passed_tells (Stays was none nothing listened) one now is = absurd (let h : true ≡ false = sym on ∙ none in absurd cc)
   passed_tells (Takes base octets was some listening same) one now is =
-      let taken = link_receiving handle room octets facts base in
-      let heard = link_after (PacketReceived slot octets room) base in
+      let taken = link_receiving setup handle room octets facts base in
+      let worded = link_worded setup facts facts.turn.doing base in
+      let step = PacketReceived slot octets room in
       let role_is : base.setup.link.role ≡ Peripheral =
-      sym (ap (λ (s : EndSetup). s.link.role) (ap (λ (l : OpenLink). l.setup) same ∙ receiving_setup (sends_under handle doing) handle room octets facts base)) ∙ role in
-      let whole : link ≡ link_after (PacketSent slot) heard =
-      same ∙ ap (λ b. sent_if b slot taken) on
-      ∙ ap (link_after (PacketSent slot)) (unrefused (refuses_at handle room octets facts) heard (only_central_refuses facts handle room octets base was) role_is) in
-      let past : one.past ≡ heard.past = same_before one.past heard.past (PacketSent now) (PacketSent slot) (ap (λ (l : OpenLink). l.past) (sym is ∙ whole)) in
-      let setup_one : one.setup ≡ base.setup = ap (λ (l : OpenLink). l.setup) (sym is ∙ whole) in
+      sym (ap (λ (s : EndSetup). s.link.role) (ap (λ (l : OpenLink). l.setup) same ∙ receiving_setup (sends_under handle doing) setup handle room octets facts base)) ∙ role in
+      let whole : link ≡ link_after (PacketSent slot) taken = same ∙ ap (λ b. sent_if b slot taken) on in
+      let past : one.past ≡ taken.past = same_before one.past taken.past (PacketSent now) (PacketSent slot) (ap (λ (l : OpenLink). l.past) (sym is ∙ whole)) in
+      let setup_one : one.setup ≡ taken.setup = ap (λ (l : OpenLink). l.setup) (sym is ∙ whole) in
+      let facts_one : facts_in one ≡ facts_in taken = λ i. end_facts (setup_one i) (past i) in
       let held = facts_fixing base.setup base.past in
+      let fixed = end_after base.setup held PduFixed in
       let was_fixed = were base was listening role_is in
-      let facts_one : facts_in one ≡ end_after base.setup (end_after base.setup held PduFixed) (PacketReceived slot octets room) =
-      (λ i. end_facts (setup_one i) (past i)) ∙ step_facts base (PacketReceived slot octets room) ∙ ap (λ f. end_after base.setup f (PacketReceived slot octets room)) was_fixed.1 in
+      let reply = replies_as worded.setup (facts_in worded) slot octets room (sym (sends_replying setup facts received handle base octets was some listening) ∙ on) in
+      let good = ap (λ f. good_pdu base.setup f octets) (sym was_fixed.1) ∙ sym (worded_good base worded (worded_as setup facts facts.turn.doing base) octets) ∙ reply.good in
+      let alike : SendsAlike (facts_in one) (end_after base.setup fixed step) =
+      subst (λ f. SendsAlike f (end_after base.setup fixed step)) (sym facts_one)
+      (subst (λ f. SendsAlike (facts_in taken) (end_after base.setup f step)) was_fixed.1 (receiving_alike setup handle room octets facts base)) in
       let held_is : facts_fixing link.setup link.past ≡ held =
-      ap (λ (l : OpenLink). facts_fixing l.setup l.past) same ∙ receiving_fixed (sends_under handle doing) handle room octets facts base in
-      subst (λ f. TellsMore f (facts_in one)) (sym held_is) (subst (TellsMore held) (sym facts_one) (answer_tells base.setup held slot octets room role_is was_fixed.0))
+      ap (λ (l : OpenLink). facts_fixing l.setup l.past) same ∙ receiving_fixed (sends_under handle doing) setup handle room octets facts base in
+      subst (λ f. TellsMore f (facts_in one)) (sym held_is) (answer_tells base.setup held slot octets reply.pdu room role_is was_fixed.0 good (facts_in one) alike)
 
 pub since_kept : (setup : Setup) → IsTurned setup (AreSince setup)
 since_kept setup = record {
@@ -193,7 +202,7 @@ since_kept setup = record {
           listens = λ on role. late_listens (suc phases) handle link role (listener_role (suc phases) next.links next.turn.doing handle link fixed.phased.phase on at) refl;
           sends = λ on role. late_sends (suc phases) handle link role (sender_role (suc phases) next.links next.turn.doing handle link fixed.phased.phase on at) refl;
           tells = λ on one now is_one.
-              passed_tells setup facts received handle link next.turn.doing (λ base was listening role. (is.since handle base was).listens listening role)
+              passed_tells setup facts received handle link (λ base was listening role. (is.since handle base was).listens listening role)
               (late_role (suc phases) link (sender_role (suc phases) next.links next.turn.doing handle link fixed.phased.phase on at) refl) on
               (passes_under setup facts received handle link is.fixed.phased.uses.in_turn.listens at) one now is_one;
         };

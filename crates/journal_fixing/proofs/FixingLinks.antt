@@ -1,16 +1,17 @@
 -- What a link on which a controller sends or listens fixed, as a turn begins and as a phase passes.
-use Rattle.std.proofs.Common.{◌≡◌, ℕ, suc, ◌==◌, ◌||◌, Bool, true, false, List, [], ◌∷◌, refl, sym, ap, ◌∙◌, arith}
-use Rattle.ble_base.specs.declared.roles.Role.TheVariants.{Central, Peripheral}
+use Rattle.std.proofs.Common.{◌≡◌, ℕ, suc, ◌==◌, ◌||◌, Bool, true, false, Option, Some, None, List, [], ◌∷◌, refl, sym, ap, ◌∙◌, arith}
+use Rattle.std.specs.Prelude.{IfSome}
 use Rattle.journal_controls.specs.controller_model.declared.doing.Doing.{Doing}
 use Rattle.journal_controls.specs.controller_model.declared.doing.Doing.TheVariants.{Advertises, CentralListens, CentralSends, PeripheralListens}
 use Rattle.journal_controls.specs.controller_model.declared.doing.Doing.TheVariants.{PeripheralSends}
-use Rattle.journal_controls.specs.controller_model.Facts.{Facts}
-use Rattle.journal_controls.specs.journal_acks.link_calls.Phases.{link_receiving, refusal, refused_if, refuses_at}
+use Rattle.journal_controls.specs.controller_model.Facts.{Facts, Setup}
+use Rattle.journal_controls.specs.journal_acks.link_calls.Phases.{link_receiving, link_worded, refusal_at, refused_if}
 use Rattle.journal_controls.specs.journal_acks.link_calls.Turns.{sent_if}
 use Rattle.journal_controls.specs.journal_acks.link_calls.Uses.{fixes_under, is_on_link, listens_under, sends_under, uses_under}
 use Rattle.journal_controls.specs.link_model.End.{facts_of}
-use Rattle.journal_controls.specs.link_model.Step.{Step, PacketReceived, PacketSent, RequestAnswered}
+use Rattle.journal_controls.specs.link_model.Step.{Step, KeyAnswered, PacketReceived, PacketSent, RequestAnswered, WordsGiven}
 use Rattle.journal_controls.specs.journal_ends.open_links.OpenLinks.{Links, OpenLink, link_after}
+use Rattle.journal_controls.proofs.journal_ends.GrownLinks.{IsRefusal, refusal_is}
 use Rattle.journal_controls.proofs.journal_ends.run_laws.LinkPhases.{IsInPhase}
 use Rattle.journal_fixing.specs.PastFixing.{facts_fixing}
 use Rattle.journal_fixing.proofs.FixedPasts.{FixesNone, fixing_stays}
@@ -70,20 +71,25 @@ sent_same : (sends : Bool) (slot : ℕ) (link : OpenLink) → facts_fixing (sent
 sent_same true slot link = after_same (PacketSent slot) link (λ front before. refl)
 sent_same false slot link = refl
 
-refused_same : (refuses : Bool) (link : OpenLink) → facts_fixing (refused_if refuses link).setup (refused_if refuses link).past ≡ facts_fixing link.setup link.past
-refused_same true link = after_same (RequestAnswered refusal) link (λ front before. refl)
-refused_same false link = refl
+refused_same : (refusal : Option Step) (link : OpenLink) → IfSome refusal IsRefusal
+    → facts_fixing (refused_if refusal link).setup (refused_if refusal link).past ≡ facts_fixing link.setup link.past
+refused_same None link is = refl
+refused_same (Some (RequestAnswered answer)) link is = after_same (RequestAnswered answer) link (λ front before. refl)
+refused_same (Some (KeyAnswered key slot)) link is = after_same (KeyAnswered key slot) link (λ front before. refl)
+refused_same (Some step) link is = absurd is
 
-pub receiving_fixed : (sends : Bool) (handle : ℕ) (room : Bool) (octets : List ℕ) (facts : Facts) (link : OpenLink)
-    → let after = sent_if sends facts.turn.slot (link_receiving handle room octets facts link) in
+worded_same : (setup : Setup) (facts : Facts) (doing : Doing) (link : OpenLink) → let worded = link_worded setup facts doing link in
+    facts_fixing worded.setup worded.past ≡ facts_fixing link.setup link.past
+worded_same setup facts (PeripheralListens handle) link = after_same (WordsGiven _ _) link (λ front before. refl)
+worded_same setup facts doing link = refl
+
+pub receiving_fixed : (sends : Bool) (setup : Setup) (handle : ℕ) (room : Bool) (octets : List ℕ) (facts : Facts) (link : OpenLink)
+    → let after = sent_if sends facts.turn.slot (link_receiving setup handle room octets facts link) in
     facts_fixing after.setup after.past ≡ facts_fixing link.setup link.past
-receiving_fixed sends handle room octets facts link =
-    let taken = link_after (PacketReceived facts.turn.slot octets room) link in
-    sent_same sends facts.turn.slot (link_receiving handle room octets facts link)
-    ∙ refused_same (refuses_at handle room octets facts) taken
-    ∙ after_same (PacketReceived facts.turn.slot octets room) link (λ front before. refl)
-
--- a peripheral refuses no request
-pub unrefused : (refuses : Bool) (link : OpenLink) → (refuses ≡ true → link.setup.link.role ≡ Central) → link.setup.link.role ≡ Peripheral → refused_if refuses link ≡ link
-unrefused true link central peripheral = absurd (let h : Central ≡ Peripheral = sym (central refl) ∙ peripheral in absurd cc)
-unrefused false link central peripheral = refl
+receiving_fixed sends setup handle room octets facts link =
+    let worded = link_worded setup facts facts.turn.doing link in
+    let taken = link_after (PacketReceived facts.turn.slot octets room) worded in
+    sent_same sends facts.turn.slot (link_receiving setup handle room octets facts link)
+    ∙ refused_same (refusal_at handle room octets facts worded) taken (refusal_is handle room octets facts worded)
+    ∙ after_same (PacketReceived facts.turn.slot octets room) worded (λ front before. refl)
+    ∙ worded_same setup facts facts.turn.doing link

@@ -2,21 +2,21 @@
 use Rattle.std.proofs.Common.{◌≡◌, ℕ, suc, ◌==◌, ◌||◌, ◌⊎◌, inl, inr, Bool, true, false, Some, List, refl, sym, ap, ◌∙◌, arith}
 use Rattle.ble_base.specs.declared.roles.Role.TheVariants.{Central, Peripheral}
 use Rattle.ble_base.specs.declared.roles.Side.{Side}
-use Rattle.journal_controls.specs.controller_model.Facts.{Facts}
+use Rattle.journal_controls.specs.controller_model.Facts.{Facts, Setup}
 use Rattle.journal_controls.specs.controller_model.declared.doing.Doing.{Doing}
 use Rattle.journal_controls.specs.controller_model.declared.doing.Doing.TheVariants.{Advertises, CentralListens, CentralSends, PeripheralListens}
 use Rattle.journal_controls.specs.controller_model.declared.doing.Doing.TheVariants.{PeripheralSends}
 use Rattle.data_pdu.specs.Header.{header_in}
-use Rattle.journal_controls.specs.journal_acks.link_calls.Phases.{link_receiving, refused_if, refuses_at}
+use Rattle.journal_controls.specs.journal_acks.link_calls.Phases.{link_receiving}
 use Rattle.journal_controls.specs.journal_acks.link_calls.Turns.{sent_if}
 use Rattle.journal_controls.specs.journal_acks.link_calls.Uses.{listens_under, sends_under, uses_under}
 use Rattle.journal_controls.specs.link_model.Facts.{Facts as EndFacts, keyed_of}
 use Rattle.journal_controls.specs.link_model.Receiving.{acks_control, has_acknowledged, keyed_acked_if}
-use Rattle.journal_controls.specs.link_model.Step.{PacketReceived}
 use Rattle.journal_controls.specs.link_model.keyed_control.Keyed.{Keyed}
-use Rattle.journal_controls.specs.journal_ends.open_links.OpenLinks.{Links, OpenLink, link_after}
+use Rattle.journal_controls.specs.journal_ends.open_links.OpenLinks.{Links, OpenLink}
 use Rattle.journal_controls.specs.run_model.History.{Event}
 use Rattle.journal_controls.specs.run_model.Journal.{journal_of}
+use Rattle.journal_controls.proofs.SendsAlike.{receiving_same}
 use Rattle.journal_controls.proofs.journal_ends.run_laws.LinkPhases.{IsInPhase}
 use Rattle.journal_fixing.specs.OnLines.{control_going, has_heard}
 
@@ -83,15 +83,10 @@ sent_setup : (sends : Bool) (slot : ℕ) (link : OpenLink) → (sent_if sends sl
 sent_setup true slot link = refl
 sent_setup false slot link = refl
 
-refused_setup : (refuses : Bool) (link : OpenLink) → (refused_if refuses link).setup ≡ link.setup
-refused_setup true link = refl
-refused_setup false link = refl
-
-pub receiving_setup : (sends : Bool) (handle : ℕ) (room : Bool) (octets : List ℕ) (facts : Facts) (link : OpenLink)
-    → (sent_if sends facts.turn.slot (link_receiving handle room octets facts link)).setup ≡ link.setup
-receiving_setup sends handle room octets facts link =
-    sent_setup sends facts.turn.slot (link_receiving handle room octets facts link)
-    ∙ refused_setup (refuses_at handle room octets facts) (link_after (PacketReceived facts.turn.slot octets room) link)
+pub receiving_setup : (sends : Bool) (setup : Setup) (handle : ℕ) (room : Bool) (octets : List ℕ) (facts : Facts) (link : OpenLink)
+    → (sent_if sends facts.turn.slot (link_receiving setup handle room octets facts link)).setup ≡ link.setup
+receiving_setup sends setup handle room octets facts link =
+    sent_setup sends facts.turn.slot (link_receiving setup handle room octets facts link) ∙ receiving_same setup handle room octets facts link
 
 -- the ends of its link that listen one after the other have two roles
 pub listens_once : (phases : ℕ) (base link : OpenLink) → link.setup ≡ base.setup

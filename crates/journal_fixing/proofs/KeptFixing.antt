@@ -259,7 +259,7 @@ module _ (given : Given) (station phases : ℕ) (history : List Event) (lined : 
   later = facts_after (setup_at given station) held (step_of received)
 
   passed_fixing : (handle : ℕ) (link : OpenLink) → link_at handle (facts_at given station passed).links ≡ Some link → number_at station handle passed ≡ number_at station handle history
-      → uses_under handle later.turn.doing ≡ true → HasPassed held (has_room (setup_at given station) held) received handle later.turn.doing link → IsFixing passed station handle link
+      → uses_under handle later.turn.doing ≡ true → HasPassed (setup_at given station) held (has_room (setup_at given station) held) received handle later.turn.doing link → IsFixing passed station handle link
   passed_fixing handle link at number uses (IsNew end made opened off) = absurd (let h : true ≡ false = sym (uses_on handle later.turn.doing uses) ∙ off in absurd cc)
   passed_fixing handle link at number uses (Stays was none nothing listened) =
       let sent = listened (listens_then handle later.turn.doing none uses) in
@@ -273,7 +273,7 @@ module _ (given : Given) (station phases : ℕ) (history : List Event) (lined : 
       ap (λ n. fixing_at n side passed) number
       ∙ call_fixing side own history given station (step_of received) (aired octets some side own)
       ∙ are handle base was (listens_uses handle held.turn.doing on)
-      ∙ ap (λ (f : EndFacts). Some (keyed_of f)) (sym (receiving_fixed sends handle room octets held base))
+      ∙ ap (λ (f : EndFacts). Some (keyed_of f)) (sym (receiving_fixed sends (setup_at given station) handle room octets held base))
       ∙ ap (λ (l : OpenLink). Some (keyed_of (facts_fixing l.setup l.past))) (sym same)
 
   -- a link that is new is not used
@@ -296,7 +296,7 @@ module _ (given : Given) (station phases : ℕ) (history : List Event) (lined : 
           → uses_under handle (facts_at given station (after_call given station (step_of (packet_received station history)) history)).turn.doing ≡ true
           → uses_under handle (facts_after (setup_at given station) (facts_at given station history) (step_of (packet_received station history))).turn.doing ≡ true
           → link_at handle (facts_after (setup_at given station) (facts_at given station history) (step_of (packet_received station history))).links ≡ Some link
-          → HasPassed (facts_at given station history) (has_room (setup_at given station) (facts_at given station history)) (packet_received station history) handle
+          → HasPassed (setup_at given station) (facts_at given station history) (has_room (setup_at given station) (facts_at given station history)) (packet_received station history) handle
           (facts_after (setup_at given station) (facts_at given station history) (step_of (packet_received station history))).turn.doing link
           → All (OpensNone handle) (notes_after (setup_at given station) (facts_at given station history) (step_of (packet_received station history)))
           ⊎ ((one : OpenLink) → link_at handle (facts_after (setup_at given station) (facts_at given station history) (step_of (packet_received station history))).links ≡ Some one

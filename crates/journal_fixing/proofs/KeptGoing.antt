@@ -219,7 +219,7 @@ module _ (given : Given) (station phases : ℕ) (history : List Event) (lined : 
   same_now = own_facts given station (step_of received) history
 
   passed_unheard : (handle : ℕ) (link : OpenLink) → link_at handle now.links ≡ Some link → number_at station handle passed ≡ number_at station handle history
-      → awaits_under handle now.turn.doing ≡ true → HasPassed held (has_room (setup_at given station) held) received handle next.turn.doing link
+      → awaits_under handle now.turn.doing ≡ true → HasPassed (setup_at given station) held (has_room (setup_at given station) held) received handle next.turn.doing link
       → has_heard (side_of station) (number_at station handle passed) (journal_of passed) ≡ false
   passed_unheard handle link at number awaits (IsNew end made opened off) =
       absurd (let h : true ≡ false = sym (uses_on handle now.turn.doing (awaits_uses handle now.turn.doing awaits)) ∙ ap (λ (f : Facts). is_on_link f.turn.doing) same_now ∙ off in absurd cc)
@@ -231,7 +231,7 @@ module _ (given : Given) (station phases : ℕ) (history : List Event) (lined : 
       ∙ call_unheard side (number_at station handle history) history given station (step_of received)
       (are handle link was (sent_first phases handle held.links now.links held.turn.doing now.turn.doing phased.phase later.phase on sent) nothing)
   passed_unheard handle link at number awaits (Takes base octets was some on same) =
-      absurd (listens_once phases base link (ap (λ (l : OpenLink). l.setup) same ∙ receiving_setup (sends_under handle next.turn.doing) handle (has_room (setup_at given station) held) octets held base)
+      absurd (listens_once phases base link (ap (λ (l : OpenLink). l.setup) same ∙ receiving_setup (sends_under handle next.turn.doing) (setup_at given station) handle (has_room (setup_at given station) held) octets held base)
       (listener_role phases held.links held.turn.doing handle base phased.phase on was)
       (listener_role (suc phases) now.links now.turn.doing handle link later.phase (later_listens phases handle now.links now.turn.doing later.phase awaits) at))
 
@@ -251,7 +251,7 @@ module _ (given : Given) (station phases : ℕ) (history : List Event) (lined : 
       by : (handle : ℕ) (link : OpenLink) → link_at handle (facts_at given station (after_call given station (step_of (packet_received station history)) history)).links ≡ Some link
           → awaits_under handle (facts_at given station (after_call given station (step_of (packet_received station history)) history)).turn.doing ≡ true
           → link_at handle (facts_after (setup_at given station) (facts_at given station history) (step_of (packet_received station history))).links ≡ Some link
-          → HasPassed (facts_at given station history) (has_room (setup_at given station) (facts_at given station history)) (packet_received station history) handle
+          → HasPassed (setup_at given station) (facts_at given station history) (has_room (setup_at given station) (facts_at given station history)) (packet_received station history) handle
           (facts_after (setup_at given station) (facts_at given station history) (step_of (packet_received station history))).turn.doing link
           → All (OpensNone handle) (notes_after (setup_at given station) (facts_at given station history) (step_of (packet_received station history)))
           ⊎ ((one : OpenLink) → link_at handle (facts_after (setup_at given station) (facts_at given station history) (step_of (packet_received station history))).links ≡ Some one

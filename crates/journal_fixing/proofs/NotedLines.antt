@@ -5,10 +5,11 @@ use Rattle.std.proofs.lemmas.Grind.{flat_map-append}
 use Rattle.ble_base.specs.declared.roles.Side.{Side}
 use Rattle.ble_base.specs.declared.roles.Side.TheVariants.{A, B}
 use Rattle.journal_controls.proofs.host_answers.LineAnswers.{statuses_in}
-use Rattle.journal_controls.specs.host_masks.Masks.{masks_of, withholds_requests}
+use Rattle.journal_controls.specs.host_masks.Masks.{masks_of}
 use Rattle.journal.specs.declared.entries.Entry.{Entry}
 use Rattle.journal.specs.declared.entries.Entry.TheVariants.{Air, Fed, Sent, Turn}
 use Rattle.journal_controls.specs.KeyedLines.{drawn_by}
+use Rattle.journal_controls.specs.Withheld.{withheld_by}
 use Rattle.journal_controls.specs.LineSteps.{keyed_in_line, keyed_on, turn_now, withholds}
 use Rattle.journal_controls.specs.SaidLines.{NoneOpens, moved_by}
 use Rattle.journal_controls.specs.journal_ends.Seen.{Says, heard_in_line}
@@ -47,7 +48,7 @@ none_fed line own side is = refl
 
 withholds_stay : (own side : Side) (front : List Entry) (line : Entry) → side_of_note line ≡ Some own → withholds side (front ++ line ∷ []) ≡ withholds side front
 withholds_stay own side front line is =
-    ap (λ octets. withholds_requests (masks_of octets))
+    ap (λ octets. withheld_by (masks_of octets))
     (flat_map-append (fed_in side) front (line ∷ []) ∙ (λ i. fed_to_side side front ++ (none_fed line own side is i ++ [])) ∙ append-nil (fed_to_side side front))
 
 none_both : (lines more : List Entry) → lines ++ more ≡ [] → (lines ≡ []) × (more ≡ [])

@@ -34,7 +34,7 @@ use Rattle.journal_controls.proofs.run_model.Parts.{journal_more, notes_noted}
 use Rattle.journal_controls.proofs.run_model.Stations.{is_in}
 use Rattle.journal_fixing.specs.NextPdu.{IsFixedBy, data_waits, data_waits_after, more_with_new, more_with_old, pdu_next}
 use Rattle.journal_fixing.specs.OnLines.{control_answering, control_fixing, control_going, fixing_kept, going_kept, has_heard, is_fixed, is_fixed_from, is_heard_at}
-use Rattle.journal_fixing.specs.PastFixing.{facts_fixing, past_fixing}
+use Rattle.journal_fixing.specs.PastFixing.{facts_fixing}
 use Rattle.journal_fixing.proofs.AnsweredPdus.{answer_more, answer_new, answer_old}
 use Rattle.journal_fixing.proofs.FixedPdus.{fixed_by, fixing_stays, more_new, more_old, new_sent}
 use Rattle.journal_fixing.proofs.FixedSince.{since_in}

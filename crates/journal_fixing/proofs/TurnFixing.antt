@@ -6,6 +6,7 @@ use Rattle.ble_base.specs.declared.notes.Note.{Note}
 use Rattle.ble_base.specs.declared.notes.Note.TheVariants.{Enter}
 use Rattle.ble_base.specs.declared.procedure_kinds.Kind.{Kind}
 use Rattle.ble_base.specs.declared.roles.Side.{Side}
+use Rattle.journal_controls.specs.Withheld.{Withheld}
 use Rattle.journal_controls.specs.controller_model.Step.{Step as Call}
 use Rattle.journal.specs.declared.entries.Entry.{Entry}
 use Rattle.journal_controls.specs.KeyedLines.{drawn_by}
@@ -49,7 +50,7 @@ before_unsent (line ∷ lines) more none =
 unsent_both : (lines more : List Entry) → AreUnsent lines → AreUnsent more → AreUnsent (lines ++ more)
 unsent_both lines more here there = all_both (λ line. is_sending line ≡ false) lines more here there
 
-module _ (side : Side) (number : ℕ) (withheld : Bool) (response : Response) (slot : ℕ) where
+module _ (side : Side) (number : ℕ) (withheld : Withheld) (response : Response) (slot : ℕ) where
   abbrev said : List Note → List Entry
   said notes = map (line_of side number) notes
 

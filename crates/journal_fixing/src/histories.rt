@@ -49,7 +49,8 @@ pub fn a_turn_begins_with_no_pdu_fixed()
 
 /// After any history, a packet on the air leaves the next PDU of each end fixed, by the end that it
 /// was fixed with. Where an end hears it as the first of its turn, the end with which its next
-/// control PDU goes is that of now, with the last control PDU acknowledged if the packet does that (Core 5.2, volume 6 part B, section 4.5.9; the order is our choice).
+/// control PDU goes is that of now, with the last control PDU acknowledged if the packet does that
+/// (Core 5.2, volume 6 part B, section 4.5.9; the order is our choice).
 pub fn a_packet_keeps_the_control_part_that_fixed_a_pdu()
     ensures fixed { (side : Side) (number station channel : ℕ) (octets : List ℕ)
         (hearing : Hearing) (history : List Event)

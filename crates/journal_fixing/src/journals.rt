@@ -40,7 +40,8 @@ pub fn the_control_part_is_kept_as_a_pdu_is_fixed()
 
 /// As a turn begins, an end heard nothing in it. Where it hears a good packet of the other end, it is
 /// kept as it is once the packet has acknowledged a control PDU, and before the PDU of the packet is
-/// taken. No other line of the turn changes what is kept; until then it is the end of now (Core 5.2, volume 6 part B, section 4.5.9; the order is our choice).
+/// taken. No other line of the turn changes what is kept; until then it is the end of now (Core 5.2,
+/// volume 6 part B, section 4.5.9; the order is our choice).
 pub fn the_control_part_is_kept_as_a_packet_is_heard()
     ensures begins { (side : Side) (number slot : ℕ) (a_on : Bool) (b_on : Option Bool)
         (journal : List Entry)

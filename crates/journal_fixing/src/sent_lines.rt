@@ -1,4 +1,5 @@
-//! Which PDU the line of a new PDU says, by the end as it was fixed by the lines before it. The bodies only call the laws that they rest on: the contracts are the laws.
+//! Which PDU the line of a new PDU says, by the end as it was fixed by the lines before it. The
+//! bodies only call the laws that they rest on: the contracts are the laws.
 ghost use Rattle.std.specs.Prelude.{◌≡◌, ◌++◌, ◌∷◌, [], ℕ, Bool, List, Some, map};
 ghost use Rattle.std.specs.List.{Contains};
 ghost use Rattle.ble_base.specs.declared.notes.Note.{Note};
@@ -76,8 +77,8 @@ pub fn a_turn_begins_with_the_line_of_the_pdu_that_the_lines_fix()
 
 /// In such a run, as a peripheral takes a packet on a link, the line of a new PDU of that link comes
 /// where the lines before it have the peripheral as it was when it fixed that PDU. The line says the
-/// PDU that is next by the ends of the lines, and by the data of the end as it fixed that PDU (Core 5.2, volume 6 part B, sections 4.5.6 and
-/// 4.5.9; when a PDU is fixed is our choice).
+/// PDU that is next by the ends of the lines, and by the data of the end as it fixed that PDU (Core
+/// 5.2, volume 6 part B, sections 4.5.6 and 4.5.9; when a PDU is fixed is our choice).
 pub fn a_peripheral_answers_with_the_line_of_the_pdu_that_the_lines_fix()
     ensures fixing { (given : Given) (before rest : List Event) (octets : List ℕ)
         (station handle count llid : ℕ) (body : List ℕ) (earlier later : List Note)

@@ -29,10 +29,10 @@ ghost use Rattle.journal_fixing.specs.PastFixing.{facts_fixing};
 
 /// In a run of two stations, with any number of links each and whatever procedures they carry: as a
 /// peripheral takes a good packet that leaves all its PDUs acknowledged, the PDU with which it
-/// answers is the one that is next by the ends of the lines, and by its data as it fixed that PDU. MD says whether more waits after it. If a PDU is sent again, MD says whether the one
-/// that would go now is not empty. So it is at each line of that call, also before the line of the
-/// new PDU (Core 5.2, volume 6 part B, sections 4.5.6 and 4.5.9; when a PDU is fixed is our
-/// choice).
+/// answers is the one that is next by the ends of the lines, and by its data as it fixed that PDU. MD
+/// says whether more waits after it. If a PDU is sent again, MD says whether the one that would go
+/// now is not empty. So it is at each line of that call, also before the line of the new PDU (Core
+/// 5.2, volume 6 part B, sections 4.5.6 and 4.5.9; when a PDU is fixed is our choice).
 pub fn a_peripheral_answers_with_the_pdu_that_the_lines_fix()
     ensures pdu { (given : Given) (before rest : List Event) (octets pdu : List ℕ)
         (notes : List Note) (station handle : ℕ) (link : OpenLink) (fixing going : Keyed)

@@ -2,6 +2,7 @@
 //! and the phase that it has as it does so. The bodies are empty: the contracts are the laws.
 ghost use Rattle.std.specs.Prelude.{◌≡◌, ◌++◌, [], ℕ, Bool, List, Some, false, fold, map};
 ghost use Rattle.ble_base.specs.declared.roles.Side.{Side};
+ghost use Rattle.journal_controls.specs.Withheld.{Withheld};
 ghost use Rattle.journal_controls.specs.controller_model.Step.{Step as Call};
 ghost use Rattle.journal_controls.specs.LineSteps.{keyed_on, turn_now};
 ghost use Rattle.journal_controls.specs.SaidLines.{moved_by};
@@ -22,7 +23,7 @@ ghost use Rattle.journal_fixing.specs.OnLines.{before_sending, control_fixing, i
 /// of these it does, the lines that it says before that of a new PDU move it to the end that it is
 /// as it fixes its PDU (Core 5.2, volume 6 part B, sections 4.5.1 and 4.5.9).
 pub fn the_lines_before_a_new_pdu_move_the_control_part_that_fixes_it()
-    ensures { (side : Side) (number slot : ℕ) (withheld : Bool) (response : Response)
+    ensures { (side : Side) (number slot : ℕ) (withheld : Withheld) (response : Response)
         (setup : Setup) (past : List Step) (enters fixes sends : Bool) → let facts = facts_of setup past in
         moved_by withheld response slot (before_sending (map (line_of side number)
         (notes_from setup facts (steps_begun enters fixes sends slot)))) (keyed_of facts)

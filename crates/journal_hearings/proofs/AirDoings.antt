@@ -19,7 +19,7 @@ use Rattle.journal_data.specs.controller_model.declared.doing.Doing.TheVariants.
 use Rattle.journal_data.specs.controller_model.declared.doing.Doing.TheVariants.{PeripheralSends, Rests}
 use Rattle.journal_data.specs.controller_model.Step.{Step, NothingHeard, TurnBegins}
 use Rattle.journal_data.specs.controller_model.Facts.{Setup, Facts, Use, Sends, Listens, Idle}
-use Rattle.journal_data.specs.controller_model.Heard.{advertiser_answers, advertiser_heard, asks_if, connects, has_room, heard, if_pdu, initiator_heard}
+use Rattle.journal_data.specs.controller_model.Heard.{advertiser_answers, advertiser_heard, asks_if, connects, facts_with_words, has_room, heard, if_pdu, initiator_heard}
 use Rattle.journal_data.specs.controller_model.Heard.{is_new_between, link_to, replies_in, reply_if, scanner_heard, taken_if, taken_under, unheard}
 use Rattle.journal_data.specs.controller_model.Outcome.{facts_passed}
 use Rattle.journal_data.specs.controller_model.Packets.{advertisement_sent, connect_sent, request_sent, response_sent, facts_doing, listens_on, pdu_heard}
@@ -135,7 +135,8 @@ passes_at setup phases None facts at = record {
   uses = doing_uses (unheard facts.turn.doing facts).next (unheard facts.turn.doing facts).facts;
 }
 passes_at setup phases (Some octets) facts at = record {
-  fits = heard_is setup facts _ (passes_fit phases setup facts at.fits) facts.turn.doing octets refl;
+  fits = heard_is setup facts (λ outcome. FitsPhase (suc phases) outcome.next) (passes_fit phases setup facts at.fits) facts.turn.doing octets refl
+      (λ handle. (passes_fit phases setup (facts_with_words setup handle facts) at.fits).received handle octets);
   uses = doing_uses (heard setup facts.turn.doing octets facts).next (heard setup facts.turn.doing octets facts).facts;
 }
 
@@ -320,7 +321,9 @@ heard_asks setup facts octets channel (AwaitsResponse on) is = none_asks (heard 
 heard_asks setup facts octets channel (CentralListens handle) is =
     none_asks (heard setup (CentralListens handle) octets facts).next channel _ (reply_asks (replies_in facts.turn.slot (has_room setup facts) (link_at handle facts.links) octets) handle) is
 heard_asks setup facts octets channel (PeripheralListens handle) is =
-    none_asks (heard setup (PeripheralListens handle) octets facts).next channel _ (reply_asks (replies_in facts.turn.slot (has_room setup facts) (link_at handle facts.links) octets) handle) is
+    let worded = facts_with_words setup handle facts in
+    none_asks (heard setup (PeripheralListens handle) octets facts).next channel _
+    (reply_asks (replies_in facts.turn.slot (has_room setup facts) (link_at handle worded.links) octets) handle) is
 heard_asks setup facts octets channel (Advertises on) is = absurd cc
 heard_asks setup facts octets channel (Requests on advertiser) is = absurd cc
 heard_asks setup facts octets channel (Connects on link) is = absurd cc

@@ -17,9 +17,9 @@ use Rattle.journal_data.specs.run_model.History.{Event, TurnBegan, HostFed, Call
 use Rattle.journal_data.specs.run_model.Journal.{journal_from, journal_of, side_of}
 use Rattle.journal_data.specs.run_model.LinkEnds.{HaveAddresses}
 use Rattle.journal_data.specs.run_model.Links.{Links, begins_link, links_after, links_of, with_link}
-use Rattle.journal_data.specs.run_model.Run.{Given, after_call, after_feed, facts_at, hearings_of, octets_left, setup_at, step_of, use_at}
+use Rattle.journal_data.specs.run_model.Run.{Given, after_call, after_feed, facts_at, hearings_of, octets_left, setup_at, step_of, unseen_in, use_at}
 use Rattle.journal_data.proofs.run_model.Fronts.{More, feed_more}
-use Rattle.journal_data.proofs.run_model.LinkEnds.{is_listener, received_by, received_event}
+use Rattle.journal_data.proofs.run_model.LinkEnds.{is_listener, received_by, received_packet}
 use Rattle.journal_data.proofs.run_model.LinksKnown.{last_by_call, links_event}
 use Rattle.journal_data.proofs.run_model.Parts.{journal_more}
 use Rattle.journal_data.proofs.run_model.Places.{each_event}
@@ -164,7 +164,8 @@ in_more station other done is = by (station == other) refl
 
 module _ (given : Given) (pair : IsOfTwo given) where
   module _ (fates : List Fate) (phases : ℕ) (done left : List ℕ) (sender channel : ℕ) (octets : List ℕ) (history : List Event) (are : given.stations ≡ done ++ sender ∷ left)
-      (out : is_in sender done ≡ false) (wanted : use_at given sender history ≡ Sends channel octets) (opening : AreOpening given (AtPackets phases done (sender ∷ left)) history) where
+      (out : is_in sender done ≡ false) (wanted : use_at given sender history ≡ Sends channel octets)
+      (seen : unseen_in octets (hearings_of given fates sender channel octets history) ≡ None) (opening : AreOpening given (AtPackets phases done (sender ∷ left)) history) where
     abbrev hearings : List Hearing
     hearings = hearings_of given fates sender channel octets history
 
@@ -192,7 +193,7 @@ module _ (given : Given) (pair : IsOfTwo given) where
 
     new_opens : Opens given after history event
     new_opens = λ will. inr (record {
-      heard = received_event (other_of sender) history event ∙ ap (λ b. if b then Some octets else packet_received (other_of sender) history) will.received;
+      heard = received_packet given fates (other_of sender) sender channel octets history seen ∙ ap (λ b. if b then Some octets else packet_received (other_of sender) history) will.received;
       same = ap (facts_of (setup_at given (other_of sender))) (event_past (other_of sender) history event refl);
       number = ap (λ (links : Links). links.last_of (other_of sender))
           (links_event history event ∙ ap (λ b. if b then with_link sender hearings (links_of history) else links_of history) will.begins)
@@ -211,7 +212,7 @@ module _ (given : Given) (pair : IsOfTwo given) where
             in_more_same (other_of station) sender done (ap (λ n. n == sender) (sym other) ∙ same_number sender)
         by station heard in_it is false received =
             in_more (other_of station) sender done (opening.sent station heard in_it
-            (sym (received_event station history event ∙ ap (λ b. if b then Some octets else packet_received station history) received) ∙ is))
+            (sym (received_packet given fates station sender channel octets history seen ∙ ap (λ b. if b then Some octets else packet_received station history) received) ∙ is))
 
     packet_opens : Each (Opens given after) [] after
     packet_opens = event_opens given history event heard_none new_opens opening.each
@@ -324,8 +325,8 @@ module _ (given : Given) (pair : IsOfTwo given) where
     on_packet = λ phases plan done left station channel octets history are some due is.
         let out = not_before given.stations done left station distinct are in record {
           hearing = kept.on_packet phases plan done left station channel octets history are some due is.hearing;
-          sent = packet_sent_by plan.fates phases done left station channel octets history are out due.is_wanted is;
-          each = packet_opens plan.fates phases done left station channel octets history are out due.is_wanted is;
+          sent = packet_sent_by plan.fates phases done left station channel octets history are out due.is_wanted due.is_seen is;
+          each = packet_opens plan.fates phases done left station channel octets history are out due.is_wanted due.is_seen is;
         };
     on_air = λ phases history is. record { hearing = kept.on_air phases history is.hearing; sent = tt; each = is.each };
     on_hearing = λ phases done left station history are some is. record {

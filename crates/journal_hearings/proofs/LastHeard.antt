@@ -10,12 +10,13 @@ use Rattle.journal_data.specs.controller_model.Packets.{use_of}
 use Rattle.journal_data.specs.controller_model.Side.{facts_of}
 use Rattle.journal_data.specs.run_model.Due.{IsDue}
 use Rattle.journal_data.specs.run_model.Feeding.{AreDistinct}
-use Rattle.journal_data.specs.run_model.History.{Event, TurnBegan, HostFed, Called, Noted, Transmitted, Hearing, has_received, one_if, packet_received, past_of, received_after, steps_in, turns_begun, turns_in}
+use Rattle.journal_data.specs.run_model.History.{Event, TurnBegan, HostFed, Called, Noted, Transmitted, Hearing, handed_or, has_received, one_if, packet_received, past_of, received_after, steps_in, turns_begun, turns_in}
 use Rattle.journal_data.specs.run_model.LinkEnds.{HaveAddresses}
 use Rattle.journal_data.specs.run_model.Links.{Links, begins_link, links_after, links_noted, links_of, with_link}
-use Rattle.journal_data.specs.run_model.Run.{Given, history_of, run_of, setup_at, use_at}
+use Rattle.journal_data.specs.run_model.Run.{Given, history_of, run_of, setup_at, unseen_in, use_at}
 use Rattle.journal_data.proofs.run_model.Calls.{flat_nothing, turns_same}
 use Rattle.journal_data.proofs.run_model.Dues.{run_due}
+use Rattle.journal_data.proofs.run_model.Handed.{handed_received}
 use Rattle.journal_data.proofs.run_model.LinkEnds.{is_listener, received_event}
 use Rattle.journal_data.proofs.run_model.LinksKnown.{links_event}
 use Rattle.journal_data.proofs.run_model.Places.{each_at}
@@ -174,14 +175,24 @@ module _ (given : Given) (six : HaveAddresses given) (distinct : AreDistinct giv
           (same_by history rest (Called other step) at (packet_received station history) heard (ap (λ b. one_if b step) is) refl (λ one at. refl))
   event_heard history rest (Transmitted sender channel octets hearings) at heard = by (has_received station hearings) refl
     where
+      packet : IsDue given history (Transmitted sender channel octets hearings)
+      packet = due history rest (Transmitted sender channel octets hearings) at
+
+      handed : handed_or (packet_received station history) station octets hearings ≡ (if has_received station hearings then Some octets else packet_received station history)
+      handed = subst (λ xs. handed_or (packet_received station history) station octets xs ≡ (if has_received station xs then Some octets else packet_received station history))
+          (sym packet.hearings_are)
+          (handed_received given packet.plan.fates sender channel octets history (packet_received station history) station
+          (ap (unseen_in octets) (sym packet.hearings_are) ∙ packet.is_seen))
+
       by : (received : Bool) → has_received station hearings ≡ received
           → HeardIf given (history ++ Transmitted sender channel octets hearings ∷ []) station (packet_received station (history ++ Transmitted sender channel octets hearings ∷ []))
       by true is =
-          next_by history rest (Transmitted sender channel octets hearings) at (Some octets) (ap (λ b. if b then Some octets else packet_received station history) is)
+          next_by history rest (Transmitted sender channel octets hearings) at (Some octets)
+          (handed ∙ ap (λ b. if b then Some octets else packet_received station history) is)
           (new_heard history rest sender channel octets hearings at is)
       by false is =
           next_by history rest (Transmitted sender channel octets hearings) at (packet_received station history)
-          (ap (λ b. if b then Some octets else packet_received station history) is)
+          (handed ∙ ap (λ b. if b then Some octets else packet_received station history) is)
           (same_by history rest (Transmitted sender channel octets hearings) at (packet_received station history) heard refl refl
           (other_heard history rest sender channel octets hearings at is))
 

@@ -20,7 +20,7 @@ use Rattle.journal_data.specs.controller_model.declared.doing.Doing.TheVariants.
 use Rattle.journal_data.specs.controller_model.declared.doing.Doing.TheVariants.{Initiates, Connects, CentralSends, CentralListens, PeripheralListens, Rests}
 use Rattle.journal_data.specs.controller_model.Step.{Step, HostOctet, TurnBegins}
 use Rattle.journal_data.specs.controller_model.Facts.{Setup, Facts, Advertising, Sends, Listens}
-use Rattle.journal_data.specs.controller_model.Heard.{asks_if, connects, fields_sent, has_room, heard, if_pdu, initiator_heard, link_made, link_to, replies_in}
+use Rattle.journal_data.specs.controller_model.Heard.{asks_if, connects, facts_with_words, fields_sent, has_room, heard, if_pdu, initiator_heard, link_made, link_to, replies_in}
 use Rattle.journal_data.specs.controller_model.Heard.{reply_if, scanner_heard, unheard}
 use Rattle.journal_data.specs.controller_model.Packets.{advertisement_sent, advertising_packet, pdu_heard, sends_pdu}
 use Rattle.journal_data.specs.controller_model.Side.{facts_after, facts_of, notes_after}
@@ -249,7 +249,9 @@ offers_before setup facts = record {
 offering_before : (setup : Setup) (received : Option (List ℕ)) (facts : Facts) → is_offering (facts_after setup facts (step_of received)).turn.doing ≡ true
     → is_offering facts.turn.doing ≡ true
 offering_before setup None facts is = unheard_is setup facts _ (offers_before setup facts) facts.turn.doing refl is
-offering_before setup (Some octets) facts is = heard_is setup facts _ (offers_before setup facts) facts.turn.doing octets refl is
+offering_before setup (Some octets) facts is =
+    heard_is setup facts (λ outcome. is_offering outcome.next ≡ true → is_offering facts.turn.doing ≡ true) (offers_before setup facts)
+    facts.turn.doing octets refl (λ handle. (offers_before setup (facts_with_words setup handle facts)).received handle octets) is
 
 -- ---- at each place of a run
 

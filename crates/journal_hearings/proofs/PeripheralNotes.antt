@@ -25,7 +25,7 @@ use Rattle.journal_data.specs.controller_model.declared.doing.Doing.TheVariants.
 use Rattle.journal_data.specs.controller_model.Step.{Step, HostOctet, TurnBegins, PacketHeard, NothingHeard, TurnEnds}
 use Rattle.journal_data.specs.controller_model.Events.{notes_of_events}
 use Rattle.journal_data.specs.controller_model.Facts.{Setup, Facts}
-use Rattle.journal_data.specs.controller_model.Heard.{advertiser_answers, advertiser_heard, connects, events_reported, has_room, heard, if_pdu, initiator_heard}
+use Rattle.journal_data.specs.controller_model.Heard.{advertiser_answers, advertiser_heard, connects, events_reported, facts_with_words, has_room, heard, if_pdu, initiator_heard}
 use Rattle.journal_data.specs.controller_model.Heard.{link_heard, link_to, opens, scanner_heard, taken_if, unheard}
 use Rattle.journal_data.specs.controller_model.Links.{events_opened}
 use Rattle.journal_data.specs.controller_model.Outcome.{Outcome, notes_passed}
@@ -189,7 +189,7 @@ heard_takes setup facts octets (Initiates channel) does wants is =
 heard_takes setup facts octets (CentralListens handle) does wants is =
     passed_takes (heard setup (CentralListens handle) octets facts) _ (link_none setup handle octets facts) is
 heard_takes setup facts octets (PeripheralListens handle) does wants is =
-    passed_takes (heard setup (PeripheralListens handle) octets facts) _ (link_none setup handle octets facts) is
+    passed_takes (heard setup (PeripheralListens handle) octets facts) _ (link_none setup handle octets (facts_with_words setup handle facts)) is
 heard_takes setup facts octets (Advertises channel) does wants is =
     none_takes (notes_passed (unheard (Advertises channel) facts)) _ (unheard_none (Advertises channel) facts wants) is
 heard_takes setup facts octets doing does wants is = none_takes (notes_passed (unheard doing facts)) _ (unheard_none doing facts wants) is

@@ -132,6 +132,7 @@ settings_kept setup policy list = record {
     connects = λ channel heard pdu on access handle doing is_on hears answers next free in_range. is;
     received = λ handle heard. receiving_passes (Holds policy list) setup handle heard facts is;
   };
+  words = λ handle facts listens is. is;
 }
 
 -- ---- all calls

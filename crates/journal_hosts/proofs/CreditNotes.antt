@@ -18,6 +18,7 @@ use Rattle.hci_cmd.specs.Command.{command_of}
 use Rattle.hci_evt.specs.Event.{mask_bit_of, written}
 use Rattle.hci_evt.specs.declared.event.Event.{Event}
 use Rattle.hci_evt.specs.declared.event.Event.TheVariants.{DisconnectionComplete, HardwareError, BufferOverflow, ChannelSelection, CompletedPackets}
+use Rattle.host_view.specs.Links.{was_encrypted}
 use Rattle.host_view.specs.View.{View}
 use Rattle.host_view.specs.Unbuilt.{status_of}
 use Rattle.journal_data.specs.link_model.declared.setup.LinkSetup.{LinkSetup}
@@ -37,7 +38,7 @@ use Rattle.journal_data.specs.controller_model.Commands.{events_caused, notes_be
 use Rattle.journal_data.specs.controller_model.Data.{note_received, notes_offered, offer_of}
 use Rattle.journal_data.specs.controller_model.Events.{notes_of_events, passes}
 use Rattle.journal_data.specs.controller_model.Facts.{Setup, Facts}
-use Rattle.journal_data.specs.controller_model.Heard.{asks_if, does_report, events_reported, has_room, link_taken, notes_taken, report_event, report_events, scanner_after, with_scanner, events_received, link_heard}
+use Rattle.journal_data.specs.controller_model.Heard.{asks_if, does_report, events_reported, has_room, link_taken, notes_taken, report_event, report_events, scanner_after, with_scanner, events_received, facts_with_words, link_heard}
 use Rattle.journal_data.specs.controller_model.Links.{connection_complete, connection_failed, ends_for, facts_ending, note_shut, notes_ended, notes_ending, notes_opened, wants_enhanced, notes_without, notes_leaving}
 use Rattle.journal_data.specs.controller_model.Outcome.{notes_passed}
 use Rattle.journal_data.specs.controller_model.Packets.{notes_doing, notes_sent}
@@ -159,9 +160,10 @@ heard_none setup handle octets facts =
     let slot = facts.turn.slot in
     let room = has_room setup facts in
     let place = link_at handle facts.links in
-    let events = events_received handle slot room place octets in
+    let encrypted = was_encrypted handle facts.view.links in
+    let events = events_received encrypted handle slot room place octets in
     both (notes_taken slot room place octets) (notes_of_events facts.view events) (took_none slot room place octets)
-    (plain_notes facts.view events (procedures_other events (reception_events handle slot room place octets)))
+    (plain_notes facts.view events (procedures_other events (reception_events encrypted handle slot room place octets)))
 
 complete_plain : (enhanced : Bool) (link : LinkSetup) → IsOtherEvent (connection_complete enhanced link)
 complete_plain true link = tt
@@ -186,6 +188,11 @@ report_none false view pdu = tt
 scanned_none : (view : View) (answer : ScanAnswer) (pdu : AdvPdu) → AreNoCredits (notes_of_events view (events_reported answer pdu))
 scanned_none view answer pdu = report_none (does_report answer) view pdu
 
+link_none : (setup : Setup) (handle : ℕ) (octets : List ℕ) (facts : Facts) → AreNoCredits (notes_passed (link_heard setup handle octets facts))
+link_none setup handle octets facts =
+    let heard = link_heard setup handle octets facts in
+    both heard.notes (notes_doing heard.next heard.facts) (heard_none setup handle octets facts) (doing_none heard.next heard.facts)
+
 phase_none : (setup : Setup) (facts : Facts) → EachOutcome setup facts (λ outcome. AreNoCredits (notes_passed outcome))
 phase_none setup facts = record {
   rests = tt;
@@ -205,9 +212,7 @@ phase_none setup facts = record {
       let answer = scan_answer on.params facts.view.accepted on.recent pdu in
       both (notes_of_events facts.view (events_reported answer pdu)) [] (scanned_none facts.view answer pdu) tt;
   connects = λ channel octets pdu on access handle doing is_on hears answers next free in_range. tt;
-  received = λ handle octets.
-      let heard = link_heard setup handle octets facts in
-      both heard.notes (notes_doing heard.next heard.facts) (heard_none setup handle octets facts) (doing_none heard.next heard.facts);
+  received = λ handle octets. link_none setup handle octets facts;
 }
 
 -- ---- the calls of a turn before its end
@@ -224,6 +229,7 @@ turn_none setup facts (HostOctet octet) is = absurd is
 turn_none setup facts (TurnBegins slot on) is = begin_none slot on facts
 turn_none setup facts (PacketHeard octets) is =
     heard_is setup facts (λ outcome. AreNoCredits (notes_passed outcome)) (phase_none setup facts) facts.turn.doing octets refl
+    (λ handle. link_none setup handle octets (facts_with_words setup handle facts))
 turn_none setup facts NothingHeard is =
     unheard_is setup facts (λ outcome. AreNoCredits (notes_passed outcome)) (phase_none setup facts) facts.turn.doing refl
 turn_none setup facts TurnEnds is = absurd is

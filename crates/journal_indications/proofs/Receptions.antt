@@ -20,6 +20,7 @@ use Rattle.controller_model.specs.Since.{is_under}
 use Rattle.controller_model.specs.Step.{Step, HostOctet, TurnBegins, PacketHeard, NothingHeard, TurnEnds}
 use Rattle.controller_model.proofs.EndNotes.{received_each}
 use Rattle.controller_model.proofs.Handles.{own_handles}
+use Rattle.controller_model.specs.host_view.Links.{was_encrypted}
 use Rattle.link_changes.specs.Noted.{event_after}
 use Rattle.journal_data.specs.link_model.End.{notes_after as end_notes}
 use Rattle.journal_data.specs.link_model.Packets.{good_pdu}
@@ -28,6 +29,8 @@ use Rattle.journal_data.specs.open_links.OpenLinks.{OpenLink, facts_in, link_at}
 use Rattle.journal_data.specs.run_laws.Ends.{link_listened}
 use Rattle.journal_data.specs.run_model.Run.{step_of}
 use Rattle.journal_data.proofs.journal_acks.PhaseNotes.{IsOnLink, IsPhaseOf, IsPlainPhase, phase_of}
+use Rattle.journal_data.proofs.journal_acks.Worded.{link_worded, worded, worded_here}
+use Rattle.run_indications.proofs.run_pairs.Unencrypted.{worded_notes}
 use Rattle.journal_data.proofs.journal_acks.link_calls.CallNotes.{HasNoData, TakesNone, all_more, begin_noted, doing_noted, end_noted, events_noted, none_taken, octet_noted}
 use Rattle.journal_data.proofs.journal_links.SaidLines.{kind_said, said_under}
 use Rattle.journal_data.proofs.open_links.Handles.{handle_is}
@@ -123,6 +126,12 @@ listened handle (PeripheralListens other) on = ap Some (eqb-true other handle on
 listened handle (Advertises channel) on = absurd cc
 listened handle other on = absurd cc
 
+-- what the end of a link notes of a packet is the same where it was given words
+pub same_notes : (words : Bool) (setup : Setup) (facts : Facts) (link : OpenLink) (slot : ℕ) (room : Bool) (octets : List ℕ)
+    → notes_taken slot room (Some (link_worded words setup facts link)) octets ≡ notes_taken slot room (Some link) octets
+same_notes true setup facts link slot room octets = worded_notes setup facts (PeripheralListens 0) link slot octets room
+same_notes false setup facts link slot room octets = refl
+
 module _ (setup : Setup) (past : List Step) (earlier later : List Note) (handle count llid : ℕ) (body : ArrayVec ℕ) where
   abbrev facts : Facts
   facts = facts_of setup past
@@ -137,39 +146,48 @@ module _ (setup : Setup) (past : List Step) (earlier later : List Note) (handle 
   none_in step is none = not_among (notes_after setup facts step) earlier later handle count llid body (Is step) is none
 
   -- octets are received on a link
-  module _ (octets : List ℕ) (other : ℕ) (listens : (one : ℕ) → listens_under one facts.turn.doing ≡ (other == one))
-      (is : notes_passed (link_heard setup other octets facts) ≡ earlier ++ note ∷ later) where
+  module _ (octets : List ℕ) (other : ℕ) (words : Bool) (listens : (one : ℕ) → listens_under one facts.turn.doing ≡ (other == one))
+      (is : notes_passed (link_heard setup other octets (worded words setup other facts)) ≡ earlier ++ note ∷ later) where
     abbrev slot : ℕ
     slot = facts.turn.slot
 
     abbrev room : Bool
     room = has_room setup facts
 
+    abbrev held : Facts
+    held = worded words setup other facts
+
+    abbrev encrypted : Bool
+    encrypted = was_encrypted other facts.view.links
+
     abbrev after_taking : Option OpenLink → List Note
     after_taking found =
-        notes_of_events facts.view (events_received other slot room found octets)
-        ++ notes_doing (reply_if (replies_in slot room found octets) other) (link_received other room octets facts)
+        notes_of_events facts.view (events_received encrypted other slot room found octets) ++ notes_doing (reply_if (replies_in slot room found octets) other) (link_received other room octets held)
 
     none_after : (found : Option OpenLink) → All TakesNone (after_taking found)
     none_after found =
-        All-append TakesNone (notes_of_events facts.view (events_received other slot room found octets)) _
-        (events_noted TakesNone none_taken.starts.feeds facts.view (events_received other slot room found octets))
-        (doing_noted TakesNone none_taken.sent (reply_if (replies_in slot room found octets) other) (link_received other room octets facts))
+        All-append TakesNone (notes_of_events facts.view (events_received encrypted other slot room found octets)) _
+        (events_noted TakesNone none_taken.starts.feeds facts.view (events_received encrypted other slot room found octets))
+        (doing_noted TakesNone none_taken.sent (reply_if (replies_in slot room found octets) other) (link_received other room octets held))
 
-    parts : (found : Option OpenLink) → link_at other facts.links ≡ found → notes_taken slot room found octets ++ after_taking found ≡ earlier ++ note ∷ later
+    parts : (found : Option OpenLink) → link_at other held.links ≡ found → notes_taken slot room found octets ++ after_taking found ≡ earlier ++ note ∷ later
     parts found at =
-        sym (append_assoc (notes_taken slot room found octets) (notes_of_events facts.view (events_received other slot room found octets))
-        (notes_doing (reply_if (replies_in slot room found octets) other) (link_received other room octets facts)))
-        ∙ ap (λ place. (notes_taken slot room place octets ++ notes_of_events facts.view (events_received other slot room place octets))
-        ++ notes_doing (reply_if (replies_in slot room place octets) other) (link_received other room octets facts)) (sym at)
+        sym (append_assoc (notes_taken slot room found octets) (notes_of_events facts.view (events_received encrypted other slot room found octets))
+        (notes_doing (reply_if (replies_in slot room found octets) other) (link_received other room octets held)))
+        ∙ ap (λ place. (notes_taken slot room place octets ++ notes_of_events facts.view (events_received encrypted other slot room place octets))
+        ++ notes_doing (reply_if (replies_in slot room place octets) other) (link_received other room octets held)) (sym at)
         ∙ is
 
     by_link : (found : Option OpenLink) → link_at other facts.links ≡ found → Is (PacketHeard octets)
-    by_link None at = not_among (after_taking None) earlier later handle count llid body (Is (PacketHeard octets)) (parts None at) (none_after None)
+    by_link None at =
+        not_among (after_taking None) earlier later handle count llid body (Is (PacketHeard octets))
+        (parts None (worded_here words setup other facts None at)) (none_after None)
     by_link (Some link) at =
-        let found = among_first (notes_taken slot room (Some link) octets) (after_taking (Some link)) earlier later handle count llid body
-        (parts (Some link) at) (none_after (Some link)) in
-        let all = subst (All (IsOfPacket link.setup.link.handle)) found.is (all_of_packet slot room octets link) in
+        let base = link_worded words setup facts link in
+        let found = among_first (notes_taken slot room (Some base) octets) (after_taking (Some base)) earlier later handle count llid body
+        (parts (Some base) (worded_here words setup other facts (Some link) at)) (none_after (Some base)) in
+        let notes = sym (same_notes words setup facts link slot room octets) ∙ found.is in
+        let all = subst (All (IsOfPacket link.setup.link.handle)) notes (all_of_packet slot room octets link) in
         let own : link.setup.link.handle ≡ handle =
         (one_of (IsOfPacket link.setup.link.handle) earlier found.rest note all).names handle count llid body refl in
         let under : link.setup.link.handle ≡ other = handle_is 0 other facts.links link (own_handles setup past).handles at in
@@ -180,7 +198,7 @@ module _ (setup : Setup) (past : List Step) (earlier later : List Note) (handle 
           is_open = ap (λ n. link_at n facts.links) (sym same) ∙ at;
           listens = listens handle ∙ eq-eqb other handle same;
           rest = found.rest;
-          notes_are = found.is;
+          notes_are = notes;
           still = λ event. said_still link.setup.link.handle handle earlier (note ∷ found.rest) event all;
         }
 
@@ -189,11 +207,11 @@ module _ (setup : Setup) (past : List Step) (earlier later : List Note) (handle 
       → Is (step_of received)
   by_phase received is (IsPlainPhase deaf none) =
       none_in (step_of received) is (all_more HasNoData TakesNone (λ one plain. plain.takes) (notes_after setup facts (step_of received)) none)
-  by_phase None is (IsOnLink other octets got listens on) = absurd cc
-  by_phase (Some heard_now) is (IsOnLink other octets got listens on) =
+  by_phase None is (IsOnLink other words octets got listens on) = absurd cc
+  by_phase (Some heard_now) is (IsOnLink other words octets got listens on) =
       let same : octets ≡ heard_now = cc in
       subst (λ xs. Is (PacketHeard xs)) same
-      (by_link octets other listens (ap notes_passed (sym on) ∙ ap (λ xs. notes_after setup facts (PacketHeard xs)) same ∙ is) (link_at other facts.links) refl)
+      (by_link octets other words listens (ap notes_passed (sym on) ∙ ap (λ xs. notes_after setup facts (PacketHeard xs)) same ∙ is) (link_at other facts.links) refl)
 
   pub reception_of : (step : Step) → notes_after setup facts step ≡ earlier ++ note ∷ later → Is step
   reception_of (HostOctet octet) is = none_in (HostOctet octet) is (octet_noted TakesNone none_taken.starts.feeds setup facts octet)

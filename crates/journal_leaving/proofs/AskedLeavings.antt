@@ -4,7 +4,7 @@ use Rattle.std.specs.List.{AllByRecursion}
 use Rattle.std.proofs.lemmas.List.{append_cancel_left}
 use Rattle.ble_base.specs.declared.notes.Note.{Note}
 use Rattle.ble_base.specs.declared.roles.Side.{Side}
-use Rattle.journal_controls.specs.controller_model.Facts.{Facts}
+use Rattle.journal_controls.specs.controller_model.Facts.{Setup as StationSetup, Facts}
 use Rattle.journal_controls.specs.controller_model.Side.{notes_after}
 use Rattle.journal_controls.specs.controller_model.Step.{Step as Call}
 use Rattle.hci_cmd.specs.declared.command.Command.{Command}
@@ -26,6 +26,7 @@ use Rattle.journal_controls.proofs.journal_acks.link_calls.HostSteps.{asked_is_w
 use Rattle.journal_controls.proofs.journal_ends.AskedCalls.{call_journal}
 use Rattle.journal_controls.proofs.journal_ends.HostedLinks.{IsAsked}
 use Rattle.journal_controls.proofs.journal_ends.run_laws.Agreed.{step_facts}
+use Rattle.journal_controls.proofs.link_model.Plain.{past_plain}
 use Rattle.journal_leaving.specs.Leaving.{is_own_packet, leaving_after, leaving_asking, leaving_from, leaving_on}
 use Rattle.journal_leaving.specs.Said.{leaving_if_asked}
 use Rattle.journal_leaving.proofs.AskedSteps.{none_leaves, one_leaves}
@@ -129,20 +130,20 @@ module _ (handle slot : ℕ) (commands : List Command) (base after : OpenLink) (
   seen_are more past = sym (is.asks side number) ∙ ap (seen_in_steps side number base.setup (facts_in base)) (steps_are more past)
 
   -- by what the host did to the link that was there
-  pub end_asked : (facts : Facts) (octet : ℕ) → link_at handle facts.links ≡ Some base → HasHeardHost facts octet handle after
+  pub end_asked : (setup : StationSetup) (facts : Facts) (octet : ℕ) → link_at handle facts.links ≡ Some base → HasHeardHost setup facts octet handle after
       → leaving_if_asked is.asked (facts_in base).leaving ≡ (facts_in after).leaving
-  end_asked facts octet was (Unchanged now) =
+  end_asked setup facts octet was (Unchanged now) =
       let same : base ≡ after = (let both : Some base ≡ Some after = sym was ∙ now in cc) in
       none_leaves is.asked (facts_in base).leaving (seen_are [] (ap (λ (l : OpenLink). l.past) (sym same) ∙ sym (append-nil base.past)))
       ∙ ap (λ l. (facts_in l).leaving) same
-  end_asked facts octet was (GetsData link start body there now) =
+  end_asked setup facts octet was (GetsData link start body there now) =
       let same : base ≡ link = (let both : Some base ≡ Some link = sym was ∙ there in cc) in
       let grown : after ≡ link_after (DataGiven start body) base = now ∙ ap (link_after (DataGiven start body)) (sym same) in
       none_leaves is.asked (facts_in base).leaving (seen_are (DataGiven start body ∷ []) (ap (λ (l : OpenLink). l.past) grown))
       ∙ sym (ap (λ (l : OpenLink). (facts_in l).leaving) grown ∙ ap (λ (f : EndFacts). f.leaving) (step_facts base (DataGiven start body)))
-  end_asked facts octet was (AsksStep link command step there accepted asks now) =
+  end_asked setup facts octet was (AsksStep link command step there accepted asks now) =
       let same : base ≡ link = (let both : Some base ≡ Some link = sym was ∙ there in cc) in
       let grown : after ≡ link_after step base = now ∙ ap (link_after step) (sym same) in
-      let well = asked_is_well facts octet handle command link.setup.link.role (facts_in link).peer step accepted asks in
-      one_leaves side number base.setup (facts_in base) is.asked step well.by_host (seen_are (step ∷ []) (ap (λ (l : OpenLink). l.past) grown))
+      let well = asked_is_well setup facts octet handle command link.setup.link.role (facts_in link).peer step accepted asks in
+      one_leaves side number base.setup (facts_in base) is.asked step well.by_host (past_plain base.setup base.past) (seen_are (step ∷ []) (ap (λ (l : OpenLink). l.past) grown))
       ∙ sym (ap (λ (l : OpenLink). (facts_in l).leaving) grown ∙ ap (λ (f : EndFacts). f.leaving) (step_facts base step))

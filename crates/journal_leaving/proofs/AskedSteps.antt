@@ -9,7 +9,7 @@ use Rattle.journal_controls.specs.link_model.End.{facts_after}
 use Rattle.journal_controls.specs.link_model.Facts.{Facts}
 use Rattle.journal_controls.specs.link_model.Hosts.{asked_unless, is_to_come}
 use Rattle.journal_controls.specs.link_model.Setup.{Setup}
-use Rattle.journal_controls.specs.link_model.Step.{Step, Disconnected, ProcedureAsked, RequestAnswered}
+use Rattle.journal_controls.specs.link_model.Step.{Step, Disconnected, KeyAnswered, ProcedureAsked, RequestAnswered}
 use Rattle.journal_controls.specs.link_model.Times.{ended_by_procedures, ending_of}
 use Rattle.journal_controls.specs.link_model.control_model.Control.{Control, table_if}
 use Rattle.journal_controls.specs.link_model.declared.state.Leaving.{Leaving}
@@ -17,20 +17,23 @@ use Rattle.journal_controls.specs.link_model.procedure_stages.Closing.{is_open}
 use Rattle.journal_controls.specs.link_model.procedure_stages.InProgress.{is_host_asked}
 use Rattle.journal_controls.specs.link_model.procedures.Beginning.{ask_step}
 use Rattle.journal_controls.specs.link_model.procedures.Going.{host_answer_step, is_answer, terminate_step}
+use Rattle.journal_controls.specs.link_model.Plain.{IsPlain}
 use Rattle.journal_leaving.specs.Leaving.{leaving_asking}
 use Rattle.journal_leaving.specs.Said.{leaving_if_asked}
+use Rattle.journal_leaving.proofs.NoKeys.{key_changes_none}
 
 -- ---- how it is to leave
 
-pub step_leaves : (setup : Setup) (facts : Facts) (step : Step) → IsAskedStep step → (facts_after setup facts step).leaving ≡ leaving_asking step facts.leaving
-step_leaves setup facts (ProcedureAsked ask) by_host = by (is_to_come ask facts)
+pub step_leaves : (setup : Setup) (facts : Facts) (step : Step) → IsAskedStep step → IsPlain setup.link.role facts → (facts_after setup facts step).leaving ≡ leaving_asking step facts.leaving
+step_leaves setup facts (ProcedureAsked ask) by_host plain = by (is_to_come ask facts)
   where
     by : (comes : Bool) → (asked_unless comes ask facts).leaving ≡ facts.leaving
     by true = refl
     by false = refl
-step_leaves setup facts (RequestAnswered answer) by_host = refl
-step_leaves setup facts (Disconnected reason slot) by_host = refl
-step_leaves setup facts other by_host = absurd by_host
+step_leaves setup facts (RequestAnswered answer) by_host plain = refl
+step_leaves setup facts (KeyAnswered key slot) by_host plain = ap (λ (f : Facts). f.leaving) (key_changes_none setup facts key slot plain)
+step_leaves setup facts (Disconnected reason slot) by_host plain = refl
+step_leaves setup facts other by_host plain = absurd by_host
 
 -- by what is seen of it
 abbrev leaving_seeing : List Seen → Leaving → Leaving
@@ -49,6 +52,7 @@ if_seen (Some step) leaving = step_seen step leaving
 steps_seen : (side : Side) (number : ℕ) (setup : Setup) (facts : Facts) (step : Step) → IsAskedStep step → seen_in_steps side number setup facts (step ∷ []) ≡ asked_in_step step
 steps_seen side number setup facts (ProcedureAsked ask) by_host = refl
 steps_seen side number setup facts (RequestAnswered answer) by_host = refl
+steps_seen side number setup facts (KeyAnswered key slot) by_host = refl
 steps_seen side number setup facts (Disconnected reason slot) by_host = refl
 steps_seen side number setup facts other by_host = absurd by_host
 
@@ -57,11 +61,11 @@ pub none_leaves : (asked : Option Step) (leaving : Leaving) → asked_if asked �
 none_leaves asked leaving none = sym (if_seen asked leaving) ∙ ap (λ seen. leaving_seeing seen leaving) none
 
 -- that step is
-pub one_leaves : (side : Side) (number : ℕ) (setup : Setup) (facts : Facts) (asked : Option Step) (step : Step) → IsAskedStep step
+pub one_leaves : (side : Side) (number : ℕ) (setup : Setup) (facts : Facts) (asked : Option Step) (step : Step) → IsAskedStep step → IsPlain setup.link.role facts
     → asked_if asked ≡ seen_in_steps side number setup facts (step ∷ []) → leaving_if_asked asked facts.leaving ≡ (facts_after setup facts step).leaving
-one_leaves side number setup facts asked step by_host is =
+one_leaves side number setup facts asked step by_host plain is =
     sym (if_seen asked facts.leaving) ∙ ap (λ seen. leaving_seeing seen facts.leaving) (is ∙ steps_seen side number setup facts step by_host)
-    ∙ step_seen step facts.leaving ∙ sym (step_leaves setup facts step by_host)
+    ∙ step_seen step facts.leaving ∙ sym (step_leaves setup facts step by_host plain)
 
 -- ---- whether it ends
 
@@ -69,23 +73,24 @@ either_ends : (goes : Bool) (moved control : Control) → moved.ends ≡ control
 either_ends true moved control same = same
 either_ends false moved control same = refl
 
-step_ends : (setup : Setup) (facts : Facts) (step : Step) → IsAskedStep step → (facts_after setup facts step).control.ends ≡ facts.control.ends
-step_ends setup facts (ProcedureAsked ask) by_host = by (is_to_come ask facts)
+step_ends : (setup : Setup) (facts : Facts) (step : Step) → IsAskedStep step → IsPlain setup.link.role facts → (facts_after setup facts step).control.ends ≡ facts.control.ends
+step_ends setup facts (ProcedureAsked ask) by_host plain = by (is_to_come ask facts)
   where
     by : (comes : Bool) → (asked_unless comes ask facts).control.ends ≡ facts.control.ends
     by true = refl
     by false = let c = facts.control in either_ends (is_none c.ends) (record c { table = ask_step c.table ask }) c refl
-step_ends setup facts (RequestAnswered answer) by_host =
+step_ends setup facts (KeyAnswered key slot) by_host plain = ap (λ (f : Facts). f.control.ends) (key_changes_none setup facts key slot plain)
+step_ends setup facts (RequestAnswered answer) by_host plain =
     let c = facts.control in
     let table = host_answer_step c.table answer in
     let may = is_host_asked c.table.progress && is_answer answer in
     either_ends (is_none c.ends) (table_if may table c) c (either_ends may (record c { table = table }) c refl)
-step_ends setup facts (Disconnected reason slot) by_host =
+step_ends setup facts (Disconnected reason slot) by_host plain =
     let c = facts.control in
     let table = terminate_step c.table reason in
     let may = is_open c.table.closing in
     either_ends (is_none c.ends) (table_if may table c) c (either_ends may (record c { table = table }) c refl)
-step_ends setup facts other by_host = absurd by_host
+step_ends setup facts other by_host plain = absurd by_host
 
 abbrev ending_by : Option ErrCode → Leaving → Option ErrCode
 ending_by ends leaving = if leaving.acknowledged then Some (record { 0 = terminated_by_local_host }) else ended_by_procedures ends leaving
@@ -95,6 +100,6 @@ asking_ends None (Disconnected reason slot) leaving = refl
 asking_ends (Some code) (Disconnected reason slot) leaving = refl
 asking_ends ends step leaving = refl
 
-pub step_ending : (setup : Setup) (facts : Facts) (step : Step) → IsAskedStep step → ending_of (facts_after setup facts step) ≡ ending_of facts
-step_ending setup facts step by_host =
-    (λ i. ending_by (step_ends setup facts step by_host i) (step_leaves setup facts step by_host i)) ∙ asking_ends facts.control.ends step facts.leaving
+pub step_ending : (setup : Setup) (facts : Facts) (step : Step) → IsAskedStep step → IsPlain setup.link.role facts → ending_of (facts_after setup facts step) ≡ ending_of facts
+step_ending setup facts step by_host plain =
+    (λ i. ending_by (step_ends setup facts step by_host plain i) (step_leaves setup facts step by_host plain i)) ∙ asking_ends facts.control.ends step facts.leaving

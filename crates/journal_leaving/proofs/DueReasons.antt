@@ -12,7 +12,7 @@ use Rattle.journal_controls.specs.controller_model.Shutting.{timed_out, unanswer
 use Rattle.journal_controls.specs.journal_ends.open_links.OpenLinks.{OpenLink, facts_in}
 use Rattle.journal_controls.specs.journal_links.Begun.{LinkBegun}
 use Rattle.journal_controls.specs.link_model.Facts.{Facts, params_of}
-use Rattle.journal_controls.specs.link_model.Hosts.{asked_unless, facts_answered, facts_disconnected}
+use Rattle.journal_controls.specs.link_model.Hosts.{asked_unless, facts_answered, facts_disconnected, first_slot}
 use Rattle.journal_controls.specs.link_model.Lost.{has_failed, has_timed_out, reason_due}
 use Rattle.journal_controls.specs.link_model.Setup.{Setup}
 use Rattle.journal_controls.specs.link_model.Times.{due_of, ended_by_procedures, ending_of, first_of, termination_due}
@@ -147,15 +147,17 @@ answer_due setup facts answer slot =
 none_passed : (timeout slot : ℕ) → 1 ≤ timeout → has_timed_out slot timeout slot ≡ false
 none_passed timeout slot some = grind (arith, some)
 
-not_due : (since : Option ℕ) (params : Params) (slot : ℕ) → 1 ≤ params.timeout → since ≡ None → termination_due (Some slot) params slot ≡ termination_due since params slot
-not_due since params slot some none = ap (λ b. if b then Some terminated_by_local_host else None) (none_passed params.timeout slot some) ∙ ap (λ one. termination_due one params slot) (sym none)
+first_due : (since : Option ℕ) (params : Params) (slot : ℕ) → 1 ≤ params.timeout → termination_due (Some (first_slot since slot)) params slot ≡ termination_due since params slot
+first_due None params slot some = ap (λ b. if b then Some terminated_by_local_host else None) (none_passed params.timeout slot some)
+first_due (Some first) params slot some = refl
 
-pub disconnect_due : (setup : Setup) (facts : Facts) (reason : ErrCode) (slot : ℕ) → facts.leaving.disconnected ≡ None → 1 ≤ (params_of facts).timeout
+pub disconnect_due : (setup : Setup) (facts : Facts) (reason : ErrCode) (slot : ℕ) → 1 ≤ (params_of facts).timeout
     → due_of setup (facts_disconnected reason slot facts) slot ≡ due_of setup facts slot
-disconnect_due setup facts reason slot none some =
+disconnect_due setup facts reason slot some =
     let c = facts.control in
+    let since = Some (first_slot facts.leaving.disconnected slot) in
     let table = terminate_step c.table reason in
-    either_due setup facts.last_good c (table_if (is_open c.table.closing) table c) (Some slot) slot (is_none c.ends)
-    (either_due setup facts.last_good c (record c { table = table }) (Some slot) slot (is_open c.table.closing) (as_due setup facts.last_good c table (Some slot) slot (refl, refl)))
+    either_due setup facts.last_good c (table_if (is_open c.table.closing) table c) since slot (is_none c.ends)
+    (either_due setup facts.last_good c (record c { table = table }) since slot (is_open c.table.closing) (as_due setup facts.last_good c table since slot (refl, refl)))
     ∙ ap (λ ended. first_of (reason_due setup.opened c.track.params facts.last_good slot)
-    (first_of (option_map (λ (code : ErrCode). code.0) (timeout_of slot (held_of c))) ended)) (not_due facts.leaving.disconnected (params_of facts) slot some none)
+    (first_of (option_map (λ (code : ErrCode). code.0) (timeout_of slot (held_of c))) ended)) (first_due facts.leaving.disconnected (params_of facts) slot some)

@@ -11,6 +11,7 @@ use Rattle.data_pdu.specs.Header.{header_in}
 use Rattle.ack_bit.specs.AckBits.{acknowledges}
 use Rattle.journal.specs.declared.entries.Entry.{Entry}
 use Rattle.journal.specs.declared.entries.Entry.TheVariants.{Took}
+use Rattle.journal_controls.specs.Withheld.{Withheld}
 use Rattle.journal_controls.specs.KeyedLines.{given_by, keyed_by_all}
 use Rattle.journal_controls.specs.LineSteps.{is_more_acked, steps_said}
 use Rattle.journal_controls.specs.OneEnd.{IsToldOf}
@@ -104,7 +105,7 @@ module _ (side : Side) (number : ℕ) where
       (began_none handle entry.began)
 
   -- their lines change nothing
-  none_noted : (withheld : Bool) (response : Response) (slot : ℕ) (notes : List Note) (k : Keyed) (l : Leaving) → NoneTakes side number notes
+  none_noted : (withheld : Withheld) (response : Response) (slot : ℕ) (notes : List Note) (k : Keyed) (l : Leaving) → NoneTakes side number notes
       → leaving_noted side number withheld response slot notes k l ≡ l
   none_noted withheld response slot [] k l none = refl
   none_noted withheld response slot (note ∷ notes) k l none =
@@ -112,13 +113,13 @@ module _ (side : Side) (number : ℕ) where
       none_noted withheld response slot notes (keyed_by_all (steps_said withheld response slot k line) k) (leaving_saying response slot (Some k) l line) none.1
       ∙ saying_none response slot (Some k) l line none.0
 
-  pub entry_noted : (withheld : Bool) (response : Response) (slot : ℕ) (setup : Setup) (facts : Facts) (l : Leaving) (k : Keyed)
+  pub entry_noted : (withheld : Withheld) (response : Response) (slot : ℕ) (setup : Setup) (facts : Facts) (l : Leaving) (k : Keyed)
       → leaving_noted side number withheld response slot (notes_after setup facts (EventEntered slot)) k l ≡ l
   entry_noted withheld response slot setup facts l k =
       none_noted withheld response slot (notes_after setup facts (EventEntered slot)) k l
       (entered_none (goes_on facts) setup.link.handle (facts_entered setup slot facts).event (entry_of slot (is_quiet_now facts) (held_of facts.control)))
 
-  pub sent_noted : (withheld : Bool) (response : Response) (slot : ℕ) (setup : Setup) (facts : Facts) (l : Leaving) (k : Keyed)
+  pub sent_noted : (withheld : Withheld) (response : Response) (slot : ℕ) (setup : Setup) (facts : Facts) (l : Leaving) (k : Keyed)
       → leaving_noted side number withheld response slot (notes_after setup facts (PacketSent slot)) k l ≡ l
   sent_noted withheld response slot setup facts l k =
       none_noted withheld response slot (notes_after setup facts (PacketSent slot)) k l
@@ -126,12 +127,12 @@ module _ (side : Side) (number : ℕ) where
 
   -- ---- the notes of a packet that is heard
 
-  done_first : (withheld : Bool) (response : Response) (slot handle : ℕ) (kind : Option Kind) (notes : List Note) (k : Keyed) (l : Leaving)
+  done_first : (withheld : Withheld) (response : Response) (slot handle : ℕ) (kind : Option Kind) (notes : List Note) (k : Keyed) (l : Leaving)
       → leaving_noted side number withheld response slot (done_notes handle kind ++ notes) k l ≡ leaving_noted side number withheld response slot notes k l
   done_first withheld response slot handle None notes k l = refl
   done_first withheld response slot handle (Some kind) notes k l = refl
 
-  took_first : (withheld accepted empty control : Bool) (response : Response) (slot handle : ℕ) (pdu : Pdu) (now : Facts) (notes : List Note) (k : Keyed) (l : Leaving)
+  took_first : (withheld : Withheld) (accepted empty control : Bool) (response : Response) (slot handle : ℕ) (pdu : Pdu) (now : Facts) (notes : List Note) (k : Keyed) (l : Leaving)
       → is_empty pdu ≡ empty → is_control pdu ≡ control → NoneTakes side number notes
       → leaving_noted side number withheld response slot (took_notes_if (accepted && not empty) handle pdu now ++ notes) k l
       ≡ left_by (accepted && (control && not empty)) response slot pdu k l
@@ -180,7 +181,7 @@ forged_leaving true facts = refl
 forged_leaving false facts = refl
 
 -- what it says of the packet moves it, from what it was as the packet reached it
-module _ (side : Side) (number : ℕ) (withheld : Bool) (slot : ℕ) (room : Bool) (setup : Setup) (facts : Facts) where
+module _ (side : Side) (number : ℕ) (withheld : Withheld) (slot : ℕ) (room : Bool) (setup : Setup) (facts : Facts) where
   abbrev words : Response
   words = facts.encryption.response
 

@@ -6,9 +6,10 @@ use Rattle.std.proofs.lemmas.List.{append_cancel_left}
 use Rattle.ble_base.specs.declared.notes.Note.{Note}
 use Rattle.ble_base.specs.declared.notes.Note.TheVariants.{Up}
 use Rattle.ble_base.specs.declared.roles.Side.{Side}
+use Rattle.journal_controls.specs.Withheld.{withheld_by}
 use Rattle.journal_controls.specs.controller_model.Side.{notes_after}
 use Rattle.journal_controls.specs.controller_model.Step.{Step as Call}
-use Rattle.journal_controls.specs.host_masks.Masks.{masks_of, withholds_requests}
+use Rattle.journal_controls.specs.host_masks.Masks.{masks_of}
 use Rattle.journal_controls.proofs.host_answers.LineAnswers.{IsQuiet}
 use Rattle.journal.specs.declared.entries.Entry.{Entry}
 use Rattle.journal.specs.declared.entries.Entry.TheVariants.{Fed, Turn}
@@ -114,7 +115,7 @@ line_moving number side history event line is deaf unaccepted own begins feeds =
       lines = ap (λ xs. lines_of side number xs) journal ∙ line_more side number front line named (append-nil named);
       turns = ap turn_now journal
           ∙ ap (λ (turns : List PairOpening). length turns - 1) (flat_map-append pair_openings_in front (line ∷ []) ∙ (λ i. turns_of front ++ (begins i ++ [])) ∙ append-nil (turns_of front));
-      withheld = ap (withholds side) journal ∙ ap (λ octets. withholds_requests (masks_of octets))
+      withheld = ap (withholds side) journal ∙ ap (λ octets. withheld_by (masks_of octets))
           (flat_map-append (fed_in side) front (line ∷ []) ∙ (λ i. fed_to_side side front ++ (feeds i ++ [])) ∙ append-nil (fed_to_side side front));
       drawn = refl;
       keyed = λ k none was.

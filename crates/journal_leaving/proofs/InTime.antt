@@ -1,5 +1,5 @@
 -- In a run of two stations each open end is due as its lines tell until its station begins the turn, and then it is not.
-use Rattle.std.proofs.Common.{◌≡◌, ℕ, suc, ◌+◌, ◌-◌, ◌==◌, ◌⊎◌, inl, inr, not, Bool, true, false, Option, Some, None, List, [], ◌∷◌, ◌++◌, replicate, refl, sym, ap, subst, ◌∙◌, append_assoc, arith}
+use Rattle.std.proofs.Common.{◌≡◌, ℕ, suc, ◌+◌, ◌-◌, ◌≤◌, ◌==◌, ◌⊎◌, inl, inr, not, Bool, true, false, Option, Some, None, List, [], ◌∷◌, ◌++◌, replicate, refl, sym, ap, subst, ◌∙◌, append_assoc, arith}
 use Rattle.std.specs.Prelude.{All, ⊤, fold, map, take, if◌then◌else◌}
 use Rattle.std.proofs.lemmas.Bool.{eqb-true}
 use Rattle.std.proofs.lemmas.List.Sums.{fold-append}
@@ -10,7 +10,8 @@ use Rattle.journal_controls.specs.controller_model.Side.{facts_after, facts_of, 
 use Rattle.journal_controls.specs.controller_model.Step.{Step as Call, HostOctet, TurnBegins, TurnEnds}
 use Rattle.journal_controls.specs.journal_acks.link_calls.Phases.{HasPassed, IsNew, Stays, Takes}
 use Rattle.journal_controls.specs.journal_links.Begun.{link_numbered, links_begun}
-use Rattle.journal_controls.specs.open_links.OpenLinks.{OpenLink, link_at}
+use Rattle.journal_controls.specs.link_model.Facts.{params_of}
+use Rattle.journal_controls.specs.open_links.OpenLinks.{OpenLink, facts_in, link_at}
 use Rattle.journal_controls.specs.open_links.Turns.{due_in}
 use Rattle.journal_controls.specs.run_model.Due.{Each}
 use Rattle.journal_controls.specs.run_model.Feeding.{AreDistinct}
@@ -54,7 +55,7 @@ use Rattle.run_pairs.proofs.OneSide.{IsSetUp, StationAt, station_first, station_
 use Rattle.journal_leaving.specs.Reasons.{due_begun}
 use Rattle.journal_leaving.proofs.DueBegun.{AreIn, IsNotDue, air_due, air_in, due_begun_at, none_in, none_not_due, not_due_grown, not_due_now, not_due_turn, still_due, still_links, turn_due, turn_in}
 use Rattle.journal_leaving.proofs.EventMoves.{turn_still}
-use Rattle.journal_leaving.proofs.HostDue.{IsAtRest, octet_due as link_due}
+use Rattle.journal_leaving.proofs.HostDue.{octet_due as link_due}
 use Rattle.journal_leaving.proofs.KeptLeavings.{AreLeftAt, all_left, leavings_first, leavings_kept, turn_is}
 use Rattle.journal_leaving.proofs.OtherLines.{call_reads, feed_reads, host_reads}
 use Rattle.journal_leaving.proofs.Timeouts.{end_timed}
@@ -172,19 +173,17 @@ module _ (given : Given) where
   -- ---- what a host sends
 
   module _ (taken : AreTaken) (distinct : AreDistinct given.stations) where
-    -- before an octet each open end of its station lasts, and its timeout is not 0
+    -- before an octet the timeout of each open end of its station is not 0
     rests_at : (history rest : List Event) (station handle : ℕ) (link : OpenLink) → is_in station given.stations ≡ true → history_of (run_of given) ≡ history ++ rest
-        → standing (past_of station history) ≡ Some (at_stage Between (turns_begun history - 1)) → link_at handle (facts_at given station history).links ≡ Some link → IsAtRest link
+        → standing (past_of station history) ≡ Some (at_stage Between (turns_begun history - 1)) → link_at handle (facts_at given station history).links ≡ Some link → 1 ≤ (params_of (facts_in link)).timeout
     rests_at history rest station handle link in_it at stands is_open =
         let setup = setup_at given station in
         let past = past_of station history in
         let begun = turns_begun history - 1 in
         let is = turned setup (StationAt setup) (station_kept taken setup) past (at_stage Between begun) (station_first setup) stands in
         let set_up = open_has IsSetUp 0 handle (facts_of setup past).links link is.each is_open in
-        let from = set_up.in_range.parameters.timeout_from in record {
-          lasts = (older_at setup past begun stands).goes_on handle link is_open;
-          timed = end_timed link.setup link.past (λ central. values_in_range taken given history rest station handle link distinct in_it at is_open) (omega (arith, from));
-        }
+        let from = set_up.in_range.parameters.timeout_from in
+        end_timed link.setup link.past (λ central. values_in_range taken given history rest station handle link distinct in_it at is_open) (omega (arith, from))
 
     octet_due : (station octet : ℕ) (history rest : List Event) (flags : ℕ → Bool) → is_in station given.stations ≡ true → flags station ≡ true
         → history_of (run_of given) ≡ history ++ rest → standing (past_of station history) ≡ Some (at_stage Between (turns_begun history - 1)) → AreDueSo given history flags
@@ -338,7 +337,7 @@ module _ (heard_whole : IsHeardWhole) (understood : IsUnderstood) (taken : AreTa
         (ap (λ n. n + 1) opened ∙ phased.uses.in_turn.slot_is ∙ sym (turns_same given station (step_of received) history))
 
     passed_none : (handle : ℕ) (link : OpenLink) → link_at handle (facts_at given station passed_on).links ≡ Some link → number_at station handle passed_on ≡ number_at station handle history
-        → HasPassed facts (has_room (setup_at given station) facts) received handle (facts_after (setup_at given station) facts (step_of received)).turn.doing link → IsNone handle
+        → HasPassed (setup_at given station) facts (has_room (setup_at given station) facts) received handle (facts_after (setup_at given station) facts (step_of received)).turn.doing link → IsNone handle
     passed_none handle link at number (IsNew end made opened off) = new_none handle link at (ap (λ (l : OpenLink). l.setup.opened) made ∙ opened)
     passed_none handle link at number (Stays was none nothing listened) =
         due_called given station (step_of received) history station handle number ∙ has.due station handle link in_it was

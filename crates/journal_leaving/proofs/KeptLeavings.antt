@@ -3,13 +3,14 @@ use Rattle.std.proofs.Common.{◌≡◌, ℕ, zero, suc, ◌+◌, ◌-◌, ◌==
 use Rattle.std.specs.Prelude.{◌&&◌, ◌⊎◌, map, take, if◌then◌else◌}
 use Rattle.std.proofs.lemmas.Bool.{eqb-true}
 use Rattle.ble_base.specs.declared.roles.Side.{Side}
+use Rattle.journal_controls.specs.Withheld.{withheld_by}
 use Rattle.journal_controls.specs.controller_model.Facts.{Facts, Listens, Sends}
 use Rattle.journal_controls.specs.controller_model.Side.{facts_after, facts_of, notes_after}
 use Rattle.journal_controls.specs.controller_model.Step.{Step as Call, HostOctet, NothingHeard, PacketHeard, TurnBegins, TurnEnds}
 use Rattle.journal_controls.specs.controller_model.declared.doing.Doing.TheVariants.{Rests}
 use Rattle.journal_controls.specs.controller_model.declared.doing.Turn.{Turn}
 use Rattle.journal_controls.specs.host_answers.Calls.{answered_after}
-use Rattle.journal_controls.specs.host_masks.Masks.{view_masks, withholds_requests}
+use Rattle.journal_controls.specs.host_masks.Masks.{view_masks}
 use Rattle.journal_controls.proofs.host_masks.LineMasks.{line_masks}
 use Rattle.radio_replay.specs.declared.fates.Fate.{Fate}
 use Rattle.journal_controls.specs.journal_acks.Exchange.{is_number}
@@ -212,7 +213,7 @@ module _ (heard_whole : IsHeardWhole) (understood : IsUnderstood) (taken : AreTa
             asked_own given station step history in_it lined lined_after handle link held None refl asks.number asks.base asks.was
             (call_asks given side number station step history asks.is.asked (facts_in asks.base).leaving asks.lines
             (whole_at given history AllUnsent NoneReceived station handle asks.base in_it asks.was (ap (sends_under handle) fed.rests) (λ on. refl) fed.left)
-            ∙ ap Some (end_asked handle facts.turn.begun (answered_after facts step) asks.base link asks.is side number facts octet asks.was
+            ∙ ap Some (end_asked handle facts.turn.begun (answered_after facts step) asks.base link asks.is side number (setup_at given station) facts octet asks.was
             (host_under setup facts octet handle link (held_at given station step history in_it lined lined_after handle link held))))
             (ap (sends_under handle) rests))
             (λ other is_too differs. refl) (λ other is_too differs. refl) fed.left;
@@ -537,7 +538,7 @@ module _ (heard_whole : IsHeardWhole) (understood : IsUnderstood) (taken : AreTa
             let phased =
             subst (λ b. PhasedBy given history station (if b then at_stage (Within (suc phases)) (turns_begun history) else at_stage (Within phases) (turns_begun history)))
             out (phased_at given (AtListening phases done (station ∷ left)) history has.controls.seen.holds.hearing.stand station in_it) in
-            let held = ap withholds_requests (sym (ap (λ n. view_masks (facts_at given n history).view) (sym (there_and_back station (of_two_stations given are_two station in_it)))
+            let held = ap withheld_by (sym (ap (λ n. view_masks (facts_at given n history).view) (sym (there_and_back station (of_two_stations given are_two station in_it)))
             ∙ line_masks given are_two (side_of station) history (notes ++ front.rest) (Called station step) (front.at ∙ append_assoc history (Called station step ∷ notes) front.rest)
             (no_octet received))) in record {
               controls = controls;
@@ -547,7 +548,6 @@ module _ (heard_whole : IsHeardWhole) (understood : IsUnderstood) (taken : AreTa
                   (sym (in_more_same station station done (same_station station)))
                   (passes_own given station history phases in_it phased lined lined_after controls.seen.seen held
                   (turn_is history facts.turn.slot (sym phased.uses.in_turn.slot_is))
-                  (λ handle link at. (fixed_in given history ((Called station step ∷ notes) ++ front.rest) station handle link distinct in_it (front.at ∙ append_assoc history (Called station step ∷ notes) front.rest) at).undrawn)
                   has.controls.control (λ one. is_in one done) out has.left handle link at))
                   (λ other is_too differs. in_more_other other station done differs) (λ other is_too differs. received_by given other station step history false differs) has.left;
               each = call_each given station step history has.each (any_passes given history station received) (λ in_one handle link at.

@@ -7,6 +7,7 @@ pub mod TurnLeaving
 pub mod DueReasons
 pub mod NotShut
 pub mod OpenedLeavings
+pub mod NoKeys
 pub mod AskedSteps
 pub mod AskedLeavings
 pub mod LinkLeaves

@@ -10,6 +10,7 @@ use Rattle.journal.specs.declared.entries.Entry.{Entry}
 use Rattle.journal.specs.declared.entries.Entry.TheVariants.{Air, Opened, Shut}
 use Rattle.journal.specs.declared.entries.Mark.{Mark}
 use Rattle.ble_base.specs.declared.verdicts.Verdict.{Verdict}
+use Rattle.journal_controls.specs.Withheld.{Withheld}
 use Rattle.journal_controls.specs.KeyedLines.{drawn_by, keyed_by_all}
 use Rattle.journal_controls.specs.LineSteps.{is_more_acked, keyed_on, steps_said, turn_now, withholds}
 use Rattle.journal_controls.specs.SaidLines.{NoneOpens, is_opening, moved_by}
@@ -95,7 +96,7 @@ stays_line side number front line none =
 
 -- ---- lines that an end says
 
-pub said_both : (withheld : Bool) (response : Response) (slot : ℕ) (lines more : List Entry) (k : Keyed) (l : Leaving)
+pub said_both : (withheld : Withheld) (response : Response) (slot : ℕ) (lines more : List Entry) (k : Keyed) (l : Leaving)
     → leaving_said withheld response slot (lines ++ more) k l ≡ leaving_said withheld response slot more (moved_by withheld response slot lines k) (leaving_said withheld response slot lines k l)
 said_both withheld response slot [] more k l = refl
 said_both withheld response slot (line ∷ lines) more k l =

@@ -2,13 +2,14 @@
 use Rattle.std.proofs.Common.{◌≡◌, ℕ, ◌⊎◌, inl, inr, Bool, true, false, Option, Some, None, List, [], ◌∷◌, sym, ap, subst, ◌∙◌}
 use Rattle.std.specs.Prelude.{◌&&◌, All}
 use Rattle.ble_base.specs.declared.roles.Side.{Side}
+use Rattle.journal_controls.specs.Withheld.{Withheld, withheld_by}
 use Rattle.journal_controls.specs.controller_model.Facts.{Facts}
 use Rattle.journal_controls.specs.controller_model.Heard.{has_room}
 use Rattle.journal_controls.specs.controller_model.Links.{note_opened}
 use Rattle.journal_controls.specs.controller_model.Side.{facts_after, notes_after}
 use Rattle.journal_controls.proofs.controller_model.Always.{IsInTurn}
-use Rattle.journal_controls.specs.host_masks.Masks.{view_masks, withholds_requests}
-use Rattle.journal_controls.specs.journal_acks.link_calls.Phases.{HasPassed, IsNew, Stays, Takes}
+use Rattle.journal_controls.specs.host_masks.Masks.{view_masks}
+use Rattle.journal_controls.specs.journal_acks.link_calls.Phases.{HasPassed, IsNew, Stays, Takes, link_worded}
 use Rattle.journal_controls.specs.journal_acks.link_calls.Uses.{listens_under, sends_under}
 use Rattle.journal_controls.specs.journal_ends.Seen.{Says, seen_of}
 use Rattle.journal_controls.specs.journal_links.LinkLines.{line_of}
@@ -22,7 +23,8 @@ use Rattle.journal_controls.specs.link_model.Packets.{good_pdu}
 use Rattle.journal_controls.specs.Hearing.{keyed_hearing}
 use Rattle.journal_controls.proofs.ControlledEnds.{AreControlledSo, keyed_taking, whole as keyed_whole}
 use Rattle.journal_controls.proofs.EventMoves.{drawn_at, turn_at, withholds_at}
-use Rattle.journal_controls.proofs.Undrawn.{IsUndrawn}
+use Rattle.journal_controls.proofs.LinkMoves.{worded_hearing}
+use Rattle.journal_controls.proofs.journal_ends.WordedLinks.{worded_as}
 use Rattle.journal_controls.proofs.journal_acks.Exchanging.{number_at, number_called}
 use Rattle.journal_controls.proofs.journal_acks.Standing.{PhasedBy}
 use Rattle.journal_controls.proofs.journal_acks.link_calls.CallNotes.{OpensNone}
@@ -38,7 +40,7 @@ use Rattle.journal_leaving.proofs.LeavingEnds.{AreLeftSo, IsLeftAt, leaves_own, 
 use Rattle.journal_leaving.specs.Hearing.{leaving_hearing}
 use Rattle.journal_leaving.specs.Leaving.{leaving_sent_if}
 use Rattle.journal_leaving.proofs.LineFolds.{sent_stays}
-use Rattle.journal_leaving.proofs.LinkLeaves.{LeavesTo, same_leaves, taken_leaves}
+use Rattle.journal_leaving.proofs.LinkLeaves.{LeavesTo, redrawn, same_leaves, taken_leaves, worded_leaves, worded_leaving}
 use Rattle.journal_leaving.proofs.OpenedLeavings.{opened_stays}
 
 -- an end to which nothing happened yet
@@ -56,9 +58,9 @@ module _ (given : Given) (station : ℕ) (history : List Event) (phases : ℕ) (
     (lined : AreLined given history) (lined_after : AreLined given (after_call given station (step_of (packet_received station history)) history))
     (seen : AreSeenSo given (after_call given station (step_of (packet_received station history)) history)
     (λ one. packet_received one (after_call given station (step_of (packet_received station history)) history)))
-    (held : withholds_at (side_of station) history ≡ withholds_requests (view_masks (facts_at given station history).view))
+    (held : withholds_at (side_of station) history ≡ withheld_by (view_masks (facts_at given station history).view))
     (slot_is : turn_at history ≡ (facts_at given station history).turn.slot)
-    (undrawn : (handle : ℕ) (link : OpenLink) → link_at handle (facts_at given station history).links ≡ Some link → IsUndrawn link) (controls : AreControlledSo given history (λ one. packet_received one history))
+    (controls : AreControlledSo given history (λ one. packet_received one history))
     (unsent : ℕ → Bool) (sent : unsent station ≡ false) (are : AreLeftSo given history unsent (λ one. packet_received one history)) where
   abbrev received : Option (List ℕ)
   received = packet_received station history
@@ -72,8 +74,8 @@ module _ (given : Given) (station : ℕ) (history : List Event) (phases : ℕ) (
   abbrev side : Side
   side = side_of station
 
-  abbrev withheld : Bool
-  withheld = withholds_requests (view_masks facts.view)
+  abbrev withheld : Withheld
+  withheld = withheld_by (view_masks facts.view)
 
   abbrev IsNow : ℕ → OpenLink → Type 0
   IsNow handle link = IsLeftAt true (packet_received station next) handle (facts_at given station next).turn link (number_at station handle next) side next
@@ -105,7 +107,7 @@ module _ (given : Given) (station : ℕ) (history : List Event) (phases : ℕ) (
   none_sent handle = ap (λ b. b && sends_under handle facts.turn.doing) sent
 
   passed : (handle : ℕ) (link : OpenLink) → link_at handle (facts_at given station next).links ≡ Some link → number_at station handle next ≡ number_at station handle history
-      → HasPassed facts (has_room (setup_at given station) facts) received handle (facts_after (setup_at given station) facts (step_of received)).turn.doing link → IsNow handle link
+      → HasPassed (setup_at given station) facts (has_room (setup_at given station) facts) received handle (facts_after (setup_at given station) facts (step_of received)).turn.doing link → IsNow handle link
   passed handle link at number (IsNew end made opened off) = fresh handle link at (ap (λ (l : OpenLink). l.past) made)
   passed handle link at number (Stays was none nothing listened) =
       let own = number_at station handle history in
@@ -124,7 +126,16 @@ module _ (given : Given) (station : ℕ) (history : List Event) (phases : ℕ) (
       let k = keyed_hearing base.setup.link.role slot may (facts_in base) in
       let l = leaving_hearing base.setup.link.role slot may (facts_in base) in
       let left = are station handle base in_it was in
-      let leaves = taken_leaves side own withheld (drawn_at side history) facts handle room octets base (undrawn handle base was) sends link same in
+      let doing = facts.turn.doing in
+      let worded = link_worded setup facts doing base in
+      let words = worded_as setup facts doing base in
+      let response = (facts_in worded).encryption.response in
+      let there = taken_leaves side own withheld facts handle room octets worded sends link same in
+      let here : LeavesTo side own withheld response slot worded link sends k l =
+      subst (λ x. LeavesTo side own withheld response slot worded link sends x l) (worded_hearing base worded words slot octets)
+      (subst (λ x. LeavesTo side own withheld response slot worded link sends (keyed_hearing worded.setup.link.role slot (good_pdu worded.setup (facts_in worded) octets) (facts_in worded)) x)
+      (worded_leaving base worded words slot octets) there) in
+      let leaves = redrawn side own withheld slot response (drawn_at side history) base link sends k l (worded_leaves side own withheld slot response setup facts doing base link sends k l here) in
       leaves_own given station (step_of received) history in_it lined lined_after handle link at (packet_received station next) none_next number base was (phase_turn received) sends k l
       (subst (λ w. LeavesTo side own w (drawn_at side history) (turn_at history) base link sends k l) (sym held) (subst (λ n. LeavesTo side own withheld (drawn_at side history) n base link sends k l) (sym slot_is) leaves))
       (doing_is handle)

@@ -18,6 +18,7 @@ use Rattle.journal_controls.proofs.journal_acks.link_calls.UnderHandles.{host_un
 use Rattle.journal_controls.proofs.journal_ends.run_laws.Agreed.{step_facts}
 use Rattle.journal_controls.proofs.journal_ends.run_laws.OpenSteps.{none_open, open_has}
 use Rattle.journal_controls.proofs.journal_ends.run_laws.TurnPlaces.{Between, IsTurned, Stage, Within}
+use Rattle.journal_controls.proofs.link_model.Plain.{past_plain}
 use Rattle.journal_leaving.proofs.AskedSteps.{step_ending}
 
 abbrev pub AreStaying : Stage → ℕ → Facts → Type 0
@@ -27,20 +28,20 @@ AreStaying (Within phases) begun facts = Unit {0}
 host_stays : (link : OpenLink) (step : EndStep) → IsAskedStep step → ending_in link ≡ None → ending_in (link_after step link) ≡ None
 host_stays link step by_host stays =
     ap (λ (f : EndFacts). option_map (λ (code : ErrCode). code.0) (ending_of f)) (step_facts link step)
-    ∙ ap (option_map (λ (code : ErrCode). code.0)) (step_ending link.setup (facts_in link) step by_host) ∙ stays
+    ∙ ap (option_map (λ (code : ErrCode). code.0)) (step_ending link.setup (facts_in link) step by_host (past_plain link.setup link.past)) ∙ stays
 
-given_stays : (facts : Facts) (octet handle : ℕ) (after : OpenLink) → HasHeardHost facts octet handle after
+given_stays : (setup : Setup) (facts : Facts) (octet handle : ℕ) (after : OpenLink) → HasHeardHost setup facts octet handle after
     → ((link : OpenLink) → link_at handle facts.links ≡ Some link → ending_in link ≡ None) → ending_in after ≡ None
-given_stays facts octet handle after (Unchanged same) stays = stays after same
-given_stays facts octet handle after (GetsData link start body was is) stays =
+given_stays setup facts octet handle after (Unchanged same) stays = stays after same
+given_stays setup facts octet handle after (GetsData link start body was is) stays =
     ap ending_in is ∙ ap (λ (f : EndFacts). option_map (λ (code : ErrCode). code.0) (ending_of f)) (step_facts link (DataGiven start body)) ∙ stays link was
-given_stays facts octet handle after (IsAsked link command step was accepted asks is) stays =
+given_stays setup facts octet handle after (IsAsked link command step was accepted asks is) stays =
     ap ending_in is
-    ∙ host_stays link step (asked_is_well facts octet handle command link.setup.link.role (facts_in link).peer step accepted asks).by_host (stays link was)
+    ∙ host_stays link step (asked_is_well setup facts octet handle command link.setup.link.role (facts_in link).peer step accepted asks).by_host (stays link was)
 
 pub staying_kept : (setup : Setup) → IsTurned setup AreStaying
 staying_kept setup = record {
-  feeds = λ begun octet facts are. λ handle link at. given_stays facts octet handle link (host_under setup facts octet handle link at) (are handle);
+  feeds = λ begun octet facts are. λ handle link at. given_stays setup facts octet handle link (host_under setup facts octet handle link at) (are handle);
   begins = λ begun on facts are. tt;
   passes = λ phases begun received facts are. tt;
   ends = λ begun facts are. λ handle link at.

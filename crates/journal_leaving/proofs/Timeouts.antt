@@ -9,6 +9,7 @@ use Rattle.ble_base.specs.declared.roles.Role.{Role}
 use Rattle.ble_base.specs.declared.roles.Role.TheVariants.{Central, Peripheral}
 use Rattle.data_pdu.specs.Ranges.{IsInRange}
 use Rattle.data_pdu.specs.Reading.{IfKnown, ctrl_of}
+use Rattle.data_pdu.specs.declared.ctrl.Ctrl.{Ctrl}
 use Rattle.data_pdu.specs.declared.ctrl.Ctrl.TheVariants.{ConnectionUpdateInd, ChannelMapInd}
 use Rattle.data_pdu.specs.declared.ctrl.CtrlRead.{CtrlRead}
 use Rattle.data_pdu.specs.declared.ctrl.CtrlRead.TheVariants.{Known}
@@ -22,11 +23,14 @@ use Rattle.instants.specs.declared.track.Change.{Change}
 use Rattle.link_changes.specs.InForce.{HasRanges}
 use Rattle.link_changes.specs.Noted.{event_after, indication_noted, indication_read, taking_if, takings_from}
 use Rattle.link_changes.proofs.Steps.{past_known}
-use Rattle.journal_controls.specs.link_model.control_model.Supported.{read_supported}
+use Rattle.journal_controls.specs.link_model.Acknowledgement.{Pdu}
+use Rattle.journal_controls.specs.link_model.Controls.{read_of}
 use Rattle.journal_controls.specs.link_model.End.{facts_of, notes_of}
 use Rattle.journal_controls.specs.link_model.Setup.{Setup, first_params}
 use Rattle.journal_controls.specs.link_model.Step.{Step}
-use Rattle.journal_controls.proofs.journal_acks.run_laws.ReadRanges.{read_range}
+use Rattle.journal_controls.specs.link_model.phased_end.Taking.{IsNamed}
+use Rattle.journal_controls.proofs.link_model.ReadRanges.{read_range}
+use Rattle.journal_controls.proofs.link_model.Views.{AsRead, AsUnknown, SeenAs, reading_view}
 
 -- ---- an indication that is read has one
 
@@ -37,13 +41,25 @@ IsTimed (Map map instant) = ⊤
 abbrev AreTimed : List Taking → Type 0
 AreTimed takings = AllByRecursion (λ taking. IsTimed taking.change.indication) takings
 
+read_timed : (read : CtrlRead) → IfKnown read IsInRange → IfSome (indication_read read) IsTimed
+read_timed (Known (ConnectionUpdateInd win_size win_offset interval latency timeout instant)) is = let from = is.timeout_from in omega (arith, from)
+read_timed (Known (ChannelMapInd map instant)) is = tt
+read_timed other is = tt
+
+-- a PDU of the encryption is no indication
+named_timed : (ctrl : Ctrl) → IsNamed ctrl → IfSome (indication_read (Known ctrl)) IsTimed
+named_timed (ConnectionUpdateInd win_size win_offset interval latency timeout instant) named = absurd named
+named_timed (ChannelMapInd map instant) named = tt
+named_timed other named = tt
+
+seen_timed : (read seen : CtrlRead) → SeenAs read seen → IfKnown seen IsInRange → IfSome (indication_read read) IsTimed
+seen_timed read seen (AsRead is) range = read_timed read (subst (λ (other : CtrlRead). IfKnown other IsInRange) is range)
+seen_timed read seen (AsUnknown ctrl named read_is is) range = subst (λ (other : CtrlRead). IfSome (indication_read other) IsTimed) (sym read_is) (named_timed ctrl named)
+
 body_timed : (body : List ℕ) → IfSome (indication_read (ctrl_of body)) IsTimed
-body_timed body = by (ctrl_of body) (read_range (record { llid = 3; body = body }))
-  where
-    by : (read : CtrlRead) → IfKnown (read_supported read) IsInRange → IfSome (indication_read read) IsTimed
-    by (Known (ConnectionUpdateInd win_size win_offset interval latency timeout instant)) is = let from = is.timeout_from in omega (arith, from)
-    by (Known (ChannelMapInd map instant)) is = tt
-    by other is = tt
+body_timed body =
+    let pdu : Pdu = record { llid = 3; body = body } in
+    seen_timed (ctrl_of body) (read_of pdu) (reading_view pdu) (read_range pdu)
 
 noted_timed : (role : Role) (note : Note) → IfSome (indication_noted role note) IsTimed
 noted_timed Central (Sent handle number llid body) = by (llid == 3)

@@ -3,6 +3,7 @@ use Rattle.std.proofs.Common.{◌≡◌, ℕ, Bool, true, false, List, [], ◌++
 use Rattle.std.proofs.lemmas.List.{map-append}
 use Rattle.ble_base.specs.declared.notes.Note.{Note}
 use Rattle.ble_base.specs.declared.roles.Side.{Side}
+use Rattle.journal_controls.specs.Withheld.{Withheld}
 use Rattle.journal_controls.specs.SaidLines.{moved_by}
 use Rattle.journal_controls.specs.TurnSteps.{first_if, steps_begun, steps_taken}
 use Rattle.journal_controls.specs.journal_links.LinkLines.{line_of}
@@ -24,7 +25,7 @@ use Rattle.journal_leaving.specs.Said.{leaving_noted, leaving_said}
 use Rattle.journal_leaving.proofs.EndLeaving.{entered_leaves, entry_noted, packet_leaves, sent_leaving, sent_noted}
 use Rattle.journal_leaving.proofs.LineFolds.{said_both}
 
-module _ (side : Side) (number : ℕ) (withheld : Bool) (response : Response) (slot : ℕ) where
+module _ (side : Side) (number : ℕ) (withheld : Withheld) (response : Response) (slot : ℕ) where
   pub noted_both : (notes more : List Note) (k : Keyed) (l : Leaving)
       → leaving_noted side number withheld response slot (notes ++ more) k l
       ≡ leaving_noted side number withheld response slot more (moved_by withheld response slot (map (line_of side number) notes) k) (leaving_noted side number withheld response slot notes k l)

@@ -1,4 +1,5 @@
--- How an end is to leave its link as a packet reaches it, before it looks at the PDU in it (Core 5.2, volume 6 part B, section 4.5.9).
+-- How an end is to leave its link as a packet reaches it, before it looks at the PDU in it (Core 5.2, volume 6 part B,
+-- section 4.5.9).
 use Rattle.std.specs.Prelude.{ℕ, Bool, true, false, List, Option, Some, None}
 use Rattle.ble_base.specs.declared.roles.Role.{Role}
 use Rattle.journal_controls.specs.controller_model.Facts.{Facts as StationFacts}

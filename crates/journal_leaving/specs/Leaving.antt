@@ -1,7 +1,7 @@
 -- How the end of a link is to leave it, from the lines of a journal alone (Core 5.2, volume 6 part B, section 5.1.6):
 -- whether its host ended it, whether LL_TERMINATE_IND of this end is acknowledged, the code of the peer's, and whether a
 -- packet was sent since that was taken.
-use Rattle.std.specs.Prelude.{ℕ, ◌==◌, ◌&&◌, Bool, true, false, List, [], ◌∷◌, ◌++◌, fold, Option, Some, None, if◌then◌else◌}
+use Rattle.std.specs.Prelude.{ℕ, ◌==◌, ◌&&◌, Bool, false, List, [], ◌∷◌, ◌++◌, fold, Option, Some, None, if◌then◌else◌}
 use Rattle.std.specs.Option.{option_map}
 use Rattle.ble_base.specs.declared.roles.Side.{Side}
 use Rattle.journal.specs.declared.entries.Entry.{Entry}
@@ -16,6 +16,7 @@ use Rattle.journal_controls.specs.journal_packets.Belonging.{is_side}
 use Rattle.journal_controls.specs.link_model.Acknowledgement.{Pdu}
 use Rattle.journal_controls.specs.link_model.Controls.{is_procedure_pdu, is_terminate}
 use Rattle.journal_controls.specs.link_model.Facts.{stays}
+use Rattle.journal_controls.specs.link_model.Hosts.{first_slot}
 use Rattle.journal_controls.specs.link_model.Receiving.{code_of, leaving_acked_if, leaving_by}
 use Rattle.journal_controls.specs.link_model.Sending.{leaving_sent}
 use Rattle.journal_controls.specs.link_model.Step.{Step, Disconnected}
@@ -56,9 +57,10 @@ acks_terminate acks last = acks && is_terminate last
 
 -- ---- its host asks something of it
 
--- the host ends the link in the turn of this slot
+-- the host ends the link in the turn of this slot, if it was not to end before
 abbrev pub leaving_asking : Step → Leaving → Leaving
-leaving_asking (Disconnected reason slot) leaving = record leaving { disconnected = Some slot }
+leaving_asking (Disconnected reason slot) leaving =
+    record leaving { disconnected = Some (first_slot leaving.disconnected slot) }
 leaving_asking step leaving = leaving
 
 -- ---- all that is seen of it in a line that comes after these

@@ -2,6 +2,7 @@
 //! The bodies are empty: the contracts are the laws.
 ghost use Rattle.std.specs.Prelude.{◌≡◌, ◌++◌, ℕ, Bool, List, Option, Some, false};
 ghost use Rattle.ble_base.specs.declared.roles.Side.{Side};
+ghost use Rattle.journal_controls.specs.Withheld.{Withheld};
 ghost use Rattle.journal_controls.specs.controller_model.Step.{Step as Call};
 ghost use Rattle.journal_controls.specs.host_answers.Calls.{call_lines};
 ghost use Rattle.journal.specs.declared.entries.Entry.{Entry};
@@ -49,11 +50,11 @@ pub fn a_call_moves_how_an_end_leaves_by_its_lines()
 
 /// The lines that an end says as it enters an event, and as it sends a packet, leave it as it is.
 pub fn lines_that_take_nothing_leave_an_end_as_it_is()
-    ensures entered { (side : Side) (number slot : ℕ) (withheld : Bool) (response : Response)
+    ensures entered { (side : Side) (number slot : ℕ) (withheld : Withheld) (response : Response)
         (setup : Setup) (facts : Facts) (k : Keyed) (leaving : Leaving)
         → leaving_noted side number withheld response slot
         (notes_after setup facts (EventEntered slot)) k leaving ≡ leaving }
-    ensures sent { (side : Side) (number slot : ℕ) (withheld : Bool) (response : Response)
+    ensures sent { (side : Side) (number slot : ℕ) (withheld : Withheld) (response : Response)
         (setup : Setup) (facts : Facts) (k : Keyed) (leaving : Leaving)
         → leaving_noted side number withheld response slot
         (notes_after setup facts (PacketSent slot)) k leaving ≡ leaving }

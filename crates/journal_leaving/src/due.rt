@@ -1,5 +1,5 @@
 //! Laws of the reason for which one end is to end. The bodies are empty: the contracts are the laws.
-ghost use Rattle.std.specs.Prelude.{◌≡◌, ◌≤◌, ℕ, Bool, List, None, Result, Some};
+ghost use Rattle.std.specs.Prelude.{◌≡◌, ◌≤◌, ℕ, Bool, List, Result, Some};
 ghost use Rattle.std.specs.Option.{option_map};
 ghost use Rattle.ble_base.specs.declared.error_codes.ErrCode.{ErrCode};
 ghost use Rattle.journal_controls.specs.controller_model.Shutting.{IsLeaving, IsOverdue};
@@ -37,9 +37,9 @@ pub fn an_end_is_due_for_its_cause()
 {}
 
 /// What a host does before a turn begins leaves the reason for which the end is to end then: so it
-/// may be looked at as the slot begins. A Disconnect in this slot is not due in it, where it is the
-/// first one on its link and the supervision timeout is not 0; a host has no second one accepted
-/// (Core 5.2, volume 6 part B, section 5.1.6).
+/// may be looked at as the slot begins. A Disconnect in this slot is not due in it where the
+/// supervision timeout is not 0, and leaves one of an earlier slot as it is (Core 5.2, volume 6 part
+/// B, section 5.1.6).
 pub fn what_a_host_does_leaves_what_is_due()
     ensures given { (setup : Setup) (facts : Facts) (start : Bool) (body : List ℕ) (slot : ℕ)
         → due_of setup (facts_after setup facts (DataGiven start body)) slot
@@ -53,7 +53,7 @@ pub fn what_a_host_does_leaves_what_is_due()
         → due_of setup (facts_after setup facts (RequestAnswered answer)) slot
         ≡ due_of setup facts slot }
     ensures disconnected { (setup : Setup) (facts : Facts) (reason : ErrCode) (slot : ℕ)
-        → facts.leaving.disconnected ≡ None → 1 ≤ (params_of facts).timeout
+        → 1 ≤ (params_of facts).timeout
         → due_of setup (facts_after setup facts (Disconnected reason slot)) slot
         ≡ due_of setup facts slot }
 {}

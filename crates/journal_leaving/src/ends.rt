@@ -3,6 +3,7 @@
 ghost use Rattle.std.specs.Prelude.{◌≡◌, ℕ, Bool, List, Some};
 ghost use Rattle.ble_base.specs.declared.roles.Side.{Side};
 ghost use Rattle.data_pdu.specs.Header.{header_in};
+ghost use Rattle.journal_controls.specs.Withheld.{Withheld};
 ghost use Rattle.journal_controls.specs.LineSteps.{is_more_acked};
 ghost use Rattle.journal_controls.specs.OneEnd.{IsToldOf};
 ghost use Rattle.journal_controls.specs.journal_acks.Exchange.{Exchanged};
@@ -30,7 +31,7 @@ pub fn lines_tell_how_an_end_that_hears_leaves()
 
 /// Then the end moves by the lines that it says (Core 5.2, volume 6 part B, section 5.1.6).
 pub fn a_packet_moves_how_an_end_leaves_by_its_lines()
-    ensures { (side : Side) (number slot : ℕ) (withheld room : Bool) (setup : Setup)
+    ensures { (side : Side) (number slot : ℕ) (withheld : Withheld) (room : Bool) (setup : Setup)
         (past : List Step) (octets : List ℕ)
         → let facts = facts_of setup past in let heard = good_pdu setup facts octets in
         (facts_after setup facts (PacketReceived slot octets room)).leaving

@@ -33,7 +33,7 @@ use Rattle.run_laws.specs.run_model.Links.{Links, first_links, is_advertising, i
 use Rattle.run_laws.specs.run_model.Readers.{of_side}
 use Rattle.run_laws.specs.run_model.Run.{Given, after_call, after_feed, after_octets, facts_at, hearings_of, history_of, octets_left, run_of, setup_at, step_of, use_at}
 use Rattle.run_laws.proofs.run_model.Calls.{fold_called, fold_event, past_other}
-use Rattle.run_laws.proofs.run_model.LinkEnds.{IsUnderstood, is_listener, received_by, received_event}
+use Rattle.run_laws.proofs.run_model.LinkEnds.{IsUnderstood, is_listener, received_by, received_packet}
 use Rattle.run_laws.proofs.run_model.Places.{each_at, each_called, each_event}
 use Rattle.run_laws.proofs.run_model.Stations.{is_in, among, not_before}
 use Rattle.run_laws.proofs.run_model.Walk.{Place, NoTurn, AtBegins, AtPackets, AtListening, IsKept, IsWhole, IsStopped, ends_with, run_kept}
@@ -309,7 +309,9 @@ feed_so_far given station (octet ∷ octets) history is so_far =
 -- ---- a packet on the air
 
 module _ (understood : IsUnderstood) (given : Given) (are : given.stations ≡ 0 ∷ 1 ∷ []) (station channel : ℕ) (octets : List ℕ) (hearings : List Hearing) (history : List Event)
-    (is_one : is_in station given.stations ≡ true) (sent : IsUseSent (facts_at given station history) (Sends channel octets)) where
+    (is_one : is_in station given.stations ≡ true) (sent : IsUseSent (facts_at given station history) (Sends channel octets))
+    (received : (other : ℕ) → packet_received other (history ++ Transmitted station channel octets hearings ∷ [])
+    ≡ (if has_received other hearings then Some octets else packet_received other history)) where
   abbrev event : Event
   event = Transmitted station channel octets hearings
 
@@ -349,18 +351,18 @@ module _ (understood : IsUnderstood) (given : Given) (are : given.stations ≡ 0
           let below : channel < 37 = subst (λ (n : ℕ). n < 37) (sym link_sent.channel_is) (link_channel link_sent.link) in
           absurd (let h : true ≡ false = no_advertising channel true on below in absurd cc)
 
-  hears_by : (other : ℕ) → is_in other given.stations ≡ true → HearsOffer given history other → (received : Bool) → has_received other hearings ≡ received
-      → (received ≡ true → ((other == station) ≡ false) × (use_at given other history ≡ Listens channel)) → HearsOffer given after other
-  hears_by other is_too hears true received listener = λ heard on_it pdu is listens on says offer.
-      let told : Some octets ≡ Some heard = sym (received_event other history event ∙ ap (λ b. if b then Some octets else packet_received other history) received) ∙ is in
+  hears_by : (other : ℕ) → is_in other given.stations ≡ true → HearsOffer given history other → (got : Bool) → has_received other hearings ≡ got
+      → (got ≡ true → ((other == station) ≡ false) × (use_at given other history ≡ Listens channel)) → HearsOffer given after other
+  hears_by other is_too hears true got listener = λ heard on_it pdu is listens on says offer.
+      let told : Some octets ≡ Some heard = sym (received other ∙ ap (λ b. if b then Some octets else packet_received other history) got) ∙ is in
       let equal : octets ≡ heard = cc in
       let uses : use_at given other after ≡ use_at given other history = use_same given other history after (event_past other history event refl) in
       let same : channel ≡ on_it = one_channel channel on_it (sym (listener refl).1 ∙ sym uses ∙ listens) in
-      offered_to other is_too (listener refl).0 received pdu (ap is_advertising same ∙ on)
+      offered_to other is_too (listener refl).0 got pdu (ap is_advertising same ∙ on)
       (ap (λ n. pdu_heard n octets) same ∙ ap (pdu_heard on_it) equal ∙ says) offer
-  hears_by other is_too hears false received listener = λ heard on_it pdu is listens on says offer.
+  hears_by other is_too hears false got listener = λ heard on_it pdu is listens on says offer.
       let uses : use_at given other after ≡ use_at given other history = use_same given other history after (event_past other history event refl) in
-      still other (hears heard on_it pdu (sym (received_event other history event ∙ ap (λ b. if b then Some octets else packet_received other history) received) ∙ is)
+      still other (hears heard on_it pdu (sym (received other ∙ ap (λ b. if b then Some octets else packet_received other history) got) ∙ is)
       (sym uses ∙ listens) on says offer)
 
 -- ---- what is heard
@@ -436,15 +438,17 @@ offered_kept understood given are_two six distinct = let kept = hearing_kept giv
       let hearings = hearings_of given plan.fates station channel octets history in
       let event = Transmitted station channel octets hearings in
       let is = among given.stations done left station are in
-      let sent = use_sent_at given six (AtPackets phases done (station ∷ left)) history offered.hearing.stand station is channel octets due.is_wanted in record {
+      let sent = use_sent_at given six (AtPackets phases done (station ∷ left)) history offered.hearing.stand station is channel octets due.is_wanted in
+      let received : (other : ℕ) → packet_received other (history ++ event ∷ []) ≡ (if has_received other hearings then Some octets else packet_received other history) =
+      λ other. received_packet given plan.fates other station channel octets history due.is_seen in record {
         hearing = kept.on_packet phases plan done left station channel octets history are some due offered.hearing;
         each = each_event OfferedBefore history event offered.each
-            (now_offered understood given are_two station channel octets hearings history is sent (offered.makes station is));
-        hears = λ other is_too. hears_by understood given are_two station channel octets hearings history is sent other is_too (offered.hears other is_too)
+            (now_offered understood given are_two station channel octets hearings history is sent received (offered.makes station is));
+        hears = λ other is_too. hears_by understood given are_two station channel octets hearings history is sent received other is_too (offered.hears other is_too)
             (has_received other hearings) refl
-            (λ received. let listener = is_listener given plan.fates channel octets history station other received in (listener.differs, listener.listens));
+            (λ got. let listener = is_listener given plan.fates channel octets history station other got in (listener.differs, listener.listens));
         makes = λ other is_too. event_makes given history event other (event_past other history event refl)
-            (still understood given are_two station channel octets hearings history is sent other) (offered.makes other is_too);
+            (still understood given are_two station channel octets hearings history is sent received other) (offered.makes other is_too);
       };
   on_air = λ phases history offered. record { hearing = kept.on_air phases history offered.hearing; each = offered.each; hears = offered.hears; makes = offered.makes };
   on_hearing = λ phases done left station history are some offered.

@@ -1,9 +1,8 @@
 -- The values of each link of a run are in their ranges: those of its CONNECT_IND, and what its host asks and answers.
 use Rattle.std.proofs.Common.{◌≡◌, ℕ, Bool, true, false, List, [], ◌∷◌, ◌++◌, Some, subst}
-use Rattle.std.specs.Prelude.{Err}
 use Rattle.std.specs.List.{AllByRecursion}
 use Rattle.adv_pdu.specs.Ranges.{IsInRange}
-use Rattle.run_laws.specs.link_model.Step.{Step as EndStep, DataGiven, DataReported, EventEntered, PacketReceived, PacketSent, PduFixed, ProcedureAsked, RequestAnswered}
+use Rattle.run_laws.specs.link_model.Step.{Step as EndStep, DataGiven, DataReported, EventEntered, PacketReceived, PacketSent, PduFixed, ProcedureAsked, WordsGiven}
 use Rattle.run_laws.specs.link_model.procedure_values.declared.asks.Ask.TheVariants.{Map}
 use Rattle.run_laws.specs.open_links.OpenLinks.{OpenLink, link_after, link_at}
 use Rattle.run_laws.specs.open_links.Turns.{entered_if, enters_in, link_entered}
@@ -68,7 +67,8 @@ values_open : IsKeptOpen HasValues
 values_open = record {
   serving = values_served;
   received = λ slot octets room link has. values_after (PacketReceived slot octets room) link tt has;
-  answered = λ code link has. values_after (RequestAnswered (Err code)) link tt has;
+  worded = λ skd_s iv_s link has. values_after (WordsGiven skd_s iv_s) link tt has;
+  answered = values_asked;
 }
 
 record HaveValues (setup : Setup) (stage : Stage) (begun : ℕ) (facts : Facts) : Type 0 where

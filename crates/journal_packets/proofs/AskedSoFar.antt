@@ -17,9 +17,9 @@ use Rattle.journal_links.specs.run_model.Due.{Each}
 use Rattle.journal_links.specs.run_model.History.{Event, TurnBegan, Transmitted, Hearing, has_received, past_of, packet_received}
 use Rattle.journal_links.specs.run_model.LinkEnds.{HaveAddresses}
 use Rattle.journal_links.specs.run_model.Links.{is_advertising}
-use Rattle.journal_links.specs.run_model.Run.{Given, setup_at, facts_at, use_at, octets_left, after_call, after_feed, hearings_of, step_of}
+use Rattle.journal_links.specs.run_model.Run.{Given, setup_at, facts_at, use_at, octets_left, after_call, after_feed, hearings_of, step_of, unseen_in}
 use Rattle.journal_links.proofs.run_model.Calls.{past_other}
-use Rattle.journal_links.proofs.run_model.LinkEnds.{IsUnderstood, is_listener, received_by, received_event}
+use Rattle.journal_links.proofs.run_model.LinkEnds.{IsUnderstood, is_listener, received_by, received_packet}
 use Rattle.journal_links.proofs.run_model.Places.{each_event}
 use Rattle.journal_links.proofs.run_model.Stations.{is_in, among, in_more_other, in_more_same, not_before}
 use Rattle.journal_links.proofs.run_model.Walk.{Place, NoTurn, AtFeeds, AtBegins, AfterPhases, AtPackets, AtListening, AtEnds, IsKept}
@@ -109,7 +109,8 @@ more_asked_by : (given : Given) (history after : List Event) (station : ℕ) →
 more_asked_by given history after station same received more asked = λ heard channel is listens on octets begins.
     more octets (asked heard channel (sym received ∙ is) (sym (use_same given station history after same) ∙ listens) on octets begins)
 
-module _ (given : Given) (are : given.stations ≡ 0 ∷ 1 ∷ []) (fates : List Fate) (sender channel : ℕ) (sent : List ℕ) (history : List Event) (one : (sender ≡ 0) ⊎ (sender ≡ 1)) where
+module _ (given : Given) (are : given.stations ≡ 0 ∷ 1 ∷ []) (fates : List Fate) (sender channel : ℕ) (sent : List ℕ) (history : List Event) (one : (sender ≡ 0) ⊎ (sender ≡ 1))
+    (seen : unseen_in sent (hearings_of given fates sender channel sent history) ≡ None) where
   abbrev hearings : List Hearing
   hearings = hearings_of given fates sender channel sent history
 
@@ -131,7 +132,7 @@ module _ (given : Given) (are : given.stations ≡ 0 ∷ 1 ∷ []) (fates : List
       → IsAskedBy given history station → IsAskedBy given next station
   packet_asked_by station is true got asked = λ heard on same listens off octets begins.
       let listener = is_listener given fates channel sent history sender station got in
-      let told : Some sent ≡ Some heard = sym (received_event station history event ∙ ap (λ b. if b then Some sent else packet_received station history) got) ∙ same in
+      let told : Some sent ≡ Some heard = sym (received_packet given fates station sender channel sent history seen ∙ ap (λ b. if b then Some sent else packet_received station history) got) ∙ same in
       let equal : sent ≡ heard = cc in
       let on_it = one_channel channel on (sym listener.listens ∙ sym (use_same given station history next (event_past station history event refl)) ∙ listens) in
       asked_packet given are fates sender channel sent history station octets one is
@@ -142,17 +143,17 @@ module _ (given : Given) (are : given.stations ≡ 0 ∷ 1 ∷ []) (fates : List
       ∙ ap (λ xs. have_one_access xs octets) equal ∙ begins)
   packet_asked_by station is false got asked =
       more_asked_by given history next station (event_past station history event refl)
-      (received_event station history event ∙ ap (λ b. if b then Some sent else packet_received station history) got) (stays_asked station is) asked
+      (received_packet given fates station sender channel sent history seen ∙ ap (λ b. if b then Some sent else packet_received station history) got) (stays_asked station is) asked
 
   packet_only : (station : ℕ) → (station ≡ 0) ⊎ (station ≡ 1) → (phases : ℕ) (received : Bool) → has_received station hearings ≡ received
       → OnlyAsked phases history station → OnlyAsked phases next station
   packet_only station is (suc phases) received got only = tt
   packet_only station is zero true got only = λ none.
-      absurd (let h : Some sent ≡ None = sym (received_event station history event ∙ ap (λ b. if b then Some sent else packet_received station history) got) ∙ none in absurd cc)
+      absurd (let h : Some sent ≡ None = sym (received_packet given fates station sender channel sent history seen ∙ ap (λ b. if b then Some sent else packet_received station history) got) ∙ none in absurd cc)
   packet_only station is zero false got only = λ none octets.
       asked_packet given are fates sender channel sent history station octets one is
       ∙ ap (λ b. is_asked history station octets || (b && (not (is_advertising channel) && have_one_access sent octets))) got
-      ∙ ap (λ b. b || false) (only (sym (received_event station history event ∙ ap (λ b. if b then Some sent else packet_received station history) got) ∙ none) octets)
+      ∙ ap (λ b. b || false) (only (sym (received_packet given fates station sender channel sent history seen ∙ ap (λ b. if b then Some sent else packet_received station history) got) ∙ none) octets)
 
 -- ---- a call
 
@@ -278,9 +279,9 @@ asked_kept understood given are_two six =
             asked = λ other in_it.
                 let other_one = of_two_stations given are_two other in_it in
                 let before = is.asked other in_it in (
-                  packet_answering given are_two plan.fates station channel octets history one other other_one before.0,
-                  packet_asked_by given are_two plan.fates station channel octets history one other other_one (has_received other hears) refl before.1,
-                  packet_only given are_two plan.fates station channel octets history one other other_one phases (has_received other hears) refl before.2,
+                  packet_answering given are_two plan.fates station channel octets history one due.is_seen other other_one before.0,
+                  packet_asked_by given are_two plan.fates station channel octets history one due.is_seen other other_one (has_received other hears) refl before.1,
+                  packet_only given are_two plan.fates station channel octets history one due.is_seen other other_one phases (has_received other hears) refl before.2,
                 );
           };
       on_air = λ phases history is. record {

@@ -23,27 +23,29 @@ use Rattle.journal_links.specs.link_model.Verdicts.{whole_in}
 use Rattle.journal_links.specs.link_model.Packets.{good_pdu, heard_of, packet_sent, pdu_read_in, whole_pdu}
 use Rattle.journal_links.specs.link_model.Payload.{opens_now}
 use Rattle.journal_links.specs.link_model.Setup.{Setup as EndSetup}
-use Rattle.journal_links.specs.link_model.Step.{PacketSent, PacketReceived}
+use Rattle.journal_links.specs.link_model.Step.{Step as EndStep, PacketSent, PacketReceived, WordsGiven}
 use Rattle.journal_links.specs.link_model.declared.setup.LinkSetup.{LinkSetup}
 use Rattle.scan_init.specs.Initiating.{InitiatorFacts}
 use Rattle.scan_init.specs.Reports.{ScannerFacts, does_ask, scan_answer}
+use Rattle.journal_links.specs.open_links.Keys.{links_with_words}
 use Rattle.journal_links.specs.open_links.OpenLinks.{Links, OpenLink, facts_in, free_from, link_after, link_at, with_change}
 use Rattle.journal_links.proofs.open_links.Handles.{changed_is}
 use Rattle.journal_links.specs.controller_model.declared.doing.Doing.{Doing}
 use Rattle.journal_links.specs.controller_model.declared.doing.Doing.TheVariants.{Advertises, AwaitsRequest, Scans, Requests, AwaitsResponse, Initiates}
 use Rattle.journal_links.specs.controller_model.declared.doing.Doing.TheVariants.{Connects, CentralSends, CentralListens, PeripheralListens, PeripheralSends}
 use Rattle.journal_links.specs.controller_model.Facts.{Setup, Facts, Sends, Listens}
-use Rattle.journal_links.specs.controller_model.Heard.{advertiser_answers, advertiser_heard, asks_if, connects, has_room, heard, if_pdu, initiator_heard}
+use Rattle.journal_links.specs.controller_model.Heard.{advertiser_answers, advertiser_heard, asks_if, connects, facts_with_words, has_room, heard, if_pdu, initiator_heard}
 use Rattle.journal_links.specs.controller_model.Heard.{link_heard, link_received, link_to, replies_in, reply_if, scanner_heard, taken_if, taken_under, unheard}
 use Rattle.journal_links.specs.controller_model.Outcome.{Outcome, facts_passed}
 use Rattle.journal_links.specs.controller_model.Packets.{facts_doing, listens_on, pdu_heard, sends_on}
 use Rattle.journal_links.specs.controller_model.Sent.{SendsOn}
 use Rattle.journal_links.specs.controller_model.Side.{facts_after}
-use Rattle.journal_links.proofs.controller_model.Places.{link_receiving, receiving_is, refused_if, refuses_at}
+use Rattle.journal_links.proofs.controller_model.Places.{link_receiving, receiving_is, refusal_at, refused_if}
 use Rattle.journal_links.specs.run_model.History.{Event, past_of, turns_begun}
 use Rattle.journal_links.specs.run_model.Run.{Given, facts_at, setup_at, step_of}
 use Rattle.journal_links.proofs.run_model.Stations.{is_in}
 use Rattle.journal_links.proofs.run_model.Walk.{Place}
+use Rattle.journal_links.proofs.run_laws.Agreed.{step_facts}
 use Rattle.journal_links.proofs.run_laws.Entering.{IsInTurn}
 use Rattle.journal_links.proofs.run_laws.LinkPhases.{HasRole, IsAtStage, IsInPhase, phased_at}
 use Rattle.journal_links.proofs.run_laws.OwnLinks.{sent_begins}
@@ -113,11 +115,11 @@ change_at : (handle : ℕ) (change : OpenLink → OpenLink) (links : Links) (lin
 change_at handle change links link at = changed_is (option_map change) 0 handle links refl ∙ ap (option_map change) at
 
 receiving_setup : (handle : ℕ) (room : Bool) (octets : List ℕ) (facts : Facts) (link : OpenLink) → (link_receiving handle room octets facts link).setup ≡ link.setup
-receiving_setup handle room octets facts link = by (refuses_at handle room octets facts)
+receiving_setup handle room octets facts link = by (refusal_at handle room octets facts)
   where
-    by : (refuses : Bool) → (refused_if refuses (link_after (PacketReceived facts.turn.slot octets room) link)).setup ≡ link.setup
-    by true = refl
-    by false = refl
+    by : (refusal : Option EndStep) → (refused_if refusal (link_after (PacketReceived facts.turn.slot octets room) link)).setup ≡ link.setup
+    by None = refl
+    by (Some step) = refl
 
 module _ (setup : Setup) (facts : Facts) (handle : ℕ) (octets : List ℕ) (listens : facts.wanted ≡ listens_on (link_at handle facts.links)) where
   abbrev room : Bool
@@ -156,6 +158,34 @@ module _ (setup : Setup) (facts : Facts) (handle : ℕ) (octets : List ℕ) (lis
 
   link_left : IsLeft facts (Some octets) (facts_passed (link_heard setup handle octets facts))
   link_left = reply_by (replies_in facts.turn.slot room (link_at handle facts.links) octets) refl
+
+-- a peripheral is given words before it hears the packet, which change neither its channel nor its access address
+same_left : (facts other after : Facts) (received : Option (List ℕ)) → other.wanted ≡ facts.wanted → IsLeft other received after → IsLeft facts received after
+same_left facts other after received same (Silent none) = Silent none
+same_left facts other after received same (Replies is) = Replies (record {
+  handle = is.handle;
+  doing = is.doing;
+  link = is.link;
+  octets = is.octets;
+  was = is.was;
+  listened = sym same ∙ is.listened;
+  begins = is.begins;
+  answers = is.answers;
+  role = is.role;
+})
+
+words_listen : (skd_s iv_s handle : ℕ) (links : Links) → listens_on (link_at handle (links_with_words handle skd_s iv_s links)) ≡ listens_on (link_at handle links)
+words_listen skd_s iv_s handle links = ap listens_on (changed_is (option_map (link_after (WordsGiven skd_s iv_s))) 0 handle links refl) ∙ by (link_at handle links)
+  where
+    by : (found : Option OpenLink) → listens_on (option_map (link_after (WordsGiven skd_s iv_s)) found) ≡ listens_on found
+    by None = refl
+    by (Some link) = ap (λ (f : EndFacts). Listens f.event.channel) (step_facts link (WordsGiven skd_s iv_s))
+
+worded_left : (setup : Setup) (facts : Facts) (handle : ℕ) (octets : List ℕ) → facts.wanted ≡ listens_on (link_at handle facts.links)
+    → IsLeft facts (Some octets) (facts_passed (link_heard setup handle octets (facts_with_words setup handle facts)))
+worded_left setup facts handle octets listens =
+    let heard = facts_with_words setup handle facts in
+    same_left facts heard _ (Some octets) refl (link_left setup heard handle octets (listens ∙ sym (words_listen _ _ handle facts.links)))
 
 -- ---- nothing else sends on a link next
 
@@ -216,7 +246,7 @@ heard_left setup facts octets (AwaitsResponse channel) listens =
 heard_left setup facts octets (Initiates channel) listens =
     Silent (pdu_silent (pdu_heard channel octets) facts _ (λ pdu. initiator_silent facts.initiator setup channel pdu facts))
 heard_left setup facts octets (CentralListens handle) listens = link_left setup facts handle octets listens
-heard_left setup facts octets (PeripheralListens handle) listens = link_left setup facts handle octets listens
+heard_left setup facts octets (PeripheralListens handle) listens = worded_left setup facts handle octets listens
 heard_left setup facts octets (Advertises channel) listens = Silent (unheard_silent (Advertises channel) facts)
 heard_left setup facts octets doing listens = Silent (unheard_silent doing facts)
 

@@ -18,7 +18,6 @@ use Rattle.journal_sending.specs.controller_model.Outcome.{facts_passed}
 use Rattle.journal_sending.specs.controller_model.Sent.{SendsOn}
 use Rattle.journal_sending.specs.controller_model.Side.{facts_after, facts_of}
 use Rattle.journal_sending.specs.controller_model.Step.{Step}
-use Rattle.journal_sending.proofs.controller_model.Places.{link_receiving}
 use Rattle.journal_sending.specs.run_model.Feeding.{AreDistinct}
 use Rattle.journal_sending.specs.run_model.History.{Event, Hearing, Transmitted, has_received, packet_received, turns_begun}
 use Rattle.journal_sending.specs.run_model.LinkEnds.{HaveAddresses}
@@ -41,7 +40,7 @@ use Rattle.journal_sending.proofs.journal_packets.Asked.{asked_called, asked_pac
 use Rattle.journal_sending.proofs.journal_packets.SoFar.{IsBelongingSoFar, belonging_first, belonging_kept}
 use Rattle.journal_sending.proofs.journal_acks.Standing.{PhasedBy, listens_wanted, phased_at, sends_on}
 use Rattle.journal_sending.proofs.journal_acks.TwoStations.{IsOfTwo, other_is, other_of}
-use Rattle.journal_sending.specs.journal_acks.link_calls.Phases.{HasPassed, IsNew, Stays, Takes}
+use Rattle.journal_sending.specs.journal_acks.link_calls.Phases.{HasPassed, IsNew, Stays, Takes, link_receiving}
 use Rattle.journal_sending.specs.journal_acks.link_calls.Turns.{sent_if}
 use Rattle.journal_sending.specs.journal_acks.link_calls.Uses.{sends_under}
 use Rattle.journal_sending.proofs.journal_acks.link_calls.LinkCalls.{off_sends, phase_under, receiving_event}
@@ -149,11 +148,11 @@ received_channel : (slot : ℕ) (found : Option (List ℕ)) (event : ConnectionE
 received_channel slot None event = refl
 received_channel slot (Some pdu) event = refl
 
-taken_channel : (handle : ℕ) (room : Bool) (octets : List ℕ) (facts : Facts) (link : OpenLink)
-    → (facts_in (link_receiving handle room octets facts link)).event.channel ≡ (facts_in link).event.channel
-taken_channel handle room octets facts link =
+taken_channel : (setup : Setup) (handle : ℕ) (room : Bool) (octets : List ℕ) (facts : Facts) (link : OpenLink)
+    → (facts_in (link_receiving setup handle room octets facts link)).event.channel ≡ (facts_in link).event.channel
+taken_channel setup handle room octets facts link =
     let slot = facts.turn.slot in
-    ap (λ (e : ConnectionEvent). e.channel) (receiving_event handle room octets facts link ∙ event_after_receiving slot octets room link)
+    ap (λ (e : ConnectionEvent). e.channel) (receiving_event setup handle room octets facts link ∙ event_after_receiving slot octets room link)
     ∙ received_channel slot (good_pdu link.setup (facts_in link) octets) (facts_in link).event
 
 module _ (setup : Setup) (received : Option (List ℕ)) (facts : Facts) (listens : IsListening facts facts.turn.doing) (channel : ℕ) (wants : facts.wanted ≡ Listens channel) where
@@ -161,17 +160,17 @@ module _ (setup : Setup) (received : Option (List ℕ)) (facts : Facts) (listens
   passed = facts_after setup facts (step_of received)
 
   passed_on : (handle slot : ℕ) (link : OpenLink) → sends_under handle passed.turn.doing ≡ true
-      → HasPassed facts (has_room setup facts) received handle passed.turn.doing (link_after (PacketSent slot) link) → (facts_in link).event.channel ≡ channel
+      → HasPassed setup facts (has_room setup facts) received handle passed.turn.doing (link_after (PacketSent slot) link) → (facts_in link).event.channel ≡ channel
   passed_on handle slot link sends (IsNew end made opened off) = absurd (let h : true ≡ false = sym sends ∙ off_sends handle passed.turn.doing off in absurd cc)
   passed_on handle slot link sends (Stays was none nothing listened) = absurd (let h : true ≡ false = sym sends ∙ none in absurd cc)
   passed_on handle slot link sends (Takes base octets was some on same) =
-      let taken = link_receiving handle (has_room setup facts) octets facts base in
+      let taken = link_receiving setup handle (has_room setup facts) octets facts base in
       let sent : link_after (PacketSent slot) link ≡ link_after (PacketSent facts.turn.slot) taken =
       same ∙ ap (λ b. sent_if b facts.turn.slot taken) sends in
       let one : Listens (facts_in base).event.channel ≡ Listens channel = sym (listens_wanted facts handle base facts.turn.doing on listens was) ∙ wants in
       let heard_on : (facts_in base).event.channel ≡ channel = cc in
       ap (λ (l : OpenLink). (facts_in l).event.channel) (same_base slot facts.turn.slot link taken sent)
-      ∙ taken_channel handle (has_room setup facts) octets facts base ∙ heard_on
+      ∙ taken_channel setup handle (has_room setup facts) octets facts base ∙ heard_on
 
   answers_there : (other : ℕ) (octets : List ℕ) → IsUseSent passed (Sends other octets) → is_advertising other ≡ false → other ≡ channel
   answers_there other octets (inl advertises) off = absurd (let h : true ≡ false = sym (on_channel other advertises.on_channel) ∙ off in absurd cc)

@@ -12,3 +12,4 @@ mod ResetAnswers
 mod ResetsLeaveNone
 -- what the crates above use of those below
 pub use Rattle.journal_sending.proofs.journal_leaving as journal_leaving
+pub use Rattle.journal_sending.proofs.run_model as run_model

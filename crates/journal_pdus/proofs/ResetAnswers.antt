@@ -22,7 +22,7 @@ use Rattle.hci_cmd.specs.declared.command.CmdRead.TheVariants.{Known, UnknownOpc
 use Rattle.hci_cmd.specs.Command.{are_parameters, command_of, counts_layout, layout_of, layouts, read_with}
 use Rattle.hci_evt.specs.Event.{mask_bit_of, written}
 use Rattle.hci_evt.specs.declared.event.Event.{Event}
-use Rattle.hci_evt.specs.declared.event.Event.TheVariants.{CommandComplete, DisconnectionComplete, HardwareError, CompletedPackets, BufferOverflow, ConnectionComplete, AdvertisingReport, EnhancedConnection, ChannelSelection, EncryptionChange, RemoteVersion, UpdateComplete, RemoteFeatures, ParamRequest, LengthChange, PhyComplete}
+use Rattle.hci_evt.specs.declared.event.Event.TheVariants.{CommandComplete, DisconnectionComplete, HardwareError, CompletedPackets, BufferOverflow, ConnectionComplete, AdvertisingReport, EnhancedConnection, ChannelSelection, EncryptionChange, KeyRefresh, KeyRequest, RemoteVersion, UpdateComplete, RemoteFeatures, ParamRequest, LengthChange, PhyComplete}
 use Rattle.host_view.specs.Noted.{two_octets}
 use Rattle.host_view.specs.OnLinks.{asks_links}
 use Rattle.host_view.specs.View.{View}
@@ -65,6 +65,8 @@ turn_quiet (AdvertisingReport kind address_kind address report rssi) is = refl
 turn_quiet (EnhancedConnection status handle role peer_kind peer local other interval latency timeout accuracy) is = refl
 turn_quiet (ChannelSelection handle algorithm) is = refl
 turn_quiet (EncryptionChange status handle enabled) is = refl
+turn_quiet (KeyRefresh status handle) is = refl
+turn_quiet (KeyRequest handle rand ediv) is = refl
 turn_quiet (RemoteVersion status handle version company sub) is = refl
 turn_quiet (UpdateComplete status handle interval latency timeout) is = refl
 turn_quiet (RemoteFeatures status handle features) is = refl

@@ -1,11 +1,10 @@
 -- Each line of a new PDU is of the one that is next by the lines before it, with the next number.
-use Rattle.std.proofs.Common.{◌≡◌, ℕ, ◌+◌, Bool, true, false, Option, Some, None, List, [], ◌∷◌, ◌++◌, refl, sym, ap, subst, ◌∙◌, append_assoc}
+use Rattle.std.proofs.Common.{◌≡◌, ℕ, ◌+◌, Bool, true, false, Some, List, [], ◌∷◌, ◌++◌, refl, sym, ap, subst, ◌∙◌, append_assoc}
 use Rattle.std.specs.Prelude.{map, fold}
 use Rattle.ble_base.specs.declared.notes.Note.{Note}
 use Rattle.ble_base.specs.declared.notes.Note.TheVariants.{Up as UpNote, Sent as SentNote}
 use Rattle.ble_base.specs.declared.roles.Side.{Side}
 use Rattle.journal_leaving.specs.controller_model.Facts.{Facts}
-use Rattle.journal_leaving.specs.controller_model.Heard.{has_room, replies_in}
 use Rattle.journal_leaving.specs.controller_model.Since.{data_waiting}
 use Rattle.journal_leaving.specs.controller_model.Side.{facts_after, facts_of as side_facts, notes_after}
 use Rattle.journal_leaving.specs.controller_model.Step.{Step, HostOctet, PacketHeard, TurnBegins, TurnEnds}
@@ -63,7 +62,8 @@ use Rattle.journal_fixing.specs.OnLines.{control_fixing, control_going}
 use Rattle.journal_fixing.specs.PastFixing.{facts_fixing, past_fixing}
 use Rattle.journal_fixing.specs.journal_controls.TurnSteps.{first_if, steps_begun}
 use Rattle.journal_fixing.specs.link_model.keyed_control.Keyed.{Keyed}
-use Rattle.journal_fixing.proofs.AnsweredLines.{fixing_in_answer, pdu_in_answer, replies_as}
+use Rattle.journal_fixing.proofs.AnsweredLines.{fixing_in_answer, pdu_in_answer}
+use Rattle.journal_fixing.proofs.journal_controls.Replies.{IsReply}
 use Rattle.journal_fixing.proofs.BegunPdus.{fixing_in_begin, going_in_begin, pdu_in_begin}
 use Rattle.journal_fixing.proofs.FixedPasts.{facts_begun}
 use Rattle.journal_fixing.proofs.FixedSince.{since_in}
@@ -179,13 +179,10 @@ module _ (heard_whole : IsHeardWhole) (understood : IsUnderstood) (taken : AreTa
       (numbered_is ∙ ap (λ (pdus : List Pdu). numbered pdus + 1) of_old.sent)
 
   answer_next : (octets : List ℕ) (link : OpenLink) → CalledAt (PacketHeard octets) → link_at handle facts.links ≡ Some link → listens_under handle facts.turn.doing ≡ true
-      → replies_in facts.turn.slot (has_room (setup_at given station) facts) (link_at handle facts.links) octets ≡ true → count ≡ numbered (ack_of link).sent + 1
+      → IsReply link.setup (facts_in link) octets → count ≡ numbered (ack_of link).sent + 1
       → NextAt (PacketHeard octets)
-  answer_next octets link called is_open on replies numbered_is =
+  answer_next octets link called is_open on reply numbered_is =
       let step = PacketHeard octets in
-      let slot = facts.turn.slot in
-      let room = has_room (setup_at given station) facts in
-      let reply = replies_as link.setup (facts_in link) slot octets room (ap (λ found. replies_in slot room found octets) (sym is_open) ∙ replies) in
       let held = facts_fixing link.setup link.past in
       let since = (since_in given history (Called station step ∷ (map (Noted station) earlier ++ rest)) station handle link distinct in_it called.at is_open).listens on reply.role in
       let same = subst (λ f. HasSameData f held) (sym since.1) (same_fixed link) in
@@ -201,8 +198,8 @@ module _ (heard_whole : IsHeardWhole) (understood : IsUnderstood) (taken : AreTa
   next_in : (step : Step) → CalledAt step → IsSentIn (setup_at given station) facts step handle count → NextAt step
   next_in step called (SendsFirst slot on old link is was at_then sends numbered_is) =
       subst NextAt (sym is) (begun_next slot on old link (subst CalledAt is called) was at_then sends numbered_is)
-  next_in step called (Answers octets link is is_open on replies numbered_is) =
-      subst NextAt (sym is) (answer_next octets link (subst CalledAt is called) is_open on replies numbered_is)
+  next_in step called (Answers octets link is is_open on reply numbered_is) =
+      subst NextAt (sym is) (answer_next octets link (subst CalledAt is called) is_open on reply numbered_is)
 
 -- ---- each call
 

@@ -8,7 +8,7 @@ use Rattle.journal_leaving.specs.controller_model.declared.doing.Doing.TheVarian
 use Rattle.journal_leaving.specs.controller_model.Commands.{facts_asking, facts_commanded, facts_known, is_asking, received_after}
 use Rattle.journal_leaving.specs.controller_model.Data.{facts_handed, facts_offered, offer_of}
 use Rattle.journal_leaving.specs.controller_model.Facts.{Facts, Setup, first_facts}
-use Rattle.journal_leaving.specs.controller_model.Heard.{asks_if, has_room, link_taken, replies_in, reply_if}
+use Rattle.journal_leaving.specs.controller_model.Heard.{asks_if, facts_with_words, has_room, link_taken, replies_in, reply_if}
 use Rattle.journal_leaving.specs.controller_model.Outcome.{facts_passed}
 use Rattle.journal_leaving.specs.controller_model.Side.{facts_after, facts_fed, result_of}
 use Rattle.journal_leaving.proofs.controller_model.Always.{leaving_is, opening_passes, start_keeps}
@@ -60,13 +60,13 @@ known_none true setup facts command none = command_none command facts.received n
 known_none false setup facts command none = none
 
 -- what it asks of links leaves that as it is
-asked_none : (asks : Bool) (before : Facts) (command : Command) (after : Facts) → HasNone after → HasNone (facts_asking asks before command after)
-asked_none true before command after none = none
-asked_none false before command after none = none
+asked_none : (asks : Bool) (setup : Setup) (before : Facts) (command : Command) (after : Facts) → HasNone after → HasNone (facts_asking asks setup before command after)
+asked_none true setup before command after none = none
+asked_none false setup before command after none = none
 
 read_none : (setup : Setup) (facts : Facts) (read : CmdRead) → HasNone facts → HasNone (facts_commanded setup facts read)
 read_none setup facts (Known command) none =
-    asked_none (is_asking facts.view command) facts command (facts_known (status_of facts.view command == 0) setup facts command)
+    asked_none (is_asking facts.view command) setup facts command (facts_known (status_of facts.view command == 0) setup facts command)
     (known_none (status_of facts.view command == 0) setup facts command none)
 read_none setup facts UnknownOpcode none = none
 read_none setup facts BadLength none = none
@@ -117,6 +117,9 @@ phase_none : (setup : Setup) (facts : Facts) (received : Option (List ℕ)) → 
 phase_none setup facts None yet = unheard_is setup facts (λ outcome. HasNoneYet (facts_passed outcome)) (passes_none setup facts yet) facts.turn.doing refl
 phase_none setup facts (Some octets) yet =
     heard_is setup facts (λ outcome. HasNoneYet (facts_passed outcome)) (passes_none setup facts yet) facts.turn.doing octets refl
+    (λ handle on.
+    let now = facts_with_words setup handle facts in
+    not_true _ _ (reply_never (replies_in now.turn.slot (has_room setup now) (link_at handle now.links) octets) handle) on)
 
 pub empty_kept : (setup : Setup) → IsTurned setup (IsEmptyAt setup)
 empty_kept setup = record {

@@ -8,7 +8,7 @@ use Rattle.journal_leaving.specs.controller_model.Side.{facts_after}
 use Rattle.journal_leaving.specs.controller_model.Step.{HostOctet, TurnBegins, TurnEnds}
 use Rattle.journal_leaving.specs.controller_model.declared.doing.Doing.{Doing}
 use Rattle.journal_leaving.specs.controller_model.declared.doing.Doing.TheVariants.{Rests}
-use Rattle.journal_leaving.specs.journal_acks.link_calls.Phases.{HasPassed, IsNew, Stays, Takes, link_receiving, refuses_at}
+use Rattle.journal_leaving.specs.journal_acks.link_calls.Phases.{HasPassed, IsNew, Stays, Takes, link_receiving, link_worded}
 use Rattle.journal_leaving.specs.journal_acks.link_calls.Turns.{sent_if}
 use Rattle.journal_leaving.specs.journal_acks.link_calls.Uses.{fixes_under, listens_under, sends_under}
 use Rattle.journal_leaving.specs.link_model.End.{facts_after as end_after, facts_of as end_facts}
@@ -22,7 +22,6 @@ use Rattle.journal_leaving.specs.run_model.Run.{Given, facts_at, history_of, run
 use Rattle.journal_leaving.proofs.journal_acks.Standing.{sender_role}
 use Rattle.journal_leaving.proofs.journal_acks.link_calls.LinkCalls.{passes_under, turn_begun_under}
 use Rattle.journal_leaving.proofs.journal_acks.link_calls.RadioUses.{no_link}
-use Rattle.journal_leaving.proofs.journal_acks.link_calls.Refusals.{only_central_refuses}
 use Rattle.journal_leaving.proofs.journal_data.run_laws.Agreed.{step_facts}
 use Rattle.journal_leaving.proofs.journal_data.run_laws.TurnPlaces.{Between, IsTurned, Stage, stands_in_run, turned}
 use Rattle.journal_leaving.specs.link_model.Packets.{good_pdu}
@@ -30,15 +29,17 @@ use Rattle.journal_leaving.proofs.link_model.KnownEnds.{IsPast}
 use Rattle.journal_leaving.proofs.run_model.Stations.{is_in}
 use Rattle.journal_fixing.specs.PastFixing.{facts_fixing, past_fixing}
 use Rattle.journal_fixing.specs.journal_controls.TurnSteps.{first_if, steps_begun}
-use Rattle.journal_fixing.proofs.AnsweredLines.{replies_as}
+use Rattle.journal_fixing.proofs.journal_controls.Replies.{replies_as}
+use Rattle.journal_fixing.proofs.journal_controls.SendsAlike.{SendsAlike, receiving_alike}
+use Rattle.journal_fixing.proofs.journal_controls.journal_ends.WordedLinks.{worded_as, worded_good}
 use Rattle.journal_fixing.proofs.FixedPasts.{begun_past as past_begun, facts_more, fixing_begun, same_before}
 use Rattle.journal_fixing.proofs.FixedSince.{AreSince, since_first, since_kept}
-use Rattle.journal_fixing.proofs.FixingLinks.{receiving_fixed, sends_uses, unrefused, user_fixes, uses_on}
+use Rattle.journal_fixing.proofs.FixingLinks.{receiving_fixed, sends_uses, user_fixes, uses_on}
 use Rattle.journal_fixing.proofs.GoingLinks.{receiving_setup}
 use Rattle.journal_fixing.proofs.journal_controls.CentralFixed.{IsFree}
 use Rattle.journal_fixing.proofs.journal_controls.FixedEnds.{begun_past, sends_replying}
 use Rattle.journal_sending.proofs.SameData.{HasSameData, received_same, same_then}
-use Rattle.journal_sending.proofs.SendsNext.{SendsNext, answer_sends, fixed_sends, same_fixed}
+use Rattle.journal_sending.proofs.SendsNext.{SendsNext, fixed_sends, now_sends, same_fixed}
 
 -- before it sent its packet
 abbrev pub SentNext : Doing → ℕ → OpenLink → Type 0
@@ -93,35 +94,37 @@ module _ (setup : Setup) (facts : Facts) (received : Option (List ℕ)) (handle 
   abbrev slot : ℕ
   slot = facts.turn.slot
 
-  passed_sends : HasPassed facts room received handle doing link → (one : OpenLink) (now : ℕ) → link ≡ link_after (PacketSent now) one
+  passed_sends : HasPassed setup facts room received handle doing link → (one : OpenLink) (now : ℕ) → link ≡ link_after (PacketSent now) one
       → SendsNext (facts_fixing link.setup link.past) (facts_in one)
   passed_sends (IsNew end made opened off) one now is = absurd (let h : true ≡ false = sym (uses_on handle doing (sends_uses handle doing on)) ∙ off in absurd cc)
   passed_sends (Stays was none nothing listened) one now is = absurd (let h : true ≡ false = sym on ∙ none in absurd cc)
   passed_sends (Takes base octets was some listening same) one now is =
-      let taken = link_receiving handle room octets facts base in
-      let heard = link_after (PacketReceived slot octets room) base in
+      let taken = link_receiving setup handle room octets facts base in
+      let worded = link_worded setup facts facts.turn.doing base in
+      let step = PacketReceived slot octets room in
+      let heard = link_after step base in
       let role_is : base.setup.link.role ≡ Peripheral =
-      sym (ap (λ (s : EndSetup). s.link.role) (ap (λ (l : OpenLink). l.setup) same ∙ receiving_setup (sends_under handle doing) handle room octets facts base)) ∙ role in
-      let whole : link ≡ link_after (PacketSent slot) heard =
-      same ∙ ap (λ b. sent_if b slot taken) on
-      ∙ ap (link_after (PacketSent slot)) (unrefused (refuses_at handle room octets facts) heard (only_central_refuses facts handle room octets base was) role_is) in
-      let past : one.past ≡ heard.past = same_before one.past heard.past (PacketSent now) (PacketSent slot) (ap (λ (l : OpenLink). l.past) (sym is ∙ whole)) in
-      let setup_one : one.setup ≡ base.setup = ap (λ (l : OpenLink). l.setup) (sym is ∙ whole) in
+      sym (ap (λ (s : EndSetup). s.link.role) (ap (λ (l : OpenLink). l.setup) same ∙ receiving_setup (sends_under handle doing) setup handle room octets facts base)) ∙ role in
+      let whole : link ≡ link_after (PacketSent slot) taken = same ∙ ap (λ b. sent_if b slot taken) on in
+      let past : one.past ≡ taken.past = same_before one.past taken.past (PacketSent now) (PacketSent slot) (ap (λ (l : OpenLink). l.past) (sym is ∙ whole)) in
+      let setup_one : one.setup ≡ taken.setup = ap (λ (l : OpenLink). l.setup) (sym is ∙ whole) in
+      let facts_one : facts_in one ≡ facts_in taken = λ i. end_facts (setup_one i) (past i) in
       let held = facts_fixing base.setup base.past in
       let fixed = end_after base.setup held PduFixed in
       let was_fixed = were base was listening role_is in
-      let reply = replies_as base.setup (facts_in base) slot octets room (sym (sends_replying setup facts received handle base octets was some listening) ∙ on) in
-      let good = ap (λ f. good_pdu base.setup f octets) (sym was_fixed.1) ∙ reply.good in
+      let reply = replies_as worded.setup (facts_in worded) slot octets room (sym (sends_replying setup facts received handle base octets was some listening) ∙ on) in
+      let good = ap (λ f. good_pdu base.setup f octets) (sym was_fixed.1) ∙ sym (worded_good base worded (worded_as setup facts facts.turn.doing base) octets) ∙ reply.good in
       let fixing_past : IsPast base.setup held = record { past = past_fixing base.past; is = refl } in
-      let facts_heard : facts_in heard ≡ end_after base.setup fixed (PacketReceived slot octets room) =
-      step_facts base (PacketReceived slot octets room) ∙ ap (λ f. end_after base.setup f (PacketReceived slot octets room)) was_fixed.1 in
-      let facts_one : facts_in one ≡ end_after base.setup fixed (PacketReceived slot octets room) = (λ i. end_facts (setup_one i) (past i)) ∙ facts_heard in
+      let facts_heard : facts_in heard ≡ end_after base.setup fixed step = step_facts base step ∙ ap (λ f. end_after base.setup f step) was_fixed.1 in
+      let alike : SendsAlike (facts_in one) (end_after base.setup fixed step) =
+      subst (λ f. SendsAlike f (end_after base.setup fixed step)) (sym facts_one)
+      (subst (λ f. SendsAlike (facts_in taken) (end_after base.setup f step)) was_fixed.1 (receiving_alike setup handle room octets facts base)) in
       let held_is : facts_fixing link.setup link.past ≡ held =
-      ap (λ (l : OpenLink). facts_fixing l.setup l.past) same ∙ receiving_fixed (sends_under handle doing) handle room octets facts base in
+      ap (λ (l : OpenLink). facts_fixing l.setup l.past) same ∙ receiving_fixed (sends_under handle doing) setup handle room octets facts base in
       let same_held : HasSameData (facts_in heard) held =
       same_then (facts_in heard) (facts_in base) held (received_same slot octets room base) (subst (λ f. HasSameData f held) (sym was_fixed.1) (same_fixed base)) in
       subst (λ f. SendsNext f (facts_in one)) (sym held_is)
-      (subst (SendsNext held) (sym facts_one) (answer_sends base.setup held was_fixed.0 fixing_past role_is slot octets reply.pdu room good (subst (λ f. HasSameData f held) facts_heard same_held)))
+      (now_sends base.setup held was_fixed.0 fixing_past role_is slot octets reply.pdu room good (subst (λ f. HasSameData f held) facts_heard same_held) (facts_in one) alike)
 
 -- ---- each call
 

@@ -2,7 +2,7 @@
 use Rattle.std.proofs.Common.{◌≡◌, ℕ, ◌≤◌, ◌&&◌, ◌||◌, not, Bool, true, false, Some, List, refl, sym, ap, ◌∙◌, if◌then◌else◌}
 use Rattle.ble_base.specs.declared.roles.Role.TheVariants.{Peripheral}
 use Rattle.data_pdu.specs.Header.{header_in}
-use Rattle.journal_leaving.specs.link_model.Acknowledgement.{is_acked}
+use Rattle.journal_leaving.specs.link_model.Acknowledgement.{Acknowledgement, is_acked}
 use Rattle.journal_leaving.specs.link_model.Controls.{pdu_fixed}
 use Rattle.journal_leaving.specs.link_model.Data.{Data, is_empty, next_piece}
 use Rattle.journal_leaving.specs.link_model.End.{facts_after}
@@ -19,6 +19,8 @@ use Rattle.journal_fixing.specs.journal_controls.KeyedLines.{has_next}
 use Rattle.journal_fixing.specs.link_model.keyed_control.Keyed.{Keyed}
 use Rattle.journal_leaving.proofs.link_model.KnownEnds.{IsPast, step_past}
 use Rattle.journal_fixing.proofs.AnsweredPdus.{answer_new}
+use Rattle.journal_fixing.proofs.journal_controls.EndSteps.{good_leave}
+use Rattle.journal_fixing.proofs.journal_controls.SendsAlike.{SendsAlike, alike_fixed}
 use Rattle.journal_fixing.proofs.FixedPdus.{fixed_by, fixed_left, fixed_next, fixing_stays}
 use Rattle.journal_fixing.proofs.journal_controls.CentralFixed.{IsFree}
 use Rattle.journal_sending.specs.WhatWaits.{has_payload_next}
@@ -92,5 +94,18 @@ module _ (setup : Setup) (held : Facts) (free : IsFree held) where
         none_is_next (keyed_of held) (data_cut held) fixed is_fixed some (keyed_acked_if acks (keyed_of fixed))
         (stays ∙ ap has_next (fixing_stays setup held)) (ap is_empty (sym sent) ∙ empty)
 
-    pub answer_sends : HasSameData heard held → SendsNext held heard
-    answer_sends same = record { same = same; filled = heard_filled }
+    -- also with other words, and after its answer to a request that is withheld
+    pub now_sends : HasSameData heard held → (now : Facts) → SendsAlike now heard → SendsNext held now
+    now_sends same now alike = record {
+      same = record {
+        given = ap (λ (o : Data). o.given) alike.outgoing ∙ same.given;
+        sent = ap (λ (a : Acknowledgement). a.sent) alike.acknowledgement ∙ same.sent;
+      };
+      filled = λ some acked empty.
+          let was = ap is_acked (sym alike.acknowledgement) ∙ acked in
+          let pdus : pdu_sent now ≡ pdu_sent heard =
+          ap (λ b. if b then pdu_fixed now else now.acknowledgement.last) acked
+          ∙ alike_fixed now heard alike (good_leave slot octets pdu room setup fixed role good) was
+          ∙ sym (ap (λ b. if b then pdu_fixed heard else heard.acknowledgement.last) was) in
+          heard_filled some was (ap is_empty (sym pdus) ∙ empty);
+    }

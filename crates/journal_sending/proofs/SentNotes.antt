@@ -23,13 +23,15 @@ use Rattle.journal_leaving.specs.link_model.Step.{PacketSent}
 use Rattle.journal_leaving.specs.journal_data.open_links.OpenLinks.{OpenLink, facts_in, link_after, link_at}
 use Rattle.journal_leaving.specs.run_model.Run.{step_of}
 use Rattle.journal_leaving.proofs.journal_data.Openness.{AreNot}
+use Rattle.journal_leaving.proofs.journal_acks.Worded.{link_worded, received_ack_is, received_setup_is, worded, worded_heard, worded_here, worded_setup}
+use Rattle.journal_fixing.proofs.journal_controls.Replies.{IsReply, replies_as, worded_reply, words_are}
 use Rattle.journal_leaving.proofs.journal_acks.DataCalls.{own_begun, received_at, sent_at, unfound}
 use Rattle.journal_leaving.proofs.journal_acks.PhaseNotes.{IsOnLink, IsPhaseOf, IsPlainPhase, SendsFrom, SendsNothing, SendsOne, phase_of, sends_from}
 use Rattle.journal_leaving.proofs.journal_acks.PhaseNotes.{sent_same}
 use Rattle.journal_leaving.proofs.journal_acks.TwoStations.{same_number}
 use Rattle.journal_leaving.proofs.journal_acks.link_calls.CallNotes.{HasNoData, SendsNone, all_more, end_noted, is_sending, no_data, notes_starting}
 use Rattle.journal_leaving.proofs.journal_acks.link_calls.CallNotes.{octet_noted, start_noted}
-use Rattle.journal_leaving.proofs.journal_acks.link_calls.LinkCalls.{base_ack, begins_under, received_noted, receiving_ack, receiving_setup, taking_sends}
+use Rattle.journal_leaving.proofs.journal_acks.link_calls.LinkCalls.{base_ack, begins_under, received_noted, taking_sends}
 use Rattle.journal_leaving.proofs.journal_data.open_links.Handles.{handle_is}
 use Rattle.journal_leaving.proofs.journal_data.run_laws.Agreed.{ack_of}
 
@@ -119,8 +121,7 @@ pub data IsSentIn (setup : Setup) (facts : Facts) (step : Step) (handle count : 
       → link_at handle (facts_after setup facts (TurnBegins slot on)).links ≡ Some link → sends_under handle (facts_after setup facts (TurnBegins slot on)).turn.doing ≡ true
       → count ≡ numbered (ack_of old).sent + 1 → IsSentIn setup facts step handle count
   Answers : (octets : List ℕ) (link : OpenLink) → step ≡ PacketHeard octets → link_at handle facts.links ≡ Some link → listens_under handle facts.turn.doing ≡ true
-      → replies_in facts.turn.slot (has_room setup facts) (link_at handle facts.links) octets ≡ true → count ≡ numbered (ack_of link).sent + 1
-      → IsSentIn setup facts step handle count
+      → IsReply link.setup (facts_in link) octets → count ≡ numbered (ack_of link).sent + 1 → IsSentIn setup facts step handle count
 
 module _ (setup : Setup) (facts : Facts) (own : HaveOwnHandles setup facts) where
   pub begin_last : (slot : ℕ) (on : Bool) → IsSentLast (IsSentIn setup facts (TurnBegins slot on)) (notes_after setup facts (TurnBegins slot on))
@@ -150,41 +151,50 @@ module _ (setup : Setup) (facts : Facts) (own : HaveOwnHandles setup facts) wher
           (subst (λ n. P n (numbered (ack_of base).sent + 1)) (sym same_handle)
           (SendsFirst slot on begun.link after refl begun.was sent sends (ap (λ (pdus : List Pdu). numbered pdus + 1) sent_is))))
 
-  reply_last : (other : ℕ) (octets : List ℕ) (base : OpenLink) (starts : List Note) (replies : Bool) → link_at other facts.links ≡ Some base → AreNot is_sending starts
-      → listens_under other facts.turn.doing ≡ true → replies_in facts.turn.slot (has_room setup facts) (link_at other facts.links) octets ≡ replies
-      → IsSentLast (IsSentIn setup facts (PacketHeard octets)) (starts ++ notes_doing (reply_if replies other) (link_received other (has_room setup facts) octets facts))
-  reply_last other octets base starts false was none listens answers = SendsNoNew (subst (AreNot is_sending) (sym (append-nil starts)) none)
-  reply_last other octets base starts true was none listens answers =
+  -- a link that may be given words before it hears the packet
+  reply_last : (words : Bool) (other : ℕ) (octets : List ℕ) (base : OpenLink) (starts : List Note) (replies : Bool) → link_at other facts.links ≡ Some base → AreNot is_sending starts
+      → listens_under other facts.turn.doing ≡ true
+      → let now = worded words setup other facts in replies_in facts.turn.slot (has_room setup facts) (link_at other now.links) octets ≡ replies
+      → IsSentLast (IsSentIn setup facts (PacketHeard octets)) (starts ++ notes_doing (reply_if replies other) (link_received other (has_room setup facts) octets now))
+  reply_last words other octets base starts false was none listens answers = SendsNoNew (subst (AreNot is_sending) (sym (append-nil starts)) none)
+  reply_last words other octets base starts true was none listens answers =
       let P = IsSentIn setup facts (PacketHeard octets) in
       let room = has_room setup facts in
       let slot = facts.turn.slot in
-      let taken = link_receiving other room octets facts base in
-      let same_handle = ap (λ (s : EndSetup). s.link.handle) (receiving_setup other room octets facts base) ∙ handle_is 0 other facts.links base own.handles was in
+      let now = worded words setup other facts in
+      let there = link_worded words setup facts base in
+      let there_at = worded_here words setup other facts (Some base) was in
+      let taken = link_receiving other room octets now there in
+      let reply = worded_reply base there (words_are words setup facts base) octets
+      (replies_as there.setup (facts_in there) slot octets room (ap (λ found. replies_in slot room found octets) (sym there_at) ∙ answers)) in
+      let same_handle = ap (λ (s : EndSetup). s.link.handle) (received_setup_is other room octets now there ∙ worded_setup setup facts base words) ∙ handle_is 0 other facts.links base own.handles was in
       let sent_is : (ack_of taken).sent ≡ (ack_of base).sent =
-      ap (λ (a : Acknowledgement). a.sent) (receiving_ack other room octets facts base) ∙ (sent_same slot octets room base).sent in
-      subst (λ (more : List Note). IsSentLast P (starts ++ more)) (sym (ap (notes_sent slot) (received_at other octets room facts base was)))
+      ap (λ (a : Acknowledgement). a.sent) (received_ack_is other room octets now there ∙ worded_heard setup facts base words slot octets room) ∙ (sent_same slot octets room base).sent in
+      subst (λ (more : List Note). IsSentLast P (starts ++ more)) (sym (ap (notes_sent slot) (received_at other octets room now there there_at)))
       (sent_by P starts taken none
       (subst (λ n. P n (numbered (ack_of taken).sent + 1)) (sym same_handle)
-      (Answers octets base refl was listens answers (ap (λ (pdus : List Pdu). numbered pdus + 1) sent_is))))
+      (Answers octets base refl was listens reply (ap (λ (pdus : List Pdu). numbered pdus + 1) sent_is))))
 
-  heard_last : (octets : List ℕ) (other : ℕ) (found : Option OpenLink) → link_at other facts.links ≡ found → listens_under other facts.turn.doing ≡ true
-      → IsSentLast (IsSentIn setup facts (PacketHeard octets)) (notes_passed (link_heard setup other octets facts))
-  heard_last octets other None absent listens =
-      subst (IsSentLast (IsSentIn setup facts (PacketHeard octets))) (sym (unfound setup facts other octets absent)) (SendsNoNew tt)
-  heard_last octets other (Some base) was listens =
-      let taken = (link_heard setup other octets facts).notes in
-      reply_last other octets base taken (replies_in facts.turn.slot (has_room setup facts) (link_at other facts.links) octets) was
-      (none_sent taken (received_noted SendsNone taking_sends setup other octets facts)) listens refl
+  heard_last : (words : Bool) (octets : List ℕ) (other : ℕ) (found : Option OpenLink) → link_at other facts.links ≡ found → listens_under other facts.turn.doing ≡ true
+      → IsSentLast (IsSentIn setup facts (PacketHeard octets)) (notes_passed (link_heard setup other octets (worded words setup other facts)))
+  heard_last words octets other None absent listens =
+      subst (IsSentLast (IsSentIn setup facts (PacketHeard octets)))
+      (sym (unfound setup (worded words setup other facts) other octets (worded_here words setup other facts None absent))) (SendsNoNew tt)
+  heard_last words octets other (Some base) was listens =
+      let now = worded words setup other facts in
+      let taken = (link_heard setup other octets now).notes in
+      reply_last words other octets base taken (replies_in facts.turn.slot (has_room setup facts) (link_at other now.links) octets) was
+      (none_sent taken (received_noted SendsNone taking_sends setup other octets now)) listens refl
 
   pub phase_last : (received : Option (List ℕ)) → IsSentLast (IsSentIn setup facts (step_of received)) (notes_after setup facts (step_of received))
   phase_last received = by (phase_of setup facts received)
     where
       by : IsPhaseOf setup facts received → IsSentLast (IsSentIn setup facts (step_of received)) (notes_after setup facts (step_of received))
       by (IsPlainPhase nothing none) = SendsNoNew (plain_sent (notes_after setup facts (step_of received)) none)
-      by (IsOnLink other octets some listens heard_is) =
+      by (IsOnLink other words octets some listens heard_is) =
           subst (λ may. IsSentLast (IsSentIn setup facts (step_of may)) (notes_after setup facts (step_of may))) (sym some)
           (subst (IsSentLast (IsSentIn setup facts (PacketHeard octets))) (sym (ap notes_passed heard_is))
-          (heard_last octets other (link_at other facts.links) refl (listens other ∙ same_number other)))
+          (heard_last words octets other (link_at other facts.links) refl (listens other ∙ same_number other)))
 
 pub octet_last : (P : ℕ → ℕ → Type 0) (setup : Setup) (facts : Facts) (octet : ℕ) → IsSentLast P (notes_after setup facts (HostOctet octet))
 octet_last P setup facts octet = SendsNoNew (plain_sent (notes_after setup facts (HostOctet octet)) (octet_noted HasNoData no_data.feeds setup facts octet))

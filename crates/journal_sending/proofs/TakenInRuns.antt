@@ -38,7 +38,7 @@ use Rattle.journal_leaving.specs.run_model.Pair.{given_of}
 use Rattle.journal_leaving.specs.run_model.Run.{Given, after_call, after_feed, after_octets, facts_at, fate_at, hearings_of, history_of, octets_left, run_of}
 use Rattle.journal_leaving.specs.run_model.Run.{setup_at, step_of, unseen_in, use_at}
 use Rattle.journal_leaving.proofs.run_model.EntryEvents.{is_of_event}
-use Rattle.journal_leaving.proofs.run_model.LinkEnds.{AreTaken, IsUnderstood, is_listener, received_by, received_event}
+use Rattle.journal_leaving.proofs.run_model.LinkEnds.{AreTaken, IsUnderstood, is_listener, received_by, received_own, received_packet}
 use Rattle.journal_leaving.proofs.run_model.Places.{each_at, each_event}
 use Rattle.journal_leaving.proofs.run_model.Stations.{is_in, among, in_more_other, in_more_same, not_before}
 use Rattle.journal_leaving.proofs.run_model.Walk.{Place, NoTurn, AtFeeds, AtBegins, AfterPhases, AtPackets, AtListening, AtEnds, IsKept, IsStopped, IsWhole}
@@ -68,7 +68,7 @@ use Rattle.journal_leaving.proofs.journal_acks.Known.{known_of}
 use Rattle.journal_leaving.proofs.journal_acks.link_calls.LinkPhases.{IsPhased}
 use Rattle.journal_leaving.proofs.journal_acks.Standing.{listener_sends, listens_wanted, other_listens, phased_at}
 use Rattle.journal_leaving.proofs.journal_acks.TwoStations.{IsListening, IsOfTwo, hearing_of, judged, link_listens, one_hearing, other_apart, other_is}
-use Rattle.journal_leaving.proofs.journal_acks.TwoStations.{other_of, other_received, own_differs, own_received, same_number, side_other, side_same, unchanged}
+use Rattle.journal_leaving.proofs.journal_acks.TwoStations.{other_of, other_received, own_differs, same_number, side_other, side_same, unchanged}
 use Rattle.journal_leaving.specs.journal_data.Lines.{PduLine}
 use Rattle.journal_leaving.proofs.journal_data.Arriving.{lines_length}
 use Rattle.journal_leaving.proofs.journal_data.Ends.{sound}
@@ -172,7 +172,7 @@ module _ (whole : IsHeardWhole) (given : Given) (Q : Place → List Event → Ty
 
   received_is : (good : Bool) → is_good hearing.verdict ≡ good → packet_received other after ≡ (if good then Some octets else packet_received other history)
   received_is good verdict =
-      received_event other history event ∙ ap (λ b. if b then Some octets else packet_received other history) (heard_is ∙ verdict)
+      received_packet given fates other station channel octets history seen ∙ ap (λ b. if b then Some octets else packet_received other history) (heard_is ∙ verdict)
 
   facts_same : (one : ℕ) → facts_at given one after ≡ facts one
   facts_same one = facts_event given one history event refl
@@ -196,8 +196,7 @@ module _ (whole : IsHeardWhole) (given : Given) (Q : Place → List Event → Ty
   own_to_take : to_take given station after ≡ None
   own_to_take =
       same_to_take given station history after (packet_received station history) (facts_same station)
-      (received_event station history event
-      ∙ ap (λ b. if b then Some octets else packet_received station history) (ap (has_received station) has ∙ own_received station hearing (own_differs station)))
+      (received_own given fates station channel octets history)
       (λ handle. sent_number station handle history station channel octets hearings)
       ∙ own_silent
 

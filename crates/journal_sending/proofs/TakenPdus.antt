@@ -42,6 +42,11 @@ use Rattle.journal_leaving.proofs.link_model.Hearing.{IsHeardWhole}
 use Rattle.journal_leaving.proofs.link_model.Received.{body_heard, header_read, heard_good}
 use Rattle.journal_leaving.proofs.journal_data.run_laws.Agreed.{ack_of, out_after, packet_of, sent_ack}
 use Rattle.journal_fixing.specs.link_model.declared.state.Leaving.{Leaving}
+use Rattle.host_view.specs.Links.{was_encrypted}
+use Rattle.journal_leaving.proofs.journal_acks.Worded.{link_worded, worded, worded_here}
+use Rattle.journal_fixing.proofs.journal_controls.Replies.{words_are}
+use Rattle.journal_fixing.proofs.journal_controls.journal_ends.WordedLinks.{IsWordedAs, with_response, worded_good}
+use Rattle.journal_leaving.proofs.LinkLeaves.{leaving_still}
 use Rattle.journal_leaving.specs.Hearing.{leaving_hearing}
 use Rattle.journal_sending.specs.Announced.{pdu_line_if}
 use Rattle.journal_sending.proofs.PendingLines.{TakesFirst, first_fits, first_none, first_taken}
@@ -53,7 +58,7 @@ module _ (setup : Setup) (facts : Facts) where
   -- after what a link notes of a packet come the events for its host, and what it notes as it replies
   abbrev events_then : ℕ → List ℕ → List Note
   events_then other octets =
-      notes_of_events facts.view (events_received other facts.turn.slot (has_room setup facts) (link_at other facts.links) octets)
+      notes_of_events facts.view (events_received (was_encrypted other facts.view.links) other facts.turn.slot (has_room setup facts) (link_at other facts.links) octets)
       ++ notes_doing (reply_if (replies_in facts.turn.slot (has_room setup facts) (link_at other facts.links) octets) other)
       (link_received other (has_room setup facts) octets facts)
 
@@ -65,13 +70,15 @@ module _ (setup : Setup) (facts : Facts) where
   events_none other octets =
       let slot = facts.turn.slot in
       let room = has_room setup facts in
-      let events = notes_of_events facts.view (events_received other slot room (link_at other facts.links) octets) in
+      let events = notes_of_events facts.view (events_received (was_encrypted other facts.view.links) other slot room (link_at other facts.links) octets) in
       All-append TakesNone events _
       (all_more HasNoData TakesNone (λ note has. has.takes) events
-      (events_noted HasNoData no_data.feeds facts.view (events_received other slot room (link_at other facts.links) octets)))
+      (events_noted HasNoData no_data.feeds facts.view (events_received (was_encrypted other facts.view.links) other slot room (link_at other facts.links) octets)))
       (doing_noted TakesNone (λ one number llid body. refl) (reply_if (replies_in slot room (link_at other facts.links) octets) other)
       (link_received other room octets facts))
 
+-- a link may be given words before it hears the packet
+module _ (setup : Setup) (facts : Facts) where
   abbrev notes_of : Option (List ℕ) → List Note
   notes_of received = notes_after setup facts (step_of received)
 
@@ -79,21 +86,22 @@ module _ (setup : Setup) (facts : Facts) where
   pub phase_fits : (link_of : ℕ → ℕ) (received : Option (List ℕ)) → TakesFirst link_of (notes_after setup facts (step_of received))
   phase_fits link_of received = by (phase_of setup facts received)
     where
-      on_link : (other : ℕ) (octets : List ℕ) → notes_of received ≡ notes_passed (link_heard setup other octets facts)
-          → (found : Option OpenLink) → link_at other facts.links ≡ found → TakesFirst link_of (notes_of received)
-      on_link other octets are None absent = subst (TakesFirst link_of) (sym (are ∙ unfound setup facts other octets absent)) tt
-      on_link other octets are (Some link) is =
-          let slot = facts.turn.slot in
-          let room = has_room setup facts in
-          subst (TakesFirst link_of) (sym (are ∙ on_link_parts other octets))
-          (subst (λ found. TakesFirst link_of (notes_taken slot room found octets ++ events_then other octets)) (sym is)
-          (link_fits slot room octets link (events_then other octets) link_of (events_none other octets)))
+      on_link : (now : Facts) (other : ℕ) (octets : List ℕ) → notes_of received ≡ notes_passed (link_heard setup other octets now)
+          → (found : Option OpenLink) → link_at other now.links ≡ found → TakesFirst link_of (notes_of received)
+      on_link now other octets are None absent = subst (TakesFirst link_of) (sym (are ∙ unfound setup now other octets absent)) tt
+      on_link now other octets are (Some link) is =
+          let slot = now.turn.slot in
+          let room = has_room setup now in
+          subst (TakesFirst link_of) (sym (are ∙ on_link_parts setup now other octets))
+          (subst (λ found. TakesFirst link_of (notes_taken slot room found octets ++ events_then setup now other octets)) (sym is)
+          (link_fits slot room octets link (events_then setup now other octets) link_of (events_none setup now other octets)))
 
       by : IsPhaseOf setup facts received → TakesFirst link_of (notes_of received)
       by (IsPlainPhase none plain) =
           first_fits link_of (notes_of received) (all_more HasNoData TakesNone (λ note has. has.takes) (notes_of received) plain)
-      by (IsOnLink other octets some listens heard_is) =
-          on_link other octets (on_link_notes setup facts received other octets some (ap notes_passed heard_is)) (link_at other facts.links) refl
+      by (IsOnLink other words octets some listens heard_is) =
+          let now = worded words setup other facts in
+          on_link now other octets (on_link_notes setup facts received octets (link_heard setup other octets now) some (ap notes_passed heard_is)) (link_at other now.links) refl
 
   -- where nothing is received on an open link, none takes one
   pub unheard_none : (link_of : ℕ → ℕ) (received : Option (List ℕ))
@@ -101,37 +109,42 @@ module _ (setup : Setup) (facts : Facts) where
       → first_taken link_of (notes_after setup facts (step_of received)) ≡ None
   unheard_none link_of received nothing = by (phase_of setup facts received)
     where
-      on_link : (other : ℕ) (octets : List ℕ) → received ≡ Some octets → listens_under other facts.turn.doing ≡ true
-          → notes_of received ≡ notes_passed (link_heard setup other octets facts)
+      on_link : (words : Bool) (other : ℕ) (octets : List ℕ) → received ≡ Some octets → listens_under other facts.turn.doing ≡ true
+          → notes_of received ≡ notes_passed (link_heard setup other octets (worded words setup other facts))
           → (found : Option OpenLink) → link_at other facts.links ≡ found → first_taken link_of (notes_of received) ≡ None
-      on_link other octets some on are None absent = ap (first_taken link_of) (are ∙ unfound setup facts other octets absent)
-      on_link other octets some on are (Some link) is = absurd (let h : None ≡ Some octets = sym (nothing other link is on) ∙ some in absurd cc)
+      on_link words other octets some on are None absent =
+          ap (first_taken link_of) (are ∙ unfound setup (worded words setup other facts) other octets (worded_here words setup other facts None absent))
+      on_link words other octets some on are (Some link) is = absurd (let h : None ≡ Some octets = sym (nothing other link is on) ∙ some in absurd cc)
 
       by : IsPhaseOf setup facts received → first_taken link_of (notes_of received) ≡ None
       by (IsPlainPhase none plain) =
           first_none link_of (notes_of received) (all_more HasNoData TakesNone (λ note has. has.takes) (notes_of received) plain)
-      by (IsOnLink other octets some listens heard_is) =
-          on_link other octets some (listens other ∙ same_number other) (on_link_notes setup facts received other octets some (ap notes_passed heard_is)) (link_at other facts.links) refl
+      by (IsOnLink other words octets some listens heard_is) =
+          on_link words other octets some (listens other ∙ same_number other)
+          (on_link_notes setup facts received octets (link_heard setup other octets (worded words setup other facts)) some (ap notes_passed heard_is)) (link_at other facts.links) refl
 
-  -- what is received on a link
+  -- what is received on a link: the notes are those of the link with words
   module _ (octets : List ℕ) (handle : ℕ) (link : OpenLink) (room : has_room setup facts ≡ true) (is_open : link_at handle facts.links ≡ Some link)
       (on : listens_under handle facts.turn.doing ≡ true) (link_of : ℕ → ℕ) where
     heard_first : (first : Option PduLine)
-        → ((later : List Note) → All TakesNone later → first_taken link_of (notes_taken facts.turn.slot true (Some link) octets ++ later) ≡ first)
+        → ((there : OpenLink) → IsWordedAs link there → (later : List Note) → All TakesNone later
+        → first_taken link_of (notes_taken facts.turn.slot true (Some there) octets ++ later) ≡ first)
         → first_taken link_of (notes_of (Some octets)) ≡ first
     heard_first first is = by (phase_of setup facts (Some octets))
       where
         by : IsPhaseOf setup facts (Some octets) → first_taken link_of (notes_of (Some octets)) ≡ first
         by (IsPlainPhase none plain) = absurd (let h : Some octets ≡ None = none handle on in absurd cc)
-        by (IsOnLink other heard some listens heard_is) =
+        by (IsOnLink other words heard some listens heard_is) =
             let same = eqb-true other handle (sym (listens handle) ∙ on) in
             let equal : heard ≡ octets = let told : Some heard ≡ Some octets = sym some in cc in
-            let more = events_then other heard in
+            let now = worded words setup other facts in
+            let there = link_worded words setup facts link in
+            let there_at : link_at other now.links ≡ Some there = worded_here words setup other facts (Some link) (ap (λ n. link_at n facts.links) same ∙ is_open) in
+            let more = events_then setup now other heard in
             ap (first_taken link_of)
-            (on_link_notes setup facts (Some octets) other heard some (ap notes_passed heard_is) ∙ on_link_parts other heard
-            ∙ (λ i. notes_taken facts.turn.slot (room i) (link_at (same i) facts.links) (equal i) ++ more)
-            ∙ ap (λ found. notes_taken facts.turn.slot true found octets ++ more) is_open)
-            ∙ is more (events_none other heard)
+            (on_link_notes setup facts (Some octets) heard (link_heard setup other heard now) some (ap notes_passed heard_is) ∙ on_link_parts setup now other heard
+            ∙ (λ i. notes_taken facts.turn.slot (room i) (there_at i) (equal i) ++ more))
+            ∙ is there (words_are words setup facts link) more (events_none setup now other heard)
 
 -- ---- the PDU that the other end sent
 
@@ -172,17 +185,22 @@ module _ (whole : IsHeardWhole) (slot : ℕ) (link from : OpenLink) (octets : Li
   pdu_is =
       body_heard sender listener (sent_readable from from_ranges).llid ∙ (λ i. record { llid = (pdu_sent sender).llid; body = body_is i })
 
-  -- that it takes the PDU is the first of its notes that takes one
-  took_as : (link_of : ℕ → ℕ) (later : List Note) → All TakesNone later → first_taken link_of (notes_taken slot true (Some link) octets ++ later)
+  -- that it takes the PDU is the first of its notes that takes one, also where it was given words before
+  took_as : (there : OpenLink) → IsWordedAs link there → (link_of : ℕ → ℕ) (later : List Note) → All TakesNone later
+      → first_taken link_of (notes_taken slot true (Some there) octets ++ later)
       ≡ pdu_line_if (takes_of link from (left_hearing slot link octets).acknowledged) (link_of link.setup.link.handle) (numbered (ack_of link).accepted + 1) (pdu_sent sender)
-  took_as link_of later none =
+  took_as there words link_of later none =
       let setup = link.setup in
       let role = setup.link.role in
       let count = numbered listener.acknowledgement.accepted + 1 in
-      ap (λ found. first_taken link_of (received_notes setup slot true found listener ++ later)) good
-      ∙ hearing_first setup listener slot true (header_in (pdu_octets sender listener)) (pdu_of (pdu_octets sender listener)) later none link_of
+      let heard = pdu_octets sender listener in
+      let is = worded_good link there words octets ∙ good in
+      let left : leaving_hearing role slot (Some heard) (with_response words.response listener) ≡ left_hearing slot link octets =
+      leaving_still role slot (Some heard) words.response listener ∙ ap (λ found. leaving_hearing role slot found listener) (sym good) in
+      (λ i. first_taken link_of (received_notes (words.setup_is i) slot true (is i) (words.facts_is i) ++ later))
+      ∙ hearing_first setup (with_response words.response listener) slot true (header_in heard) (pdu_of heard) later none link_of
       ∙ (λ i. pdu_line_if
-      ((is_accepted true (has_new_pdu listener (header i)) (pdu_is i) && (is_empty (pdu_is i) || not (leaving_hearing role slot (sym good i) listener).acknowledged)) && not (is_empty (pdu_is i)))
+      ((is_accepted true (has_new_pdu listener (header i)) (pdu_is i) && (is_empty (pdu_is i) || not (left i).acknowledged)) && not (is_empty (pdu_is i)))
       (link_of setup.link.handle) count (pdu_is i))
 
 module _ (sender : EndFacts) (one : Acknowledgement) (agreed : AreInAgreement (sent_ack sender) one) where
@@ -251,4 +269,4 @@ taken_as whole link_of setup facts octets handle number link from room is_open o
     (fresh_more sender (ack_of link) agreed) (old_same sender (ack_of link) agreed)
     ∙ ap (λ n. pdu_line_if (takes_of link from left) n (accepted + 1) (pdu_sent sender)) (sym number_is)
     ∙ sym (heard_first setup facts octets handle link room is_open on link_of _
-    (took_as whole facts.turn.slot link from octets ranges from_ranges fields packet channel link_of))
+    (λ there words later none. took_as whole facts.turn.slot link from octets ranges from_ranges fields packet channel there words link_of later none))

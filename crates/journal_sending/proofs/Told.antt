@@ -14,7 +14,7 @@ use Rattle.journal_leaving.specs.link_model.Data.{is_empty, numbered}
 use Rattle.journal_leaving.specs.link_model.Controls.{pdu_fixed}
 use Rattle.journal_leaving.specs.link_model.Sending.{sent_notes_if}
 use Rattle.journal_leaving.specs.link_model.Facts.{Facts as EndFacts}
-use Rattle.journal_leaving.specs.link_model.Step.{PacketSent}
+use Rattle.journal_leaving.specs.link_model.Step.{PacketReceived, PacketSent}
 use Rattle.journal_leaving.specs.link_model.Setup.{Setup as EndSetup}
 use Rattle.journal_leaving.specs.journal_data.open_links.OpenLinks.{Links, OpenLink, facts_in, link_after, link_at}
 use Rattle.journal_leaving.proofs.journal_data.open_links.Handles.{handle_is}
@@ -43,6 +43,7 @@ use Rattle.journal_leaving.proofs.journal_data.run_laws.InAgreement.{AreStations
 use Rattle.journal_leaving.specs.journal_links.Begun.{link_numbered}
 use Rattle.journal_leaving.specs.journal_packets.Belonging.{is_side, link_of_packet}
 use Rattle.journal_leaving.specs.journal_acks.Exchange.{Exchanged, after_packet, carries_empty, exchange_of, is_number, with_heard, with_sent}
+use Rattle.journal_leaving.proofs.journal_acks.Worded.{link_worded, received_ack_is, received_setup_is, worded, worded_heard, worded_setup}
 use Rattle.journal_leaving.proofs.journal_acks.link_calls.CallNotes.{HasNoData, SendsNone, all_more, doing_noted, no_data, notes_starting, start_noted}
 use Rattle.journal_leaving.proofs.journal_acks.Counting.{AreCountedSo, AreKnown, facts_event, plain}
 use Rattle.journal_leaving.proofs.journal_acks.DataCalls.{on_link_notes, own_begun, sent_at}
@@ -52,8 +53,8 @@ use Rattle.journal_leaving.proofs.journal_acks.Exchanging.{number_other, number_
 use Rattle.journal_leaving.proofs.journal_acks.KeptCounts.{AreCountedAt, before_call, own_at, phased, station_is, unsent, was_taking}
 use Rattle.journal_leaving.proofs.journal_acks.KeptLines.{rests_deaf, rests_none}
 use Rattle.journal_leaving.specs.journal_acks.link_calls.Phases.{HasPassed, IsNew, Stays, Takes}
-use Rattle.journal_leaving.proofs.journal_acks.link_calls.LinkCalls.{base_ack, begins_under, off_sends, passes_under, received_noted, receiving_ack}
-use Rattle.journal_leaving.proofs.journal_acks.link_calls.LinkCalls.{receiving_setup, taking_opens, taking_sends}
+use Rattle.journal_leaving.proofs.journal_acks.link_calls.LinkCalls.{base_ack, begins_under, off_sends, passes_under, received_noted}
+use Rattle.journal_leaving.proofs.journal_acks.link_calls.LinkCalls.{taking_opens, taking_sends}
 use Rattle.journal_leaving.specs.journal_acks.link_calls.Uses.{listens_under, sends_under}
 use Rattle.journal_leaving.proofs.journal_acks.PhaseNotes.{IsOnLink, IsPhaseOf, IsPlainPhase, phase_of, same_but}
 use Rattle.journal_leaving.proofs.journal_acks.TwoStations.{IsOfTwo, other_apart, same_number}
@@ -393,18 +394,39 @@ begin_tells given station slot on history in_it rests station_is counted before 
 
 received_handle : (same : Bool) (other : ℕ) (room : Bool) (octets : List ℕ) (facts : Facts) (link : OpenLink)
     → (change_if same (link_receiving other room octets facts) link).setup.link.handle ≡ link.setup.link.handle
-received_handle true other room octets facts link = ap (λ (s : EndSetup). s.link.handle) (receiving_setup other room octets facts link)
+received_handle true other room octets facts link = ap (λ (s : EndSetup). s.link.handle) (received_setup_is other room octets facts link)
 received_handle false other room octets facts link = refl
+
+-- the link under a handle, as one that is heard on may be given words
+record IsGiven (words : Bool) (setup : Setup) (facts : Facts) (other handle : ℕ) (link : OpenLink) : Type 0 where
+  base : OpenLink
+  was : link_at handle facts.links ≡ Some base
+  is : link ≡ change_if (other == handle) (link_worded words setup facts) base
+
+given_from : (words : Bool) (setup : Setup) (facts : Facts) (other handle : ℕ) (link : OpenLink) → link_at handle (worded words setup other facts).links ≡ Some link
+    → IsGiven words setup facts other handle link
+given_from true setup facts other handle link at =
+    let was = change_under other handle (link_worded true setup facts) facts.links link at in record { base = was.link; was = was.was; is = was.is }
+given_from false setup facts other handle link at = record { base = link; was = at; is = by (other == handle) }
+  where
+    by : (same : Bool) → link ≡ change_if same (link_worded false setup facts) link
+    by true = refl
+    by false = refl
+
+given_handle : (same words : Bool) (setup : Setup) (facts : Facts) (base : OpenLink)
+    → (change_if same (link_worded words setup facts) base).setup.link.handle ≡ base.setup.link.handle
+given_handle true words setup facts base = ap (λ (s : EndSetup). s.link.handle) (worded_setup setup facts base words)
+given_handle false words setup facts base = refl
 
 reply_sends : (replies : Bool) (other handle : ℕ) → sends_under handle (reply_if replies other) ≡ true → (other == handle) ≡ true
 reply_sends true other handle on = on
 reply_sends false other handle on = absurd cc
 
-passed_off : (facts : Facts) (room : Bool) (received : Option (List ℕ)) (handle : ℕ) (doing : Doing) (link : OpenLink)
-    → ((other : ℕ) → listens_under other facts.turn.doing ≡ true → received ≡ None) → HasPassed facts room received handle doing link → sends_under handle doing ≡ true → ⊥
-passed_off facts room received handle doing link none (IsNew end made opened off) on = let h : true ≡ false = sym on ∙ off_sends handle doing off in absurd cc
-passed_off facts room received handle doing link none (Stays was off nothing listened) on = let h : true ≡ false = sym on ∙ off in absurd cc
-passed_off facts room received handle doing link none (Takes base octets was some listens same) on = let h : None ≡ Some octets = sym (none handle listens) ∙ some in absurd cc
+passed_off : (setup : Setup) (facts : Facts) (room : Bool) (received : Option (List ℕ)) (handle : ℕ) (doing : Doing) (link : OpenLink)
+    → ((other : ℕ) → listens_under other facts.turn.doing ≡ true → received ≡ None) → HasPassed setup facts room received handle doing link → sends_under handle doing ≡ true → ⊥
+passed_off setup facts room received handle doing link none (IsNew end made opened off) on = let h : true ≡ false = sym on ∙ off_sends handle doing off in absurd cc
+passed_off setup facts room received handle doing link none (Stays was off nothing listened) on = let h : true ≡ false = sym on ∙ off in absurd cc
+passed_off setup facts room received handle doing link none (Takes base octets was some listens same) on = let h : None ≡ Some octets = sym (none handle listens) ∙ some in absurd cc
 
 module _ (given : Given) (Q : Place → List Event → Type 0) (known : AreKnown given Q) (distinct : AreDistinct given.stations) (phases : ℕ) (done left : List ℕ) (station : ℕ) (history : List Event)
     (are : given.stations ≡ done ++ station ∷ left) (is : AreCountedAt given Q (AtListening phases done (station ∷ left)) history)
@@ -435,45 +457,55 @@ module _ (given : Given) (Q : Place → List Event → Type 0) (known : AreKnown
       none_tells (facts_at given station heard_after).turn.doing (facts_at given station heard_after).links station heard_after
       (called_none given station (step_of received) history before (all_more HasNoData SendsNone (λ note has. has.sends) _ plain_too))
       (λ handle link on at.
-      passed_off facts room received handle (facts_after setup facts (step_of received)).turn.doing link none
+      passed_off setup facts room received handle (facts_after setup facts (step_of received)).turn.doing link none
       (passes_under setup facts received handle link (phased given Q known distinct phases done left station history are is q holds).uses.in_turn.listens
       (own_at given station (step_of received) history handle link at))
       (ap (λ (f : Facts). sends_under handle f.turn.doing) (sym (own_facts given station (step_of received) history)) ∙ on))
 
-  -- a packet is received on a link
-  module _ (other : ℕ) (octets : List ℕ) (some : received ≡ Some octets) (listens : (handle : ℕ) → listens_under handle facts.turn.doing ≡ (other == handle)) where
-    received_from : (handle : ℕ) (base : OpenLink) → link_at handle (link_received other room octets facts).links ≡ Some base
-        → WasOpen (change_if (other == handle) (link_receiving other room octets facts)) (link_at handle facts.links) base
-    received_from handle base at =
-        change_under other handle (link_receiving other room octets facts) facts.links base
-        (ap (link_at handle) (sym (receiving_is other room octets facts)) ∙ at)
+  -- a packet is received on a link, which may be given words before
+  module _ (other : ℕ) (words : Bool) (octets : List ℕ) (some : received ≡ Some octets) (listens : (handle : ℕ) → listens_under handle facts.turn.doing ≡ (other == handle)) where
+    abbrev now : Facts
+    now = worded words setup other facts
 
-    own_taken : (handle : ℕ) (base : OpenLink) → link_at handle (link_received other room octets facts).links ≡ Some base → base.setup.link.handle ≡ handle
+    received_from : (handle : ℕ) (base : OpenLink) → link_at handle (link_received other room octets now).links ≡ Some base
+        → WasOpen (change_if (other == handle) (link_receiving other room octets now)) (link_at handle now.links) base
+    received_from handle base at =
+        change_under other handle (link_receiving other room octets now) now.links base
+        (ap (link_at handle) (sym (receiving_is other room octets now)) ∙ at)
+
+    own_taken : (handle : ℕ) (base : OpenLink) → link_at handle (link_received other room octets now).links ≡ Some base → base.setup.link.handle ≡ handle
     own_taken handle base at =
         let was = received_from handle base at in
-        ap (λ (l : OpenLink). l.setup.link.handle) was.is ∙ received_handle (other == handle) other room octets facts was.link
-        ∙ handle_is 0 handle facts.links was.link station_has.own.handles was.was
+        let first = given_from words setup facts other handle was.link was.was in
+        ap (λ (l : OpenLink). l.setup.link.handle) was.is ∙ received_handle (other == handle) other room octets now was.link
+        ∙ ap (λ (l : OpenLink). l.setup.link.handle) first.is ∙ given_handle (other == handle) words setup facts first.base
+        ∙ handle_is 0 handle facts.links first.base station_has.own.handles first.was
 
-    sent_taken : (handle : ℕ) (base : OpenLink) → link_at handle (link_received other room octets facts).links ≡ Some base → (other == handle) ≡ true
+    sent_taken : (handle : ℕ) (base : OpenLink) → link_at handle (link_received other room octets now).links ≡ Some base → (other == handle) ≡ true
         → (exchange_at (number_at station handle history) history (side_of station)).sent ≡ length (ack_of base).sent
     sent_taken handle base at one =
         let was = received_from handle base at in
-        let receiving = link_receiving other room octets facts in
+        let first = given_from words setup facts other handle was.link was.was in
+        let step = PacketReceived facts.turn.slot octets room in
+        let receiving = link_receiving other room octets now in
         let base_is : base ≡ receiving was.link = was.is ∙ ap (λ b. change_if b receiving was.link) one in
-        let counts = was_taking received octets handle facts.turn was.link (exchange_at (number_at station handle history) history (side_of station)) (listens handle ∙ one) some
-        (before_call given Q known distinct phases done left station history are is q holds handle was.link was.was) in
-        counts.sent ∙ ap length (same_but facts.turn.slot octets false room was.link).sent
-        ∙ ap (λ (a : Acknowledgement). length a.sent) (sym (receiving_ack other room octets facts was.link))
+        let link_is : was.link ≡ link_worded words setup facts first.base = first.is ∙ ap (λ b. change_if b (link_worded words setup facts) first.base) one in
+        let counts = was_taking received octets handle facts.turn first.base (exchange_at (number_at station handle history) history (side_of station)) (listens handle ∙ one) some
+        (before_call given Q known distinct phases done left station history are is q holds handle first.base first.was) in
+        counts.sent ∙ ap length (same_but facts.turn.slot octets false room first.base).sent
+        ∙ ap (λ (a : Acknowledgement). length a.sent) (sym (received_ack_is other room octets now was.link ∙ ap (λ l. ack_of (link_after step l)) link_is
+        ∙ worded_heard setup facts first.base words facts.turn.slot octets room))
         ∙ ap (λ (l : OpenLink). length (ack_of l).sent) (sym base_is)
 
-    link_tells : heard setup facts.turn.doing octets facts ≡ link_heard setup other octets facts → IsTold given true station heard_after
+    link_tells : heard setup facts.turn.doing octets facts ≡ link_heard setup other octets now → IsTold given true station heard_after
     link_tells heard_is =
-        call_tells given station (step_of received) history (link_heard setup other octets facts) (link_heard setup other octets facts).notes
+        let outcome = link_heard setup other octets now in
+        call_tells given station (step_of received) history outcome outcome.notes
         (ap (λ may. facts_after setup facts (step_of may)) some ∙ ap facts_passed heard_is)
-        (on_link_notes setup facts received other octets some (ap notes_passed heard_is))
-        (received_noted SendsNone taking_sends setup other octets facts)
-        (λ handle. received_noted (OpensNone handle) (taking_opens handle) setup other octets facts)
-        own_taken (λ handle base at on. sent_taken handle base at (reply_sends (replies_in facts.turn.slot room (link_at other facts.links) octets) other handle on)) before
+        (on_link_notes setup facts received octets outcome some (ap notes_passed heard_is))
+        (received_noted SendsNone taking_sends setup other octets now)
+        (λ handle. received_noted (OpensNone handle) (taking_opens handle) setup other octets now)
+        own_taken (λ handle base at on. sent_taken handle base at (reply_sends (replies_in facts.turn.slot room (link_at other now.links) octets) other handle on)) before
 
   pub phase_tells : IsTold given true station heard_after
   phase_tells = by (phase_of (setup_at given station) (facts_at given station history) (packet_received station history))
@@ -481,4 +513,4 @@ module _ (given : Given) (Q : Place → List Event → Type 0) (known : AreKnown
       by : IsPhaseOf (setup_at given station) (facts_at given station history) (packet_received station history)
           → IsTold given true station (after_call given station (step_of (packet_received station history)) history)
       by (IsPlainPhase none plain_too) = plain_tells none plain_too
-      by (IsOnLink other octets some listens heard_is) = link_tells other octets some listens heard_is
+      by (IsOnLink other words octets some listens heard_is) = link_tells other words octets some listens heard_is

@@ -44,6 +44,7 @@ use Rattle.journal_leaving.proofs.journal_data.run_laws.TurnPlaces.{Between, Wit
 use Rattle.journal_leaving.specs.journal_packets.Belonging.{is_side}
 use Rattle.journal_leaving.proofs.journal_packets.AccessOrder.{AreNth}
 use Rattle.journal_leaving.proofs.journal_packets.SoFar.{IsBelongingSoFar}
+use Rattle.journal_leaving.proofs.journal_acks.Worded.{worded}
 use Rattle.journal_leaving.proofs.journal_acks.link_calls.CallNotes.{HasNoData, SendsNone, all_more, end_noted, no_data, notes_starting, octet_noted}
 use Rattle.journal_leaving.proofs.journal_acks.link_calls.CallNotes.{start_noted}
 use Rattle.journal_leaving.proofs.journal_acks.Counting.{AreKnown}
@@ -119,15 +120,16 @@ begin_call given station slot on history before =
 phase_call : (given : Given) (station : ℕ) (received : Option (List ℕ)) (history : List Event) → told_at station history ≡ None
     → IsPhaseOf (setup_at given station) (facts_at given station history) received → IsToldCall given history station (step_of received)
 phase_call given station received history before (IsPlainPhase none plain_too) = all_quiet given history station (step_of received) before plain_too
-phase_call given station received history before (IsOnLink other octets some listens heard_is) =
+phase_call given station received history before (IsOnLink other words octets some listens heard_is) =
     let setup = setup_at given station in
     let facts = facts_at given station history in
-    let outcome = link_heard setup other octets facts in record {
+    let now = worded words setup other facts in
+    let outcome = link_heard setup other octets now in record {
       before = before;
       start = outcome.notes;
       last = notes_doing outcome.next outcome.facts;
-      are = on_link_notes setup facts received other octets some (ap notes_passed heard_is);
-      none = received_noted SendsNone taking_sends setup other octets facts;
+      are = on_link_notes setup facts received octets outcome some (ap notes_passed heard_is);
+      none = received_noted SendsNone taking_sends setup other octets now;
       few = few_doing outcome.next outcome.facts;
     }
 

@@ -51,6 +51,7 @@ use Rattle.journal_leaving.proofs.run_model.Stations.{among, is_in}
 use Rattle.journal_leaving.proofs.run_model.Walk.{Place, AtPackets, IsKept, IsStopped, IsWhole, ends_with, run_kept}
 use Rattle.journal_fixing.specs.NextPdu.{data_waits, data_waits_after, more_with_new, more_with_old}
 use Rattle.journal_fixing.specs.OnLines.{control_fixing}
+use Rattle.journal_leaving.proofs.link_model.Plain.{past_payload}
 use Rattle.journal_fixing.specs.PastFixing.{facts_fixing, past_fixing}
 use Rattle.journal_fixing.specs.journal_controls.LineSteps.{keyed_on}
 use Rattle.journal_fixing.proofs.FixedPasts.{fixing_stays}
@@ -199,6 +200,7 @@ module _ (given : Given) (are_two : IsOfTwo given) (before rest : List Event) (s
       let is = seen.packet.number_is in
       let new_is = ap (λ n. is_next_new n front side) is ∙ seen.is_new in record {
         packet = seen.packet.packet;
+        clear = seen.packet.payload_is ∙ past_payload sending.link.setup sending.link.past ∙ ap (λ (pdu : Pdu). pdu.body) (sym seen.packet.pdu_is);
         fixing = keyed_of held;
         fixing_is = ap (λ n. control_fixing side n front) is ∙ fixing_is;
         now = keyed_of (facts_in link);

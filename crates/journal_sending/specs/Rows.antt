@@ -1,5 +1,5 @@
 -- The journals and the ends of worked examples.
-use Rattle.std.specs.Prelude.{ℕ, true, List, [], ◌∷◌, ◌++◌}
+use Rattle.std.specs.Prelude.{ℕ, List, [], ◌∷◌, ◌++◌}
 use Rattle.ble_base.specs.declared.roles.Role.TheVariants.{Peripheral}
 use Rattle.ble_base.specs.declared.roles.Side.TheVariants.{A}
 use Rattle.ble_base.specs.declared.verdicts.Verdict.TheVariants.{Good}

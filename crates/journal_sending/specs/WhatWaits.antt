@@ -36,6 +36,8 @@ has_payload_next fixing octets = has_next fixing || (lets_data_go fixing && octe
 -- one only where nothing is to go
 pub record TellsWhatWaits (front : List Entry) (side : Side) (channel : ℕ) (octets : List ℕ) : Type 0 where
   pub packet : IsLinkPacket front side channel octets
+  -- it is not sealed
+  pub clear : packet.payload ≡ (carried_of packet.number front side).body
   pub fixing : Keyed
   pub fixing_is : control_fixing side packet.number front ≡ Some fixing
   pub now : Keyed

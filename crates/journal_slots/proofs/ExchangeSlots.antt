@@ -1,7 +1,6 @@
 -- A link sends or listens only in the slot of the anchor of the event that it entered last, or where this event has a
 -- second exchange; and the slot of that event is the anchor that the link has.
 use Rattle.std.proofs.Common.{◌≡◌, ℕ, ◌≤◌, ◌==◌, ◌&&◌, ◌||◌, ◌⊎◌, inl, inr, Bool, true, false, not, Option, Some, None, List, [], ◌∷◌, ◌++◌, refl, sym, ap, subst, ◌∙◌, arith, if◌then◌else◌}
-use Rattle.std.specs.Prelude.{Err}
 use Rattle.std.specs.List.{AllByRecursion}
 use Rattle.std.specs.Option.{option_map}
 use Rattle.std.proofs.lemmas.Bool.{and_parts, eqb-true}
@@ -19,7 +18,7 @@ use Rattle.journal_acks.specs.link_model.Entering.{facts_entered_if}
 use Rattle.journal_acks.specs.link_model.Facts.{Facts as EndFacts}
 use Rattle.journal_acks.specs.link_model.Packets.{good_pdu, is_forged, more_sent}
 use Rattle.journal_acks.specs.link_model.Receiving.{facts_received}
-use Rattle.journal_acks.specs.link_model.Step.{Step as EndStep, DataGiven, DataReported, EventEntered, PacketReceived, PacketSent, PduFixed, ProcedureAsked, RequestAnswered}
+use Rattle.journal_acks.specs.link_model.Step.{Step as EndStep, DataGiven, DataReported, EventEntered, PacketReceived, PacketSent, PduFixed, ProcedureAsked, WordsGiven}
 use Rattle.journal_acks.specs.link_model.Times.{has_second_exchange}
 use Rattle.journal_acks.specs.open_links.OpenLinks.{OpenLink, facts_in, in_event, link_after, link_at, new_link}
 use Rattle.journal_acks.specs.open_links.procedure_values.declared.asks.Ask.TheVariants.{Map}
@@ -41,7 +40,6 @@ use Rattle.journal_acks.specs.controller_model.Side.{facts_after}
 use Rattle.journal_acks.specs.controller_model.Step.{TurnBegins}
 use Rattle.journal_acks.proofs.controller_model.Always.{ending_is}
 use Rattle.journal_acks.proofs.controller_model.Entries.{entered_track as end_track}
-use Rattle.journal_acks.proofs.controller_model.Places.{link_receiving}
 use Rattle.journal_acks.proofs.controller_model.Asked.{IsAskedStep}
 use Rattle.journal_acks.specs.run_model.Run.{step_of}
 use Rattle.journal_acks.proofs.run_laws.Agreed.{step_facts}
@@ -51,7 +49,7 @@ use Rattle.journal_acks.proofs.run_laws.TurnSteps.{begins_slot, phase_turn}
 use Rattle.journal_acks.proofs.link_calls.EnteredLinks.{open_in_event}
 use Rattle.journal_acks.proofs.link_calls.HostSteps.{asked_leaves}
 use Rattle.journal_acks.proofs.link_calls.HeardSteps.{fixed_same, forged_event, received_same, sent_in}
-use Rattle.journal_acks.specs.link_calls.Phases.{HasPassed, IsNew, Stays, Takes}
+use Rattle.journal_acks.specs.link_calls.Phases.{HasPassed, IsNew, Stays, Takes, link_receiving}
 use Rattle.journal_acks.proofs.link_calls.LinkCalls.{begins_under, passes_under, receiving_event}
 use Rattle.journal_acks.specs.link_calls.Turns.{fixed_if}
 use Rattle.journal_acks.proofs.link_calls.LinkPhases.{IsPhased, phased_first, phased_kept}
@@ -167,11 +165,11 @@ received_further : (slot : ℕ) (found : Option (List ℕ)) (event : ConnectionE
 received_further slot None event goes = goes
 received_further slot (Some pdu) event goes = more_heard event.heard event.more (slot == event.slot) _ goes
 
-received_later : (handle : ℕ) (room : Bool) (octets : List ℕ) (facts : Facts) (link : OpenLink) → IsLater link (link_receiving handle room octets facts link)
-received_later handle room octets facts link =
+received_later : (setup : Setup) (handle : ℕ) (room : Bool) (octets : List ℕ) (facts : Facts) (link : OpenLink) → IsLater link (link_receiving setup handle room octets facts link)
+received_later setup handle room octets facts link =
     let slot = facts.turn.slot in
     let found = good_pdu link.setup (facts_in link) octets in
-    let now = receiving_event handle room octets facts link ∙ event_after_receiving slot octets room link in record {
+    let now = receiving_event setup handle room octets facts link ∙ event_after_receiving slot octets room link in record {
       slot = ap (λ (e : ConnectionEvent). e.slot) now ∙ received_slot slot found (facts_in link).event;
       further = λ goes. ap goes_further now ∙ received_further slot found (facts_in link).event goes;
     }
@@ -191,7 +189,7 @@ track_stays : (link : OpenLink) (step : EndStep) → enters step ≡ false → (
     → IsOnTrack link → IsOnTrack (link_after step link)
 track_stays link step none slot map is =
     let same = step_facts link step in
-    let place = stays_put link.setup (facts_in link) step (record { past = link.past; is = refl }) none in record {
+    let place = stays_put link.setup (facts_in link) step none in record {
       anchor = λ some.
           slot ∙ is.anchor (subst (λ n. 1 ≤ n) (ap (λ (f : EndFacts). f.control.track.entered) same ∙ place.entered) some)
           ∙ sym (ap (λ (f : EndFacts). f.control.track.anchor) same ∙ place.anchor);
@@ -237,8 +235,8 @@ track_open = record {
       track_stays link (PacketReceived slot octets room) refl
       (ap (λ (e : ConnectionEvent). e.slot) (event_after_receiving slot octets room link)
       ∙ received_slot slot (good_pdu link.setup (facts_in link) octets) (facts_in link).event) tt is;
-  answered = λ code link is.
-      track_stays link (RequestAnswered (Err code)) refl (slot_after link (RequestAnswered (Err code)) refl) tt is;
+  worded = λ skd_s iv_s link is. track_stays link (WordsGiven skd_s iv_s) refl (slot_after link (WordsGiven skd_s iv_s) refl) tt is;
+  answered = track_asked;
 }
 
 new_track : (end : EndSetup) → IsOnTrack (new_link end)
@@ -371,7 +369,7 @@ begun_exchange setup slot on facts handle after is uses =
 
 passed_exchange : (setup : Setup) (received : Option (List ℕ)) (facts : Facts)
     → ((handle : ℕ) (link : OpenLink) → link_at handle facts.links ≡ Some link → Uses handle facts.turn.doing → IsInExchange facts.turn.slot link)
-    → (handle : ℕ) (link : OpenLink) → HasPassed facts (has_room setup facts) received handle (facts_after setup facts (step_of received)).turn.doing link
+    → (handle : ℕ) (link : OpenLink) → HasPassed setup facts (has_room setup facts) received handle (facts_after setup facts (step_of received)).turn.doing link
     → Uses handle (facts_after setup facts (step_of received)).turn.doing → IsInExchange (facts_after setup facts (step_of received)).turn.slot link
 passed_exchange setup received facts uses handle link (IsNew end made opened off) =
     λ does. off_uses handle (facts_after setup facts (step_of received)).turn.doing _ off does
@@ -385,9 +383,9 @@ passed_exchange setup received facts uses handle link (Takes base octets was som
     let after = facts_after setup facts (step_of received) in
     let slot = facts.turn.slot in
     let sends = sends_under handle after.turn.doing in
-    let taken = link_receiving handle (has_room setup facts) octets facts base in
+    let taken = link_receiving setup handle (has_room setup facts) octets facts base in
     let later = later_is base (sent_if sends slot taken) link same
-    (later_then base taken (sent_if sends slot taken) (received_later handle (has_room setup facts) octets facts base) (sent_later sends slot taken)) in
+    (later_then base taken (sent_if sends slot taken) (received_later setup handle (has_room setup facts) octets facts base) (sent_later sends slot taken)) in
     λ does. subst (λ n. IsInExchange n link) (sym (phase_turn setup facts received).slot)
     (later_exchange slot base link later (uses handle base was (Listening on)))
 

@@ -14,7 +14,6 @@ use Rattle.journal_acks.specs.controller_model.Step.{Step, HostOctet, TurnBegins
 use Rattle.journal_acks.specs.controller_model.Facts.{Facts}
 use Rattle.journal_acks.specs.controller_model.Heard.{has_room}
 use Rattle.journal_acks.specs.controller_model.Side.{facts_after, notes_after}
-use Rattle.journal_acks.proofs.controller_model.Places.{link_receiving}
 use Rattle.journal_acks.specs.run_model.Feeding.{AreDistinct}
 use Rattle.journal_acks.specs.run_model.History.{Event, Called, HostFed, Noted, packet_received, steps_in, turns_begun}
 use Rattle.journal_acks.specs.run_model.Journal.{entries_of, journal_from, journal_of, side_of}
@@ -33,7 +32,7 @@ use Rattle.journal_acks.proofs.Counting.{facts_event, taking_if}
 use Rattle.journal_acks.proofs.link_calls.CallNotes.{OpensNone, opening_none}
 use Rattle.journal_acks.proofs.Exchanging.{number_at, number_called, number_other, number_quiet}
 use Rattle.journal_acks.proofs.KeptCounts.{AreCountedAt, own_at, unsent}
-use Rattle.journal_acks.specs.link_calls.Phases.{HasPassed, IsNew, Stays, Takes}
+use Rattle.journal_acks.specs.link_calls.Phases.{HasPassed, IsNew, Stays, Takes, link_receiving}
 use Rattle.journal_acks.proofs.link_calls.LinkCalls.{IsOpenedNow, begins_under, new_event, off_sends, passes_under, phase_quiet, receiving_event}
 use Rattle.journal_acks.specs.link_calls.Uses.{listens_under, sends_under}
 use Rattle.journal_acks.proofs.Standing.{PhasedBy, phased_at}
@@ -282,18 +281,18 @@ module _ (given : Given) (Q : Place → List Event → Type 0) (distinct : AreDi
       new_by handle link link (ap (λ b. sent_if b held.turn.slot link) (sym sends)) (ap (λ (e : ConnectionEvent). e.heard) none) (ap (λ (e : ConnectionEvent). e.more) none)
 
   new_passed : (handle : ℕ) (link : OpenLink) → (facts_in link).event ≡ no_event
-      → HasPassed facts (has_room (setup_at given station) facts) received handle held.turn.doing link
+      → HasPassed (setup_at given station) facts (has_room (setup_at given station) facts) received handle held.turn.doing link
       → IsEndOnAir true (packet_received station after) handle (facts_at given station after).turn link (number_at station handle after) (side_of station) (journal_of after)
   new_passed handle link none (IsNew end made opened off) = new_rests handle link none (off_sends handle held.turn.doing off)
   new_passed handle link none (Stays was sends nothing listened) = new_rests handle link none sends
   new_passed handle link none (Takes base octets was some on same) =
-      let taken = link_receiving handle (has_room (setup_at given station) facts) octets facts base in
+      let taken = link_receiving (setup_at given station) handle (has_room (setup_at given station) facts) octets facts base in
       let sends = sends_under handle held.turn.doing in
       let quiet = base_quiet sends facts.turn.slot taken (ap (λ (l : OpenLink). (facts_in l).event) (sym same) ∙ none) in
       new_by handle link taken (same ∙ ap (λ n. sent_if sends n taken) (sym (phase_turn (setup_at given station) facts received).slot)) quiet.0 quiet.1
 
   passed : (handle : ℕ) (link : OpenLink) → number_at station handle after ≡ number_at station handle history
-      → HasPassed facts (has_room (setup_at given station) facts) received handle held.turn.doing link
+      → HasPassed (setup_at given station) facts (has_room (setup_at given station) facts) received handle held.turn.doing link
       → IsEndOnAir true (packet_received station after) handle (facts_at given station after).turn link (number_at station handle after) (side_of station) (journal_of after)
   passed handle link number (IsNew end made opened off) = new_rests handle link (new_event end link made) (off_sends handle held.turn.doing off)
   passed handle link number (Stays was none nothing listened) =
@@ -301,11 +300,11 @@ module _ (given : Given) (Q : Place → List Event → Type 0) (distinct : AreDi
       (plain false received handle facts.turn link (number_at station handle history) (side_of station) (journal_of history) refl nothing (before_phase handle link was))
   passed handle link number (Takes base octets was some on same) =
       let room = has_room (setup_at given station) facts in
-      let taken = link_receiving handle room octets facts base in
+      let taken = link_receiving (setup_at given station) handle room octets facts base in
       let as_if = link_after (PacketReceived facts.turn.slot octets false) base in
       own_sends given station (step_of received) history (packet_received station after) handle link taken none_after number
       (same ∙ ap (λ n. sent_if (sends_under handle held.turn.doing) n taken) (sym (phase_turn (setup_at given station) facts received).slot))
-      (event_on_air (number_at station handle history) (side_of station) (journal_of history) as_if taken (receiving_event handle room octets facts base ∙ room_event facts.turn.slot octets room false base)
+      (event_on_air (number_at station handle history) (side_of station) (journal_of history) as_if taken (receiving_event (setup_at given station) handle room octets facts base ∙ room_event facts.turn.slot octets room false base)
       (not_sending false facts.turn.slot as_if (number_at station handle history) (side_of station) (journal_of history) refl
       (subst (λ (l : OpenLink). WasOnAir false facts.turn.slot l (number_at station handle history) (side_of station) (journal_of history))
       (λ i. taking_if (on i) (some i) facts.turn.slot base) (before_phase handle base was))))

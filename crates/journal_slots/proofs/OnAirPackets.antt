@@ -32,7 +32,7 @@ use Rattle.journal_acks.specs.run_model.Links.{is_advertising, links_of}
 use Rattle.journal_acks.specs.run_model.Readers.{turns_of}
 use Rattle.journal_acks.specs.run_model.Run.{Given, facts_at, hearings_of, unseen_in, use_at}
 use Rattle.journal_acks.proofs.run_model.Fates.{turns_are}
-use Rattle.journal_acks.proofs.run_model.LinkEnds.{is_listener, received_event}
+use Rattle.journal_acks.proofs.run_model.LinkEnds.{is_listener, received_own, received_packet}
 use Rattle.journal_acks.proofs.run_model.Parts.{journal_event}
 use Rattle.journal_acks.proofs.run_model.Stations.{among, in_more_other, in_more_same, is_in, not_before}
 use Rattle.journal_acks.proofs.run_model.Unseen.{good_is}
@@ -50,7 +50,7 @@ use Rattle.journal_acks.specs.link_calls.Uses.{listens_under, sends_under}
 use Rattle.journal_acks.proofs.link_calls.InRange.{sent_ranges}
 use Rattle.journal_acks.proofs.link_calls.Pieces.{sent_readable}
 use Rattle.journal_acks.proofs.Standing.{PhasedBy, listener_sends, other_listens, other_sends, phased_at, sends_on, sends_other}
-use Rattle.journal_acks.proofs.TwoStations.{IsOfTwo, hearing_of, one_hearing, other_is, other_of, own_differs, own_received, same_number}
+use Rattle.journal_acks.proofs.TwoStations.{IsOfTwo, hearing_of, one_hearing, other_is, other_of, same_number}
 use Rattle.journal_acks.proofs.link_calls.UnderHandles.{same_base}
 use Rattle.journal_slots.specs.SecondSlot.{PacketInSlot, has_more}
 use Rattle.journal_slots.proofs.OnAir.{IsEndOnAir, IsOnAir, WasOnAir, moved, on_air_stays, plain, received_on_air, sent_on_air}
@@ -345,10 +345,7 @@ module _ (whole : IsHeardWhole) (given : Given) (Q : Place → List Event → Ty
   same_facts one = facts_event given one history (Transmitted station channel octets hearings) refl
 
   own_receives : packet_received station after ≡ packet_received station history
-  own_receives =
-      received_event station history (Transmitted station channel octets hearings)
-      ∙ ap (λ xs. if has_received station xs then Some octets else packet_received station history) has_one
-      ∙ ap (λ b. if b then Some octets else packet_received station history) (own_received station hearing (own_differs station))
+  own_receives = received_own given fates station channel octets history
 
   abbrev IsThen : ℕ → ℕ → OpenLink → Type 0
   IsThen one handle link =
@@ -367,7 +364,7 @@ module _ (whole : IsHeardWhole) (given : Given) (Q : Place → List Event → Ty
     other_then is_too differs handle link at =
         moved handle link (side_of other) (not (is_in other done)) (not (is_in other (done ++ station ∷ []))) (if has_received other hearings then Some octets else packet_received other history)
         (packet_received other after) (facts other).turn (facts_at given other after).turn (number_at other handle history) (number_at other handle after) (journal_of after) (journal_of after) []
-        (ap not (in_more_other other station done differs)) (received_event other history (Transmitted station channel octets hearings)) (ap (λ (f : Facts). f.turn) (same_facts other))
+        (ap not (in_more_other other station done differs)) (received_packet given fates other station channel octets history seen) (ap (λ (f : Facts). f.turn) (same_facts other))
         (number_sent other handle history station channel octets hearings) (sym (append-nil (journal_of after)))
         (other_aired is_too (is_advertising channel) refl differs seen silent handle link at)
 

@@ -19,6 +19,8 @@ pub record IsJudged (octets : List ℕ) (fate : Mark) (verdict : Verdict) : Type
   pub lost : fate ≡ Lost → verdict ≡ Missed
   -- a packet that is judged good is heard as it was sent
   pub unchanged : verdict ≡ Good → damaged_packet done octets ≡ octets
+  -- one that is judged forged was not lost
+  pub forged : verdict ≡ Forged → fate ≢ Lost
   -- no link is encrypted, so nothing is forged
   pub plain : verdict ≢ Forged
 

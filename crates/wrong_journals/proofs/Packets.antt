@@ -8,7 +8,7 @@ use Rattle.journal_pdus.specs.link_model.Data.{is_empty}
 use Rattle.journal_pdus.specs.link_model.keyed_control.Keyed.{Keyed}
 use Rattle.journal_pdus.specs.journal_links.Begun.{LinkBegun, link_numbered}
 use Rattle.journal_pdus.specs.journal_packets.Belonging.{link_of_packet}
-use Rattle.journal_pdus.specs.journal_acks.Carried.{bits_of, carried_of, channel_entered, pdu_octets}
+use Rattle.journal_pdus.specs.journal_acks.Carried.{air_pdu, bits_of, carried_of, channel_entered, pdu_octets}
 use Rattle.journal_pdus.specs.journal_acks.Exchange.{exchange_of}
 use Rattle.journal_pdus.specs.journal_controls.LineSteps.{keyed_on}
 use Rattle.journal_pdus.specs.journal_data.Delivered.{host_buffers}
@@ -50,6 +50,8 @@ octets_are front side channel octets number link fixing now md belongs numbered 
     ∙ ap (λ (k : Keyed). tells_more (is_next_new number front side) fixing k (waits number)) current
     ∙ is_md in
     packet.carries
+    ∙ ap (λ (payload : List ℕ). on_air channel packet.link.fields.access packet.link.fields.crc_init
+    (air_pdu (bits_of (exchange_of packet.number front side)) (carried_of packet.number front side).llid packet.md payload)) tells.clear
     ∙ ap (λ (n : ℕ). octets_with n packet.link front side channel packet.md) same
     ∙ ap (λ (l : LinkBegun). octets_with number l front side channel packet.md) one
     ∙ ap (λ (b : Bool). octets_with number link front side channel b) more

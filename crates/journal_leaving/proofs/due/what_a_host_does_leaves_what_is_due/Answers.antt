@@ -10,5 +10,5 @@ returns c = record {
   reported = λ setup facts slot. refl;
   asked = λ setup facts ask slot. asked_due (is_to_come ask facts) setup facts ask slot;
   answered = λ setup facts answer slot. answer_due setup facts answer slot;
-  disconnected = λ setup facts reason slot none some. disconnect_due setup facts reason slot none some;
+  disconnected = λ setup facts reason slot some. disconnect_due setup facts reason slot some;
 }

@@ -12,8 +12,9 @@ use Rattle.host_view.specs.Unbuilt.{status_of}
 use Rattle.chan_select.specs.Channel.{channel_of}
 use Rattle.chan_select.specs.PseudoRandom.{mam, perm, prn, reversed_octet, stage}
 use Rattle.journal_pdus.specs.link_model.End.{facts_of as end_facts}
-use Rattle.journal_pdus.specs.link_model.Receiving.{effect_of, replies_of}
-use Rattle.journal_pdus.specs.link_end.Answers.{acked_of, given_of}
+use Rattle.journal_pdus.specs.link_model.Receiving.{effect_of, kept_effect_of, replies_of}
+use Rattle.journal_pdus.specs.link_model.Drawing.{draws_of}
+use Rattle.journal_pdus.specs.link_end.Answers.{acked_of, given_of, kept_given_of}
 use Rattle.journal_pdus.specs.link_model.Packets.{good_pdu, is_forged, packet_sent, verdict_of as end_verdict, whole_pdu}
 use Rattle.scan_init.specs.Access.{bit_count, is_valid_access, next_access_of}
 use Rattle.frame_bits.specs.Crc.{crc, crc_octets, crc_of_bits, remainder}
@@ -30,5 +31,5 @@ use Rattle.run_model.specs.Journal.{journal_of}
 use Rattle.wrong_journals.proofs.right.worked_link_runs.Goals as goal
 
 pub returns : goal.returns
-unfolding ctrl_of length_of makers facts_of result_of frames little_endian command_of layout_of layouts view_after status_of use_of fates_used packet_received packets_on_air turns_begun after_opening after_phase after_phases after_turn run_of journal_of verdict_of pdu_heard heard_in read_of kept_bits crc crc_octets crc_of_bits remainder mask_of next_mask whitening_bit whitening_of begins_link bit_count is_valid_access next_access_of view_noted data_channels used_channels end_facts effect_of replies_of acked_of given_of packet_sent good_pdu is_forged whole_pdu end_verdict reversed_octet perm mam stage prn channel_of
+unfolding ctrl_of length_of makers facts_of result_of frames little_endian command_of layout_of layouts view_after status_of use_of fates_used packet_received packets_on_air turns_begun after_opening after_phase after_phases after_turn run_of journal_of verdict_of pdu_heard heard_in read_of kept_bits crc crc_octets crc_of_bits remainder mask_of next_mask whitening_bit whitening_of begins_link bit_count is_valid_access next_access_of view_noted data_channels used_channels end_facts effect_of kept_effect_of replies_of draws_of acked_of given_of kept_given_of packet_sent good_pdu is_forged whole_pdu end_verdict reversed_octet perm mam stage prn channel_of
 returns c = record { one = refl; more = refl; both = refl; version = refl; update = refl; ended = refl; reset = refl }

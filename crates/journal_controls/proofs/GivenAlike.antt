@@ -6,18 +6,18 @@ use Rattle.data_pdu.specs.declared.ctrl.Ctrl.{Ctrl}
 use Rattle.data_pdu.specs.declared.ctrl.Ctrl.TheVariants.{EncReq, EncRsp}
 use Rattle.data_pdu.specs.declared.ctrl.CtrlRead.{CtrlRead}
 use Rattle.data_pdu.specs.declared.ctrl.CtrlRead.TheVariants.{Known}
-use Rattle.journal_controls.specs.link_model.control_end.Answers.{nothing_taken}
-use Rattle.journal_controls.specs.link_model.enc_phase.declared.facts.PhaseFacts.{PhaseFacts}
-use Rattle.journal_controls.specs.link_model.enc_phase.declared.facts.PhaseFacts.TheVariants.{Clear, HalfClear}
-use Rattle.journal_controls.specs.link_model.enc_phase.declared.facts.Transition.TheVariants.{Ask}
-use Rattle.journal_controls.specs.link_model.enc_phase.Phases.{is_quiet, may_follow, phase_after}
-use Rattle.journal_controls.specs.link_model.enc_phase.Sealing.{after_transition}
-use Rattle.journal_controls.specs.link_model.keyed_control.declared.material.Response.{Response}
-use Rattle.journal_controls.specs.link_model.phased_end.Held.{HeldKeyed}
-use Rattle.journal_controls.specs.link_model.phased_end.Moves.{lasts, moving, owing}
-use Rattle.journal_controls.specs.link_model.phased_end.Taking.{answered, answering_at, asking, handed_keyed, handed_taken, handing, is_handed, is_refused, kept_taken, kept_taken_if_quiet, nothing_keyed, taken_keyed}
-use Rattle.journal_controls.specs.link_model.phased_end.declared.taking.TakenKeyed.{TakenKeyed}
-use Rattle.journal_controls.specs.link_model.procedure_stages.Closing.{is_open}
+use Rattle.journal_ends.specs.link_model.control_end.Answers.{nothing_taken}
+use Rattle.journal_ends.specs.link_model.enc_phase.declared.facts.PhaseFacts.{PhaseFacts}
+use Rattle.journal_ends.specs.link_model.enc_phase.declared.facts.PhaseFacts.TheVariants.{Clear, HalfClear}
+use Rattle.journal_ends.specs.link_model.enc_phase.declared.facts.Transition.TheVariants.{Ask}
+use Rattle.journal_ends.specs.link_model.enc_phase.Phases.{is_quiet, may_follow, phase_after}
+use Rattle.journal_ends.specs.link_model.enc_phase.Sealing.{after_transition}
+use Rattle.journal_ends.specs.link_model.keyed_control.declared.material.Response.{Response}
+use Rattle.journal_ends.specs.link_model.phased_end.Held.{HeldKeyed}
+use Rattle.journal_ends.specs.link_model.phased_end.Moves.{lasts, moving, owing}
+use Rattle.journal_ends.specs.link_model.phased_end.Taking.{answered, answering_at, asking, handed_keyed, handed_taken, handing, is_handed, is_refused, kept_taken, kept_taken_if_quiet, nothing_keyed, taken_keyed}
+use Rattle.journal_ends.specs.link_model.phased_end.declared.taking.TakenKeyed.{TakenKeyed}
+use Rattle.journal_ends.specs.link_model.procedure_stages.Closing.{is_open}
 
 -- a peripheral that answers LL_ENC_REQ is in no phase in which it would answer what was kept
 loud_asked : (phase : PhaseFacts) → may_follow Ask phase ≡ true → is_quiet (phase_after Ask phase) ≡ false

@@ -1,0 +1,9 @@
+-- Proof of `lines::a_payload_by_lines_is_of_the_pdu_that_is_carried`.
+use Rattle.journal_sealing.proofs.SealedLines.{carries_payload, forgets}
+use Rattle.journal_sealing.proofs.lines.a_payload_by_lines_is_of_the_pdu_that_is_carried.Goals as goal
+
+pub returns : goal.returns
+returns c = record {
+  lines = λ number journal side. forgets number side journal;
+  payload = λ number journal side. carries_payload number side journal;
+}

@@ -1,0 +1,22 @@
+-- Proof of `rows::worked_payloads`: the definitions compute.
+use Rattle.std.proofs.Common.{refl}
+use Rattle.adv_pdu.specs.Header.{kept_bits}
+use Rattle.adv_pdu.specs.Reading.{read_of}
+use Rattle.air_frame.specs.Hearing.{heard_in}
+use Rattle.frame_bits.specs.Crc.{crc, crc_octets, crc_of_bits, remainder}
+use Rattle.frame_bits.specs.Whitening.{mask_of, next_mask, whitening_bit, whitening_of}
+use Rattle.h4_frames.specs.Frames.{frames}
+use Rattle.hci_cmd.specs.Command.{command_of, layout_of, layouts}
+use Rattle.wire_fields.specs.Field.{little_endian}
+use Rattle.journal_controls.specs.LineSteps.{keyed_on}
+use Rattle.journal_controls.specs.controller_model.Packets.{pdu_heard}
+use Rattle.journal_controls.specs.journal_acks.Carried.{sent_line_of}
+use Rattle.journal_controls.specs.journal_acks.Exchange.{exchange_of}
+use Rattle.journal_controls.specs.journal_links.Begun.{links_begun}
+use Rattle.journal_controls.specs.journal_packets.Belonging.{is_answer, link_of_packet}
+use Rattle.journal_sealing.specs.SealedLines.{sealed_line_of}
+use Rattle.journal_sealing.proofs.rows.worked_payloads.Goals as goal
+
+pub returns : goal.returns
+unfolding sealed_line_of sent_line_of keyed_on exchange_of link_of_packet is_answer links_begun pdu_heard heard_in read_of kept_bits crc crc_octets crc_of_bits remainder mask_of next_mask whitening_bit whitening_of little_endian frames command_of layout_of layouts
+returns c = record { first = refl; again = refl; acknowledged = refl; other = refl }

@@ -1,0 +1,15 @@
+-- A packet of a link that is not sealed (Core 5.2, volume 6 part B, section 2.4).
+use Rattle.std.specs.Prelude.{◌≡◌, ℕ, List}
+use Rattle.ble_base.specs.declared.roles.Side.{Side}
+use Rattle.air_frame.specs.Packet.{on_air}
+use Rattle.journal.specs.declared.entries.Entry.{Entry}
+use Rattle.journal_controls.specs.journal_acks.Carried.{IsLinkPacket, bits_of, carried_of, pdu_octets}
+use Rattle.journal_controls.specs.journal_acks.Exchange.{exchange_of}
+
+-- its payload is the body of the PDU that the lines before it give, so its octets are those of that PDU
+pub record IsClearPacket (front : List Entry) (side : Side) (channel : ℕ) (octets : List ℕ) : Type 0 where
+  pub packet : IsLinkPacket front side channel octets
+  pub payload_is : packet.payload ≡ (carried_of packet.number front side).body
+  pub carries : octets
+      ≡ on_air channel packet.link.fields.access packet.link.fields.crc_init
+      (pdu_octets (bits_of (exchange_of packet.number front side)) packet.md (carried_of packet.number front side))

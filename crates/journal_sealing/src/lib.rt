@@ -1,0 +1,24 @@
+//! The payload that each packet of a link has on the air, by the lines of a journal: the body of its
+//! PDU, sealed by the end as it was before the line of that PDU; which packets are forged for the end
+//! that hears them, and which mix two session keys. Definitions and laws; no code.
+#![tactic(auto)]
+
+mod lines;
+mod mixtures;
+mod rows;
+mod runs;
+
+pub use crate::lines::{
+    a_payload_by_lines_is_of_the_pdu_that_is_carried, an_end_that_never_seals_sends_bodies,
+    nothing_is_forged_for_an_end_that_opens_nothing,
+    the_payload_by_lines_stays_until_an_acknowledgement,
+};
+pub use crate::mixtures::{
+    a_mixed_journal_stays_mixed, no_packet_is_mixed_yet,
+    only_sealed_packets_between_two_keys_are_mixed,
+};
+pub use crate::rows::{worked_forgeries, worked_mixtures, worked_payloads, worked_starts};
+pub use crate::runs::{
+    a_clear_packet_carries_its_body, a_new_pdu_is_sealed_with_the_keys_of_the_lines,
+    each_packet_has_the_payload_of_the_lines, each_verdict_is_that_of_the_lines,
+};

@@ -1,0 +1,81 @@
+//! The payload of each packet in a run. The bodies only call the laws that they rest on: the
+//! contracts are the laws.
+ghost use Rattle.std.specs.Prelude.{◌≡◌, ◌++◌, ◌∷◌, [], ℕ, List, false, true};
+ghost use Rattle.std.specs.List.{Contains};
+ghost use Rattle.ble_base.specs.declared.roles.Side.{Side};
+ghost use Rattle.ble_base.specs.declared.verdicts.Verdict.{Verdict};
+ghost use Rattle.journal.specs.declared.entries.Entry.{Entry};
+ghost use Rattle.journal.specs.declared.entries.Entry.TheVariants.{Air};
+ghost use Rattle.journal.specs.declared.entries.Mark.{Mark};
+ghost use Rattle.journal_controls.specs.run_model.History.{Event, Hearing, Transmitted, is_handed};
+ghost use Rattle.journal_controls.specs.run_model.Journal.{journal_of};
+ghost use Rattle.journal_controls.specs.run_model.LinkEnds.{HaveAddresses};
+ghost use Rattle.journal_controls.specs.run_model.Links.{is_advertising};
+ghost use Rattle.journal_controls.specs.run_model.Run.{Given, history_of, run_of};
+ghost use Rattle.journal_sealing.specs.ClearPackets.{IsClearPacket};
+ghost use Rattle.journal_sealing.specs.Judged.{IsJudgedByLines};
+ghost use Rattle.journal_sealing.specs.NewPdus.{IsMadeByLines};
+ghost use Rattle.journal_sealing.specs.SealedLines.{HasPayload};
+
+/// In a run of two stations, with any number of links each, the payload of each packet off the
+/// advertising channels is the one that the lines before it give: what its end made of the PDU in
+/// the line of which that was sent first, with the keys and the counter that the end had before that
+/// line (Core 5.2, volume 6 part B, sections 2.4, 4.5.9 and 5.1.3, and part E, section 2).
+pub fn each_packet_has_the_payload_of_the_lines()
+    ensures { (given : Given) (front rest : List Entry) (side : Side) (channel : ℕ)
+        (octets : List ℕ) (fate : Mark) (verdict : Verdict)
+        → given.stations ≡ 0 ∷ 1 ∷ [] → HaveAddresses given
+        → journal_of (history_of (run_of given))
+        ≡ front ++ Air side channel octets fate verdict ∷ rest
+        → is_advertising channel ≡ false → HasPayload front side channel octets }
+{
+    a_clear_packet_carries_its_body();
+}
+
+/// No link encrypts yet. So in a run of two stations, with any number of links each, the payload of
+/// each packet off the advertising channels is the body of the PDU that the lines before it give
+/// (Core 5.2, volume 6 part B, section 2.4; that it is so is our choice).
+pub fn a_clear_packet_carries_its_body()
+    ensures { (given : Given) (front rest : List Entry) (side : Side) (channel : ℕ)
+        (octets : List ℕ) (fate : Mark) (verdict : Verdict)
+        → given.stations ≡ 0 ∷ 1 ∷ [] → HaveAddresses given
+        → journal_of (history_of (run_of given))
+        ≡ front ++ Air side channel octets fate verdict ∷ rest
+        → is_advertising channel ≡ false → IsClearPacket front side channel octets }
+{
+    journal_acks::links_of_two_stations_keep_to_the_journal();
+    link_calls::each_packet_on_the_air_is_due();
+}
+
+/// In a run of two stations, with any number of links each and whatever phases they are in, the first
+/// packet of a PDU that is not empty has the payload that its end makes of it with the keys that it
+/// has by the lines before the packet, and with the counter before the one that it has by them (Core
+/// 5.2, volume 6 part B, section 5.1.3, and part E, section 2).
+pub fn a_new_pdu_is_sealed_with_the_keys_of_the_lines()
+    ensures { (given : Given) (before rest : List Event) (station channel : ℕ) (octets : List ℕ)
+        (hearings : List Hearing)
+        → given.stations ≡ 0 ∷ 1 ∷ [] → HaveAddresses given → Contains given.stations station
+        → history_of (run_of given) ≡ before ++ Transmitted station channel octets hearings ∷ rest
+        → is_advertising channel ≡ false → IsMadeByLines given before station channel octets }
+{
+    journal_acks::links_of_two_stations_keep_to_the_journal();
+    journal_controls::the_keys_by_lines_are_those_that_the_end_holds();
+}
+
+/// In a run of two stations, with any number of links each and whatever phases they are in, a packet
+/// off the advertising channels that the other side judges forged or good is judged forged exactly
+/// where the lines before it say that it is forged for the end that hears it: its PDU is new and not
+/// empty, the end opens what it hears, and the integrity code is not the one of the session and the
+/// counter of the end (Core 5.2, volume 6 part B, sections 4.5.9 and 5.1.3.1, and part E, section 2).
+pub fn each_verdict_is_that_of_the_lines()
+    ensures { (given : Given) (front rest : List Entry) (side : Side) (channel : ℕ)
+        (octets : List ℕ) (fate : Mark) (verdict : Verdict)
+        → given.stations ≡ 0 ∷ 1 ∷ [] → HaveAddresses given
+        → journal_of (history_of (run_of given))
+        ≡ front ++ Air side channel octets fate verdict ∷ rest
+        → is_advertising channel ≡ false → is_handed verdict ≡ true
+        → IsJudgedByLines front side channel octets fate verdict }
+{
+    journal_acks::links_of_two_stations_keep_to_the_journal();
+    journal_controls::the_keys_by_lines_are_those_that_the_end_holds();
+}
