@@ -1,25 +1,38 @@
--- Each packet of a run is in clear, while no link encrypts.
-use Rattle.std.proofs.Common.{◌≡◌, ℕ, List, sym, ap, subst, ◌∙◌}
+-- A packet in which no PDU is sealed carries the body of its PDU, in all phases of encryption.
+use Rattle.std.proofs.Common.{◌≡◌, ℕ, ◌+◌, ◌==◌, ◌&&◌, ◌⊎◌, inl, inr, not, Bool, true, false, Option, Some, None, List, [], length, refl, sym, ap, subst, ◌∙◌, arith, if◌then◌else◌}
+use Rattle.std.proofs.lemmas.Bool.{ne_eqb}
 use Rattle.ble_base.specs.declared.roles.Side.{Side}
-use Rattle.ble_base.specs.declared.verdicts.Verdict.{Verdict}
 use Rattle.air_frame.specs.Packet.{on_air}
 use Rattle.journal.specs.declared.entries.Entry.{Entry}
-use Rattle.journal.specs.declared.entries.Mark.{Mark}
-use Rattle.journal_controls.specs.journal_acks.Carried.{IsLinkPacket, air_pdu, bits_of, carried_of}
+use Rattle.journal_controls.specs.journal_acks.Carried.{IsLinkPacket, IsPayload, air_pdu, bits_of, carried_of, pdu_carried}
 use Rattle.journal_controls.specs.journal_acks.Exchange.{exchange_of}
-use Rattle.journal_controls.specs.journal_acks.Held.{HasPayloadOfEnd}
-use Rattle.journal_controls.specs.link_model.Acknowledgement.{Pdu}
-use Rattle.journal_controls.specs.run_model.Entries.{IsAired}
-use Rattle.journal_controls.specs.run_model.History.{Event}
-use Rattle.journal_controls.specs.run_model.Journal.{journal_of, side_of}
-use Rattle.journal_controls.specs.run_model.Run.{Given}
-use Rattle.journal_controls.proofs.link_model.Plain.{past_payload}
-use Rattle.journal_sealing.specs.ClearPackets.{IsClearPacket}
-use Rattle.journal_sealing.specs.SealedLines.{HasPayload}
-use Rattle.journal_sealing.proofs.PlainLines.{never_seals}
-use Rattle.journal_sealing.proofs.SealedLines.{carries_body}
+use Rattle.journal_controls.specs.link_model.Acknowledgement.{empty_pdu}
+use Rattle.journal_sealing.specs.ClearPackets.{IsClearPacket, IsUnsealed}
+use Rattle.journal_sealing.specs.Mixed.{is_sealed_line}
+use Rattle.journal_sealing.specs.SealedLines.{HasPayload, SealedLine, payload_of_line, sealed_line_of, without_payload}
+use Rattle.journal_sealing.proofs.SealedLines.{forgets}
 
--- a packet with the body of its PDU
+-- ---- the payload of a line that is not sealed
+
+-- it is not longer than the body
+not_longer : (payload body : List ℕ) → not (length payload == length body) ≡ false → (payload ≡ body) ⊎ (length payload ≡ length body + 4) → payload ≡ body
+not_longer payload body same (inl is) = is
+not_longer payload body same (inr longer) =
+    absurd (let h : true ≡ false = ap not (sym (ne_eqb (length payload) (length body) (λ equal. omega (arith, equal, longer)))) ∙ same in absurd cc)
+
+body_of : (line : Option SealedLine) (acked : ℕ) → IsPayload (pdu_carried (without_payload line) acked) (payload_of_line line acked) → is_sealed_line line acked ≡ false
+    → payload_of_line line acked ≡ (pdu_carried (without_payload line) acked).body
+body_of None acked is unsealed = refl
+body_of (Some one) acked is unsealed = by (one.acked == acked) is unsealed
+  where
+    by : (same : Bool) → IsPayload (if same then one.pdu else empty_pdu) (if same then one.payload else [])
+        → (same && not (length one.payload == length one.pdu.body)) ≡ false
+        → (if same then one.payload else []) ≡ (if same then one.pdu else empty_pdu).body
+    by true is unsealed = not_longer one.payload one.pdu.body unsealed is.octets
+    by false is unsealed = refl
+
+-- ---- a packet
+
 clear_by : (front : List Entry) (side : Side) (channel : ℕ) (octets : List ℕ) (packet : IsLinkPacket front side channel octets)
     → packet.payload ≡ (carried_of packet.number front side).body → IsClearPacket front side channel octets
 clear_by front side channel octets packet is = record {
@@ -30,24 +43,15 @@ clear_by front side channel octets packet is = record {
       (air_pdu (bits_of (exchange_of packet.number front side)) (carried_of packet.number front side).llid packet.md payload)) is;
 }
 
-pub clear_of_end : (given : Given) (history : List Event) (station channel : ℕ) (octets : List ℕ) → HasPayloadOfEnd given history station channel octets
-    → IsClearPacket (journal_of history) (side_of station) channel octets
-clear_of_end given history station channel octets is =
-    clear_by (journal_of history) (side_of station) channel octets is.packet
-    (is.payload_is ∙ past_payload is.sent.link.setup is.sent.link.past ∙ ap (λ (pdu : Pdu). pdu.body) (sym is.pdu_is))
-
-pub clear_of_line : (given : Given) (front : List Entry) (side : Side) (channel : ℕ) (octets : List ℕ) (fate : Mark) (verdict : Verdict)
-    → (aired : IsAired given front side channel octets fate verdict) → HasPayloadOfEnd given aired.before aired.station channel octets
-    → IsClearPacket front side channel octets
-clear_of_line given front side channel octets fate verdict aired is =
-    subst (λ xs. IsClearPacket xs side channel octets) (sym aired.front_is)
-    (subst (λ s. IsClearPacket (journal_of aired.before) s channel octets) (sym aired.side_is)
-    (clear_of_end given aired.before aired.station channel octets is))
-
--- while no end seals, the lines give the body
-pub has_payload : (front : List Entry) (side : Side) (channel : ℕ) (octets : List ℕ) → IsClearPacket front side channel octets → HasPayload front side channel octets
-has_payload front side channel octets clear =
-    let number = clear.packet.number in record {
-      packet = clear.packet;
-      payload_is = clear.payload_is ∙ sym (carries_body number side front (never_seals number front side));
-    }
+pub unsealed_clear : (front : List Entry) (side : Side) (channel : ℕ) (octets : List ℕ) → HasPayload front side channel octets
+    → IsUnsealed front side octets → IsClearPacket front side channel octets
+unsealed_clear front side channel octets has unsealed =
+    let number = has.packet.number in
+    let line = sealed_line_of number front side in
+    let acked = (exchange_of number front side).acked in
+    let forgotten = sym (forgets number side front) in
+    let is = subst (λ payload. IsPayload (pdu_carried (without_payload line) acked) payload) has.payload_is
+    (subst (λ one. IsPayload (pdu_carried one acked) has.packet.payload) forgotten has.packet.is_payload) in
+    clear_by front side channel octets has.packet
+    (has.payload_is ∙ body_of line acked is (unsealed number has.packet.belongs)
+    ∙ ap (λ one. (pdu_carried one acked).body) (forgets number side front))

@@ -1,5 +1,11 @@
 -- The lemmas of this crate.
 pub mod SealedLines
+pub mod SameSent
+pub mod SealedEvents
+pub mod SealedKeys
+pub mod LedLinks
+pub mod SealedEnds
+pub mod KeptSealing
 pub mod PlainLines
 pub mod ClearPackets
 pub mod NewPdus

@@ -24,7 +24,7 @@ taken_back : (sealed : Bool) (count : ℕ) → (if sealed then (if sealed then c
 taken_back true count = omega arith
 taken_back false count = refl
 
-before_after : (e : EncEnd) → end_before (after_sending e) ≡ e
+pub before_after : (e : EncEnd) → end_before (after_sending e) ≡ e
 before_after e = ap (λ (count : ℕ). record e { sent = count }) (taken_back (seals e.role e.phase) e.sent)
 
 -- what its lines say of an open end, before a packet

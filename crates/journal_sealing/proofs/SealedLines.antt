@@ -1,5 +1,5 @@
 -- What the payload by the lines of a journal is, whatever these lines are.
-use Rattle.std.proofs.Common.{◌≡◌, ℕ, ◌+◌, ◌==◌, ◌&&◌, not, Bool, true, false, Option, Some, None, List, [], ◌∷◌, ◌++◌, length, refl, sym, ap, subst, ◌∙◌, append-nil, append_assoc, if◌then◌else◌}
+use Rattle.std.proofs.Common.{◌≡◌, ℕ, ◌==◌, ◌&&◌, not, Bool, true, false, Option, Some, None, List, [], ◌∷◌, ◌++◌, length, refl, sym, ap, subst, ◌∙◌, append-nil, append_assoc, if◌then◌else◌}
 use Rattle.std.proofs.Math.Bool.{and-false}
 use Rattle.std.proofs.lemmas.Bool.{eq-eqb}
 use Rattle.ble_base.specs.declared.roles.Side.{Side}
@@ -25,7 +25,7 @@ use Rattle.journal_controls.specs.run_model.Links.{is_advertising}
 use Rattle.journal_controls.proofs.journal_acks.Exchanging.{exchange_more}
 use Rattle.journal_controls.proofs.journal_acks.Payloads.{in_clear, made_is}
 use Rattle.journal_sealing.specs.Mixed.{is_sealed_line}
-use Rattle.journal_sealing.specs.SealedLines.{HasPayload, NeverSeals, NoneSent, SealedLine, payload_by, payload_carried, payload_of_line, says_sent, sealed_line, sealed_line_after, sealed_line_from, sealed_line_of, without_payload}
+use Rattle.journal_sealing.specs.SealedLines.{HasPayload, IsSentAgain, NeverSeals, NoneSent, SealedLine, payload_by, payload_carried, payload_of_line, says_sent, sealed_line, sealed_line_after, sealed_line_from, sealed_line_of, without_payload}
 
 -- ---- something of each line
 
@@ -111,6 +111,11 @@ module _ (number : ℕ) (side : Side) where
       (carried_by acked (sealed_line_of number journal side)
       (so_line (λ one. IsPayload one.pdu one.payload) journal (λ one rest pdu at. by_is (keyed_on side number one) pdu)))
 
+  pub line_payload : (journal : List Entry) (one : SealedLine) → sealed_line_of number journal side ≡ Some one → IsPayload one.pdu one.payload
+  line_payload journal one is =
+      subst (IsSo (λ line. IsPayload line.pdu line.payload)) is
+      (so_line (λ line. IsPayload line.pdu line.payload) journal (λ front rest pdu at. by_is (keyed_on side number front) pdu))
+
   -- ---- where the end never seals, it is the body
 
   clear_by : (empty does : Bool) (body sealed : List ℕ) → does ≡ false → (if empty then body else (if does then sealed else body)) ≡ body
@@ -164,13 +169,13 @@ module _ (number : ℕ) (side : Side) where
       from_more (front ++ first ∷ []) next entries entry
       ∙ ap (λ xs. sealed_line_after number xs side (sealed_line_from number (front ++ first ∷ []) side next entries) entry) (append_assoc front (first ∷ []) entries)
 
-  line_more : (journal : List Entry) (entry : Entry)
+  pub line_more : (journal : List Entry) (entry : Entry)
       → sealed_line_of number (journal ++ entry ∷ []) side ≡ sealed_line_after number journal side (sealed_line_of number journal side) entry
   unfolding sealed_line_of
   line_more journal entry = from_more [] None journal entry
 
   -- no entry of these says that a new PDU is sent
-  same_line : (front more : List Entry) → NoneSent number side more → sealed_line_of number (front ++ more) side ≡ sealed_line_of number front side
+  pub same_line : (front more : List Entry) → NoneSent number side more → sealed_line_of number (front ++ more) side ≡ sealed_line_of number front side
   same_line front [] none = ap (λ xs. sealed_line_of number xs side) (append-nil front)
   same_line front (entry ∷ more) none =
       ap (λ xs. sealed_line_of number xs side) (sym (append_assoc front (entry ∷ []) more))
@@ -216,3 +221,12 @@ one_payload front more side channel channel_too octets octets_too fate verdict p
     let entry = Air side channel octets fate verdict in
     q.payload_is ∙ ap (λ n. payload_carried n (front ++ entry ∷ more) side) same
     ∙ same_payload p.packet.number side front (entry ∷ more) (refl, none) acked ∙ sym p.payload_is
+
+pub sent_again : (front more : List Entry) (side : Side) (channel channel_too : ℕ) (octets octets_too : List ℕ) (fate : Mark) (verdict : Verdict)
+    → HasPayload front side channel octets → HasPayload (front ++ Air side channel octets fate verdict ∷ more) side channel_too octets_too
+    → IsSentAgain front more side channel channel_too octets octets_too fate verdict
+sent_again front more side channel channel_too octets octets_too fate verdict first again = record {
+  first = first;
+  again = again;
+  same = one_payload front more side channel channel_too octets octets_too fate verdict first again;
+}

@@ -1,9 +1,9 @@
 -- The definitions of this crate.
 pub mod SealedLines
-pub mod ClearPackets
 pub mod NewPdus
 pub mod Forged
 pub mod Left
 pub mod Mixed
+pub mod ClearPackets
 pub mod Judged
 pub mod Rows

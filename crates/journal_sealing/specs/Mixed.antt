@@ -1,14 +1,16 @@
 -- Which packets of a link mix two session keys, from the lines of a journal alone (Core 5.2, volume 6 part B, section
 -- 5.1.3.1, and part E, section 2).
-use Rattle.std.specs.Prelude.{ℕ, ◌==◌, ◌&&◌, ◌||◌, not, Bool, false, List, [], ◌∷◌, ◌++◌, length, Option, Some, None}
+use Rattle.std.specs.Prelude.{◌≡◌, ℕ, ◌==◌, ◌&&◌, ◌||◌, not, Bool, true, false, List, [], ◌∷◌, ◌++◌, length, Option, Some, None}
 use Rattle.std.specs.Str.{bytes_eq}
 use Rattle.ble_base.specs.Side.{other_side}
 use Rattle.ble_base.specs.declared.roles.Side.{Side}
+use Rattle.ble_base.specs.declared.verdicts.Verdict.{Verdict}
 use Rattle.air_frame.specs.Hearing.{heard_in}
 use Rattle.air_frame.specs.declared.Heard.{Heard}
 use Rattle.air_frame.specs.declared.Heard.TheVariants.{NotOurs, Broken, Whole}
 use Rattle.journal.specs.declared.entries.Entry.{Entry}
 use Rattle.journal.specs.declared.entries.Entry.TheVariants.{Air}
+use Rattle.journal.specs.declared.entries.Mark.{Mark}
 use Rattle.journal_controls.specs.LineSteps.{keyed_on}
 use Rattle.journal_controls.specs.journal_acks.Exchange.{Exchanged, exchange_of}
 use Rattle.journal_controls.specs.journal_acks.Shut.{is_of_link}
@@ -66,3 +68,13 @@ mixed_from number front (line ∷ lines) = is_mixed_at number front line || mixe
 
 unfoldable pub is_mixed : ℕ → List Entry → Bool
 is_mixed number journal = mixed_from number [] journal
+
+-- by the lines before each packet of a side in which its PDU is sealed, both ends of the link that are open have one session
+-- key
+abbrev pub HaveOneKey : ℕ → List Entry → Type 0
+HaveOneKey number journal =
+    (front rest : List Entry) (side : Side) (channel : ℕ) (octets : List ℕ) (fate : Mark) (verdict : Verdict)
+    → journal ≡ front ++ Air side channel octets fate verdict ∷ rest
+    → is_sealed_line (sealed_line_of number front side) (exchange_of number front side).acked ≡ true
+    → (one other : Keyed) → keyed_on side number front ≡ Some one → keyed_on (other_side side) number front ≡ Some other
+    → one.end.key ≡ other.end.key

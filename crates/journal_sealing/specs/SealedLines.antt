@@ -3,8 +3,10 @@
 use Rattle.std.specs.Prelude.{◌≡◌, ℕ, ◌==◌, ◌&&◌, Bool, false, List, [], ◌∷◌, ◌++◌, Option, Some, None, if◌then◌else◌}
 use Rattle.std.specs.List.{AllByRecursion}
 use Rattle.ble_base.specs.declared.roles.Side.{Side}
+use Rattle.ble_base.specs.declared.verdicts.Verdict.{Verdict}
 use Rattle.journal.specs.declared.entries.Entry.{Entry}
-use Rattle.journal.specs.declared.entries.Entry.TheVariants.{Sent}
+use Rattle.journal.specs.declared.entries.Entry.TheVariants.{Air, Sent}
+use Rattle.journal.specs.declared.entries.Mark.{Mark}
 use Rattle.journal_controls.specs.LineSteps.{keyed_on}
 use Rattle.journal_controls.specs.journal_acks.Carried.{IsLinkPacket, SentLine}
 use Rattle.journal_controls.specs.journal_acks.Exchange.{exchange_of}
@@ -89,3 +91,14 @@ NeverSeals number journal side =
 pub record HasPayload (front : List Entry) (side : Side) (channel : ℕ) (octets : List ℕ) : Type 0 where
   pub packet : IsLinkPacket front side channel octets
   pub payload_is : packet.payload ≡ payload_carried packet.number front side
+
+-- two packets of a side, one after the other, have the payloads that the lines give. That is one payload, where they are of
+-- one link, and where between them no PDU of this side was acknowledged and no new one was sent
+pub record IsSentAgain (front more : List Entry) (side : Side) (channel channel_too : ℕ) (octets octets_too : List ℕ)
+    (fate : Mark) (verdict : Verdict) : Type 0 where
+  pub first : HasPayload front side channel octets
+  pub again : HasPayload (front ++ Air side channel octets fate verdict ∷ more) side channel_too octets_too
+  pub same : again.packet.number ≡ first.packet.number → NoneSent first.packet.number side more
+      → (exchange_of first.packet.number (front ++ Air side channel octets fate verdict ∷ more) side).acked
+      ≡ (exchange_of first.packet.number front side).acked
+      → again.packet.payload ≡ first.packet.payload

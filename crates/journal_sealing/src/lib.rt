@@ -20,5 +20,6 @@ pub use crate::mixtures::{
 pub use crate::rows::{worked_forgeries, worked_mixtures, worked_payloads, worked_starts};
 pub use crate::runs::{
     a_clear_packet_carries_its_body, a_new_pdu_is_sealed_with_the_keys_of_the_lines,
+    a_packet_that_is_not_sealed_carries_its_body, a_pdu_is_sent_again_with_its_payload,
     each_packet_has_the_payload_of_the_lines, each_verdict_is_that_of_the_lines,
 };

@@ -12,15 +12,16 @@ ghost use Rattle.journal_controls.specs.run_model.Journal.{journal_of};
 ghost use Rattle.journal_controls.specs.run_model.LinkEnds.{HaveAddresses};
 ghost use Rattle.journal_controls.specs.run_model.Links.{is_advertising};
 ghost use Rattle.journal_controls.specs.run_model.Run.{Given, history_of, run_of};
-ghost use Rattle.journal_sealing.specs.ClearPackets.{IsClearPacket};
+ghost use Rattle.journal_sealing.specs.ClearPackets.{IsClearPacket, IsUnsealed};
 ghost use Rattle.journal_sealing.specs.Judged.{IsJudgedByLines};
 ghost use Rattle.journal_sealing.specs.NewPdus.{IsMadeByLines};
-ghost use Rattle.journal_sealing.specs.SealedLines.{HasPayload};
+ghost use Rattle.journal_sealing.specs.SealedLines.{HasPayload, IsSentAgain};
 
-/// In a run of two stations, with any number of links each, the payload of each packet off the
-/// advertising channels is the one that the lines before it give: what its end made of the PDU in
-/// the line of which that was sent first, with the keys and the counter that the end had before that
-/// line (Core 5.2, volume 6 part B, sections 2.4, 4.5.9 and 5.1.3, and part E, section 2).
+/// In a run of two stations, with any number of links each and whatever phases they are in, the
+/// payload of each packet off the advertising channels is the one that the lines before it give: what
+/// its end made of the PDU in the line of which that was sent first, with the keys and the counter
+/// that the end had before that line (Core 5.2, volume 6 part B, sections 2.4, 4.5.9 and 5.1.3, and
+/// part E, section 2).
 pub fn each_packet_has_the_payload_of_the_lines()
     ensures { (given : Given) (front rest : List Entry) (side : Side) (channel : ℕ)
         (octets : List ℕ) (fate : Mark) (verdict : Verdict)
@@ -29,7 +30,44 @@ pub fn each_packet_has_the_payload_of_the_lines()
         ≡ front ++ Air side channel octets fate verdict ∷ rest
         → is_advertising channel ≡ false → HasPayload front side channel octets }
 {
-    a_clear_packet_carries_its_body();
+    journal_controls::a_pdu_is_understood();
+    advertise::laws::connections_are_taken();
+    scan_init::laws::searches_give_each_valid_address();
+    air_frame::laws::packet_tells_its_pdu();
+    link_calls::each_packet_on_the_air_is_due();
+}
+
+/// So in a run of two stations, with any number of links each and whatever phases they are in, two
+/// packets of a side on one link have one payload, octet for octet, where between them no PDU of that
+/// side was acknowledged and no new one was sent: a PDU is sealed once, however often it is sent (Core
+/// 5.2, volume 6 part B, sections 4.5.9 and 5.1.3.1, and part E, section 2).
+pub fn a_pdu_is_sent_again_with_its_payload()
+    ensures { (given : Given) (front more rest : List Entry) (side : Side)
+        (channel channel_too : ℕ) (octets octets_too : List ℕ) (fate fate_too : Mark)
+        (verdict verdict_too : Verdict)
+        → given.stations ≡ 0 ∷ 1 ∷ [] → HaveAddresses given
+        → journal_of (history_of (run_of given))
+        ≡ (front ++ Air side channel octets fate verdict ∷ more)
+        ++ Air side channel_too octets_too fate_too verdict_too ∷ rest
+        → is_advertising channel ≡ false → is_advertising channel_too ≡ false
+        → IsSentAgain front more side channel channel_too octets octets_too fate verdict }
+{
+    each_packet_has_the_payload_of_the_lines();
+}
+
+/// So in such a run, in whatever phases the ends are, a packet off the advertising channels with no PDU
+/// that is sealed, by the lines before it, carries the body of the PDU that they give (Core 5.2, volume
+/// 6 part B, sections 2.4 and 5.1.3).
+pub fn a_packet_that_is_not_sealed_carries_its_body()
+    ensures { (given : Given) (front rest : List Entry) (side : Side) (channel : ℕ)
+        (octets : List ℕ) (fate : Mark) (verdict : Verdict)
+        → given.stations ≡ 0 ∷ 1 ∷ [] → HaveAddresses given
+        → journal_of (history_of (run_of given))
+        ≡ front ++ Air side channel octets fate verdict ∷ rest
+        → is_advertising channel ≡ false → IsUnsealed front side octets
+        → IsClearPacket front side channel octets }
+{
+    each_packet_has_the_payload_of_the_lines();
 }
 
 /// No link encrypts yet. So in a run of two stations, with any number of links each, the payload of
@@ -43,8 +81,7 @@ pub fn a_clear_packet_carries_its_body()
         ≡ front ++ Air side channel octets fate verdict ∷ rest
         → is_advertising channel ≡ false → IsClearPacket front side channel octets }
 {
-    journal_acks::links_of_two_stations_keep_to_the_journal();
-    link_calls::each_packet_on_the_air_is_due();
+    a_packet_that_is_not_sealed_carries_its_body();
 }
 
 /// In a run of two stations, with any number of links each and whatever phases they are in, the first

@@ -1,10 +1,10 @@
 -- Proof of `runs::a_clear_packet_carries_its_body`.
-use Rattle.std.proofs.Common.{◌∷◌}
-use Rattle.journal_sealing.proofs.ClearPackets.{clear_of_line}
+use Rattle.journal_controls.specs.journal_acks.Exchange.{exchange_of}
+use Rattle.journal_sealing.proofs.PlainLines.{never_seals}
+use Rattle.journal_sealing.proofs.SealedLines.{none_sealed}
 use Rattle.journal_sealing.proofs.runs.a_clear_packet_carries_its_body.Goals as goal
 
 pub returns : goal.returns
 returns c = λ given front rest side channel octets fate verdict stations six at off.
-    let aired = c.each_packet_on_the_air_is_due.ensures.due given front rest side channel octets fate verdict at in
-    clear_of_line given front side channel octets fate verdict aired
-    (c.links_of_two_stations_keep_to_the_journal.ensures.payloads given aired.before aired.after aired.station channel octets (aired.hearing ∷ aired.others) stations six aired.is_at off)
+    c.a_packet_that_is_not_sealed_carries_its_body.ensures given front rest side channel octets fate verdict stations six at off
+    (λ number is. none_sealed number side front (exchange_of number front side).acked (never_seals number front side))
