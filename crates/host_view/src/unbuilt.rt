@@ -11,7 +11,6 @@ pub(crate) fn unbuilt_status(command: &Command) -> ErrCode
     ensures { result.0 ≡ unbuilt_status_of command.now }
 {
     match command {
-        Command::LeEnableEncryption { .. } => ErrCode::COMMAND_DISALLOWED,
         Command::SetHostFlow { .. }
         | Command::HostBufferSize { .. }
         | Command::HostCompleted { .. } => ErrCode::UNKNOWN_HCI_COMMAND,

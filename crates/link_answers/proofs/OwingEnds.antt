@@ -161,11 +161,20 @@ module _ (kind : Exclusive) where
         (end_keeps (is_opening_read kind) (other_opens_none kind) (Holds kind) (control_owes kind)
         (λ code. λ c. λ holds. record { role = holds.role; owes = holds.owes }) setup facts step p (step_may step facts parts.0) h)
 
-pub steps_owe : (setup : Setup) (facts : Facts) (steps : List Step) (kind : Exclusive) → IsPast setup facts → setup.link.role ≡ Central
-    → Owes kind (central_of facts.control.table) → is_opening_kept kind facts.encryption.kept ≡ false
-    → list_any (is_opening kind) (notes_from setup facts steps) ≡ false → Owes kind (central_of (fold (facts_after setup) facts steps).control.table)
-steps_owe setup facts steps kind p is_central owes kept none =
-    let role = ap (λ (f : Facts). role_of f.control.table.progress) p.is ∙ keeps_role setup p.past ∙ is_central in
-    let request = subst (λ (f : Facts). MayOwe f.encryption.request) (sym p.is) (past_request setup p.past) in
-    (hold_on kind setup steps facts p none
-    (record { control = record { role = role; owes = owes }; hand = record { kept = kept; request = request } })).control.owes
+module _ (setup : Setup) (facts : Facts) (steps : List Step) (kind : Exclusive) (p : IsPast setup facts)
+    (is_central : setup.link.role ≡ Central) (owes : Owes kind (central_of facts.control.table))
+    (kept : is_opening_kept kind facts.encryption.kept ≡ false)
+    (none : list_any (is_opening kind) (notes_from setup facts steps) ≡ false) where
+  steps_hold : OwesAt kind setup (fold (facts_after setup) facts steps)
+  steps_hold =
+      let role = ap (λ (f : Facts). role_of f.control.table.progress) p.is ∙ keeps_role setup p.past ∙ is_central in
+      let request = subst (λ (f : Facts). MayOwe f.encryption.request) (sym p.is) (past_request setup p.past) in
+      hold_on kind setup steps facts p none
+      (record { control = record { role = role; owes = owes }; hand = record { kept = kept; request = request } })
+
+  pub steps_owe : Owes kind (central_of (fold (facts_after setup) facts steps).control.table)
+  steps_owe = steps_hold.control.owes
+
+  -- nor does it keep such a PDU then
+  pub steps_keep : is_opening_kept kind (fold (facts_after setup) facts steps).encryption.kept ≡ false
+  steps_keep = steps_hold.hand.kept

@@ -39,7 +39,7 @@ use Rattle.link_model.specs.control_end.declared.answers.Entry.{Entry}
 use Rattle.link_model.specs.control_end.declared.answers.Taken.{Taken}
 use Rattle.link_model.specs.Acknowledgement.{Pdu, is_acked}
 use Rattle.link_model.specs.Controls.{goes_on, is_procedure_pdu, is_quiet_now, next_control, pdu_fixed, pdu_of_control, read_of}
-use Rattle.link_model.specs.ControlSteps.{IsAskInRange}
+use Rattle.link_model.specs.AskRanges.{IsAskInRange}
 use Rattle.link_model.specs.Data.{Data, data_acked_if, data_given, is_control, is_data, is_empty, next_piece, numbered, pdu_with}
 use Rattle.link_model.specs.End.{facts_after, facts_of, notes_after, notes_of}
 use Rattle.link_model.specs.Entering.{began_notes, control_entered, done_notes, event_notes, facts_entered_if}

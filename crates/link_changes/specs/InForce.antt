@@ -11,7 +11,7 @@ use Rattle.chan_select.specs.Channel.{channel_of}
 use Rattle.instants.specs.Arrivals.{Taking}
 use Rattle.instants.specs.Parameters.{anchor_in, params_in}
 use Rattle.instants.specs.Track.{next_anchor_of}
-use Rattle.link_model.specs.ControlSteps.{AreAsksInRange}
+use Rattle.link_model.specs.AskRanges.{AreAsksInRange}
 use Rattle.link_model.specs.End.{facts_of}
 use Rattle.link_model.specs.Setup.{Setup, algorithm_of, first_anchor, first_params}
 use Rattle.link_model.specs.Step.{Step, EventEntered, ProcedureAsked}

@@ -4,7 +4,7 @@ use Rattle.std.specs.Prelude.{ℕ, ◌==◌, ◌&&◌, not, Bool, true, false, L
 use Rattle.ble_base.specs.declared.channel_map.ChannelMap.{ChannelMap}
 use Rattle.ble_base.specs.declared.error_codes.ErrCode.{ErrCode}
 use Rattle.procedures.specs.procedure_values.declared.asks.Ask.{Ask}
-use Rattle.procedures.specs.procedure_values.declared.asks.Ask.TheVariants.{Encrypt, Map}
+use Rattle.procedures.specs.procedure_values.declared.asks.Ask.TheVariants.{Map}
 use Rattle.control_end.specs.Held.{Held as Control}
 use Rattle.link_model.specs.phased_end.Held.{HeldKeyed, held_after}
 use Rattle.link_model.specs.phased_end.Moves.{awaits_key}
@@ -22,10 +22,9 @@ map_to_come control =
     (or_else (map_queued control.table.queue.drafts)
     (or_else (map_waiting control.track.waits) control.track.params.map))
 
--- a map that the link is to have already changes nothing; nor does an encryption, since no link encrypts yet
+-- a map that the link is to have already changes nothing
 abbrev pub is_to_come : Ask → Control → Bool
 is_to_come (Map map) control = map == map_to_come control
-is_to_come (Encrypt rand ediv ltk skd_m iv_m) control = true
 is_to_come other control = false
 
 -- the host asks for a procedure, which may set the longest payload that is transmitted (section 4.5.10)

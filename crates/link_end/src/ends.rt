@@ -405,7 +405,7 @@ impl LinkEnd {
 
     /// The host asks for a procedure, with values in their ranges (Core 5.2, volume 6 part B,
     /// section 5.1). It begins as an event is entered. A channel map that the link is to have
-    /// already changes nothing, nor does an encryption, since no link is encrypted yet.
+    /// already changes nothing.
     pub fn ask(&mut self, ask: Ask)
         requires in_range { IsAsk ask }
         ensures knows { (setup : Setup) (past : List Step) → Knows setup self.old past

@@ -81,14 +81,12 @@ fn map_to_come(control: &PhasedEnd) -> ChannelMap
     )
 }
 
-/// Whether this changes nothing: a map that the link is to have already, or an encryption, since no
-/// link is encrypted yet.
+/// Whether this changes nothing: a map that the link is to have already.
 fn is_to_come(ask: &Ask, control: &PhasedEnd) -> bool
     ensures { result ≡ is_to_come ask.now control.now.control }
 {
     match ask {
         Ask::Map(map) => *map == map_to_come(control),
-        Ask::Encrypt { .. } => true,
         _ => false,
     }
 }
@@ -161,7 +159,7 @@ impl LinkEnd {
         self.lengths = lengths_seen(before, self.control.lengths(), self.lengths);
     }
 
-    /// The same, but for a map that the link is to have already and for an encryption.
+    /// The same, but for a map that the link is to have already.
     pub(crate) fn ask_unless_to_come(&mut self, asked: Ask)
         requires in_range { IsAsk asked }
         ensures held { self.new

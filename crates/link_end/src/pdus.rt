@@ -3,7 +3,6 @@ ghost use Rattle.std.specs.Prelude.{◌≡◌, ◌+◌, ◌<◌, ◌≤◌, ◌=
 ghost use Rattle.std.specs.Prelude.{Some, None, Option, IfSome};
 ghost use Rattle.data_pdu.specs.Ranges.{IsInRange};
 ghost use Rattle.data_pdu.specs.Reading.{IfKnown};
-ghost use Rattle.control_end.specs.control_model.Supported.{read_supported};
 ghost use Rattle.link_model.specs.Acknowledgement.{empty_pdu};
 ghost use Rattle.link_model.specs.Data.{is_control, is_data, is_empty, llid_of, pdu_with};
 ghost use Rattle.link_model.specs.Controls.{begins_with, is_procedure_pdu, is_terminate};
@@ -27,12 +26,6 @@ const CONTROL: u8 = 3;
 
 /// The opcode of LL_TERMINATE_IND (Core 5.2, volume 6 part B, section 2.4.2.3).
 const TERMINATE_IND: u8 = 0x02;
-
-/// The opcode of LL_ENC_REQ (Core 5.2, volume 6 part B, section 2.4.2.4).
-const ENC_REQ: u8 = 0x03;
-
-/// The opcode of LL_PAUSE_ENC_REQ (Core 5.2, volume 6 part B, section 2.4.2.11).
-const PAUSE_ENC_REQ: u8 = 0x0A;
 
 /// A PDU that an end sends.
 #[derive(Debug, Drop)]
@@ -146,7 +139,7 @@ impl Got {
         ensures value { result ≡ read_of (pdu_in self.now) }
         ensures in_range { IfKnown result IsInRange }
     {
-        read_supported(read_ctrl(self.body.as_slice()))
+        read_ctrl(self.body.as_slice())
     }
 }
 
@@ -178,19 +171,5 @@ fn begins_with(opcode: u8, octets: &[u8]) -> bool
     match octets {
         [] => false,
         [octet, ..] => *octet == opcode,
-    }
-}
-
-/// What was read, where a PDU that begins or pauses an encryption counts as unknown: no link is
-/// encrypted yet.
-fn read_supported(read: CtrlRead) -> CtrlRead
-    requires { IfKnown read IsInRange }
-    ensures value { result ≡ read_supported read }
-    ensures in_range { IfKnown result IsInRange }
-{
-    match read {
-        CtrlRead::Known(Ctrl::EncReq { .. }) => CtrlRead::Unknown(ENC_REQ),
-        CtrlRead::Known(Ctrl::PauseEncReq) => CtrlRead::Unknown(PAUSE_ENC_REQ),
-        _ => read,
     }
 }

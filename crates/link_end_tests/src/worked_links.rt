@@ -153,14 +153,11 @@ a refuse 3b
 turn 50 = a enter 2 6 sent 1 3 110f3b b enter 2 6 took 1 3 110f3b refused Request 3b
 a awaits_host = no
 new
-# No link is encrypted yet: an encryption that the host of the central asks for does not begin, and
-# the host of the peripheral is not asked for a key.
+# A key for which nobody asked changes nothing, nor does it that there is none.
 turn 2 = a b
-a ask encrypt
 turn 26 = a enter 1 20 b enter 1 20
 a may_ask encrypt = yes
 b awaits_key = no
-# So a key changes nothing, nor does it that there is none.
 b key 27
 b no_key 28
 b give 01020304 = yes

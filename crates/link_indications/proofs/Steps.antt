@@ -21,7 +21,7 @@ use Rattle.link_model.specs.keyed_control.KeyedSteps.{Enters as KeyedEnters, Giv
 use Rattle.link_model.specs.control_end.Answers.{entry_of}
 use Rattle.link_model.specs.control_end.Held.{held_of}
 use Rattle.link_model.specs.Acknowledgement.{Pdu, is_acked}
-use Rattle.link_model.specs.ControlSteps.{IsAskInRange}
+use Rattle.link_model.specs.AskRanges.{IsAskInRange}
 use Rattle.link_model.specs.Controls.{goes_on, is_quiet_now, next_control, pdu_fixed, pdu_of_control}
 use Rattle.link_model.specs.Data.{is_control, is_empty, numbered}
 use Rattle.link_model.specs.End.{facts_after, facts_of, notes_after, notes_of}

@@ -8,7 +8,7 @@ use Rattle.phased_end.specs.Reached.{AllMayCome, MayCome}
 use Rattle.phased_end.specs.Taking.{drawn}
 use Rattle.phased_end.specs.keyed_control.KeyedSteps.{KeyedStep, Answers, Asks, Enters, Opens, Seals, SeesAcknowledged, Sends, Takes, TakesData}
 use Rattle.link_model.specs.Acknowledgement.{is_acked}
-use Rattle.link_model.specs.ControlSteps.{AreAsksInRange, IsAskInRange}
+use Rattle.link_model.specs.AskRanges.{AreAsksInRange, IsAskInRange}
 use Rattle.link_model.specs.Controls.{goes_on, is_procedure_pdu, pdu_fixed, read_of}
 use Rattle.link_model.specs.Data.{is_data}
 use Rattle.link_model.specs.End.{facts_after}

@@ -21,7 +21,7 @@ use Rattle.link_model.specs.Step.{Step}
 use Rattle.link_model.specs.Controls.{goes_on}
 use Rattle.link_model.specs.Receiving.{ended_by_forgery}
 use Rattle.link_model.specs.End.{facts_after, facts_of}
-use Rattle.link_model.specs.ControlSteps.{AreAsksInRange}
+use Rattle.link_model.specs.AskRanges.{AreAsksInRange}
 use Rattle.link_model.specs.KeyedSteps.{is_forged_in_step, keyed_steps_from, keyed_steps_in, keyed_steps_of}
 use Rattle.link_model.proofs.Coming.{all_come}
 use Rattle.link_model.proofs.KeyedSteps.{forged_ends, joined, one_step}

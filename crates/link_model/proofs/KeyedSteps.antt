@@ -74,7 +74,7 @@ pub gone : (goes : Bool) (slot : ℕ) (facts : Facts)
 gone true slot facts = with_control facts.encryption (control_sends slot (is_quiet_now facts)) facts.control
 gone false slot facts = refl
 
-gone_encryption : (goes : Bool) (slot : ℕ) (facts : Facts)
+pub gone_encryption : (goes : Bool) (slot : ℕ) (facts : Facts)
     → (control_gone_if goes slot facts).encryption ≡ facts.encryption
 gone_encryption true slot facts = refl
 gone_encryption false slot facts = refl

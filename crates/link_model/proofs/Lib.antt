@@ -1,5 +1,8 @@
 -- The lemmas of this crate.
 pub mod KeyedSteps
+mod BodyPayloads
+mod ClearSteps
+mod ClearEnds
 pub mod Views
 pub mod ReadRanges
 pub mod Coming
@@ -10,7 +13,6 @@ pub mod Forging
 pub mod Choices
 pub mod Hearing
 pub mod Outgoing
-pub mod ControlSteps
 pub mod Acknowledging
 pub mod Moves
 pub mod Counts
@@ -29,11 +31,6 @@ pub mod Pasts
 pub mod Opening
 pub mod Headers
 pub mod Received
-pub mod Plain
-pub mod PlainSteps
-pub mod PlainGives
-pub mod PlainPayloads
-pub mod PlainEnds
 -- what the crates above use of those below
 pub use Rattle.phased_end.proofs.control_end.control_model as control_model
 pub use Rattle.phased_end.proofs.control_end as control_end

@@ -16,7 +16,6 @@ use Rattle.phased_end.specs.control_end.Answers.{nothing_taken, taken_of}
 use Rattle.phased_end.specs.control_end.Held.{Held, held_after as control_after, held_after_all, held_of}
 use Rattle.phased_end.specs.control_end.declared.answers.Taken.{Taken}
 use Rattle.phased_end.specs.control_end.control_model.Control.{Control, Step, Enters, Owes, SeesAcknowledged, Takes, after, after_all, ended, indicated_by, is_to_come, moved, taken}
-use Rattle.phased_end.specs.control_end.control_model.Supported.{read_supported}
 use Rattle.phased_end.specs.control_end.procedures.Table.{TableFacts}
 use Rattle.phased_end.specs.control_end.procedures.Taking.{took_step}
 use Rattle.phased_end.proofs.control_end.Depending.{step_held, steps_held}
@@ -602,16 +601,8 @@ taken_accepted accepted pdu slot facts = by (is_none facts.control.ends)
 
 -- ---- which PDU a body is read as
 
--- no link encrypts yet: a PDU that begins or pauses an encryption is not supported
 pub reading_view : (pdu : Pdu) → SeenAs (ctrl_of pdu.body) (read_of pdu)
-reading_view pdu = by (ctrl_of pdu.body)
-  where
-    by : (said : CtrlRead) → SeenAs said (read_supported said)
-    by (Known (EncReq rand ediv skd_m iv_m)) = AsUnknown (EncReq rand ediv skd_m iv_m) tt refl refl
-    by (Known PauseEncReq) = AsUnknown PauseEncReq tt refl refl
-    by (Known ctrl) = AsRead refl
-    by (Unknown opcode) = AsRead refl
-    by Bare = AsRead refl
+reading_view pdu = AsRead refl
 
 -- what is no PDU of the encryption is read, and seen, as it is
 pub same_seen : (X : CtrlRead → Type 0) (read seen : CtrlRead) → SeenAs read seen → ((ctrl : Ctrl) → read ≡ Known ctrl → IsNamed ctrl → ⊥)

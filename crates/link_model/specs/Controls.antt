@@ -11,16 +11,14 @@ use Rattle.phased_end.specs.control_end.procedure_values.declared.lengths.Length
 use Rattle.phased_end.specs.control_end.procedure_values.Limits.{rx_of, tx_of}
 use Rattle.phased_end.specs.control_end.Answers.{next_ctrl}
 use Rattle.phased_end.specs.control_end.Held.{held_of}
-use Rattle.phased_end.specs.control_end.control_model.Supported.{read_supported}
 use Rattle.link_model.specs.Acknowledgement.{Pdu, empty_pdu}
 use Rattle.link_model.specs.Data.{is_control, is_empty}
 use Rattle.link_model.specs.Facts.{Facts}
 
 -- ---- which control PDU a body is
 
--- no link encrypts yet: a PDU that begins or pauses an encryption is not supported
 abbrev pub read_of : Pdu → CtrlRead
-read_of pdu = read_supported (ctrl_of pdu.body)
+read_of pdu = ctrl_of pdu.body
 
 -- LL_TERMINATE_IND is the control PDU with this opcode (section 2.4.2.3)
 abbrev pub begins_with : ℕ → List ℕ → Bool

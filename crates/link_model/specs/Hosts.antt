@@ -1,12 +1,12 @@
 -- What the host of an end asks for on a link, answers and ends (Core 5.2, volume 6 part B, sections 5.1 and 5.1.6).
-use Rattle.std.specs.Prelude.{ℕ, ◌==◌, ◌&&◌, not, Bool, true, false, List, [], ◌∷◌, Option, Some, None, Result, if◌then◌else◌}
+use Rattle.std.specs.Prelude.{ℕ, ◌==◌, ◌&&◌, not, Bool, false, List, [], ◌∷◌, Option, Some, None, Result, if◌then◌else◌}
 use Rattle.ble_base.specs.declared.channel_map.ChannelMap.{ChannelMap}
 use Rattle.ble_base.specs.declared.error_codes.ErrCode.{ErrCode}
 use Rattle.instants.specs.declared.indications.Indication.{Indication}
 use Rattle.instants.specs.declared.indications.Indication.TheVariants.{Map as map_indication}
 use Rattle.instants.specs.declared.track.Change.{Change}
 use Rattle.phased_end.specs.control_end.procedure_values.declared.asks.Ask.{Ask}
-use Rattle.phased_end.specs.control_end.procedure_values.declared.asks.Ask.TheVariants.{Encrypt, Map as map_ask}
+use Rattle.phased_end.specs.control_end.procedure_values.declared.asks.Ask.TheVariants.{Map as map_ask}
 use Rattle.phased_end.specs.control_end.procedure_values.declared.drafts.Draft.{Draft}
 use Rattle.phased_end.specs.control_end.procedure_values.declared.drafts.Draft.TheVariants.{Map as map_draft}
 use Rattle.phased_end.specs.control_end.control_model.Control.{Answers, Asks, Disconnects, after}
@@ -49,10 +49,9 @@ map_to_come facts =
     (or_else (map_queued facts.control.table.queue.drafts)
     (or_else (map_waiting facts.control.track.waits) (params_of facts).map))
 
--- a map that the link is to have already changes nothing; nor does an encryption, since no link encrypts yet
+-- a map that the link is to have already changes nothing
 abbrev pub is_to_come : Ask → Facts → Bool
 is_to_come (map_ask map) facts = map == map_to_come facts
-is_to_come (Encrypt rand ediv ltk skd_m iv_m) facts = true
 is_to_come other facts = false
 
 -- ---- its host asks for a procedure

@@ -23,10 +23,10 @@ pub mod Hosts
 pub mod Times
 pub mod End
 pub mod Kept
-pub mod ControlSteps
+pub mod AskRanges
 pub mod Drawing
 pub mod KeyedSteps
-pub mod Plain
+pub mod NoEncryption
 pub mod Delivery
 -- what the crates above use of those below
 pub use Rattle.phased_end.specs.control_end.control_model as control_model

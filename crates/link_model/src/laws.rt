@@ -3,10 +3,9 @@
 ghost use Rattle.std.specs.Prelude.{◌≡◌, ◌<◌, ◌≤◌, ◌+◌, ◌-◌, ℕ, nat_lt, Bool, true, false, List};
 ghost use Rattle.std.specs.Prelude.{[], ◌∷◌, ◌++◌, length, take, Some, None, slice_get};
 ghost use Rattle.std.specs.Prelude.{◌&&◌, not, is_some};
-ghost use Rattle.std.specs.List.{AllByRecursion, filter, find};
+ghost use Rattle.std.specs.List.{filter, find};
 ghost use Rattle.std.specs.Option.{option_map};
 ghost use Rattle.acl_banks.specs.Packets.{piece_of};
-ghost use Rattle.ble_base.specs.declared.roles.Role.{Role};
 ghost use Rattle.ble_base.specs.declared.roles.Role.TheVariants.{Central};
 ghost use Rattle.ble_base.specs.declared.verdicts.Verdict.TheVariants.{Forged, Good};
 ghost use Rattle.ble_base.specs.ErrorCodes.{mic_failure};
@@ -20,10 +19,8 @@ ghost use Rattle.phased_end.specs.control_end.procedure_values.Limits.{tx_of};
 ghost use Rattle.phased_end.specs.control_end.procedure_stages.InProgress.{is_busy};
 ghost use Rattle.phased_end.specs.control_end.procedure_stages.Kinds.{role_of};
 ghost use Rattle.phased_end.specs.control_end.procedure_stages.Queue.{waiting_in};
-ghost use Rattle.phased_end.specs.control_end.control_model.Control.{after_all, first_control};
-ghost use Rattle.phased_end.specs.control_end.control_model.Control.{Step as ControlStep};
-ghost use Rattle.phased_end.specs.control_end.control_model.Waits.{AreInRange};
-ghost use Rattle.phased_end.specs.enc_phase.Sealing.{EncEnd, after_sending};
+ghost use Rattle.phased_end.specs.enc_phase.declared.facts.PhaseFacts.TheVariants.{Clear};
+ghost use Rattle.phased_end.specs.enc_phase.Sealing.{EncEnd, after_sending, clear_end};
 ghost use Rattle.phased_end.specs.keyed_control.Keyed.{first_keyed};
 ghost use Rattle.phased_end.specs.keyed_control.KeyedSteps.{keyed_after_all, phased_steps};
 ghost use Rattle.phased_end.specs.phased_control.Ends.{AllAskInRange};
@@ -51,11 +48,8 @@ ghost use Rattle.link_model.specs.Receiving.{facts_hearing, notes_hearing, repli
 ghost use Rattle.link_model.specs.Times.{ending_of, has_second_exchange, wants_of};
 ghost use Rattle.link_model.specs.KeyedSteps.{is_forged_in_step};
 ghost use Rattle.link_model.specs.KeyedSteps.{keyed_steps_in, keyed_steps_of};
-ghost use Rattle.link_model.specs.ControlSteps.{AreAsksInRange, control_steps_in};
-ghost use Rattle.link_model.specs.ControlSteps.{control_steps_of, is_owed};
-ghost use Rattle.link_model.specs.Entering.{facts_entered};
-ghost use Rattle.link_model.specs.Plain.{IsPlain, plain_entered, plain_hearing};
-ghost use Rattle.link_model.specs.Plain.{plain_notes_hearing};
+ghost use Rattle.link_model.specs.AskRanges.{AreAsksInRange};
+ghost use Rattle.link_model.specs.NoEncryption.{AllBeginNone};
 ghost use Rattle.link_model.specs.Delivery.{AreNumbered, IsDelivered, IsInOrder};
 ghost use Rattle.link_model.specs.End.{facts_after, facts_of, notes_after, notes_of};
 
@@ -135,53 +129,16 @@ pub fn an_end_goes_by_its_steps()
         encryption.end.phase ≡ encryption.phase }
 {}
 
-/// No link encrypts yet. Whatever happens to an end, its encryption is that of the beginning, and its
-/// procedures run none (Core 5.2, volume 6 part B, section 5.1.3; that it is so is our choice). So
-/// each step of it changes its procedures and its parameters alone, and the payload of a packet is
-/// the body of its PDU.
-pub fn an_end_encrypts_nothing()
-    ensures past { (setup : Setup) (past : List Step)
-        → IsPlain setup.link.role (facts_of setup past) }
-    ensures step { (setup : Setup) (facts : Facts) (step : Step) → IsPlain setup.link.role facts
-        → IsPlain setup.link.role (facts_after setup facts step) }
-    ensures quiet { (role : Role) (facts : Facts) → IsPlain role facts
-        → is_quiet_now facts ≡ true }
-    ensures entered { (setup : Setup) (facts : Facts) (slot : ℕ) → IsPlain setup.link.role facts
-        → facts_entered setup slot facts ≡ plain_entered setup slot facts }
-    ensures hearing { (role : Role) (slot : ℕ) (room : Bool) (header : DataHeader) (pdu : Pdu)
-        (facts : Facts) → IsPlain role facts → facts_hearing role slot room header pdu facts
-        ≡ plain_hearing role slot room header pdu facts }
-    ensures noted { (setup : Setup) (slot : ℕ) (room : Bool) (header : DataHeader) (pdu : Pdu)
-        (facts : Facts) → IsPlain setup.link.role facts
-        → notes_hearing setup slot room header pdu facts
-        ≡ plain_notes_hearing setup slot room header pdu facts }
-    ensures forged { (setup : Setup) (facts : Facts) (octets : List ℕ)
-        → IsPlain setup.link.role facts → is_forged setup facts octets ≡ false }
-    ensures body { (setup : Setup) (past : List Step) → payload_sent (facts_of setup past)
-        ≡ (pdu_sent (facts_of setup past)).body }
-{}
-
-/// The control part of an end that encrypts nothing goes by the control steps of its past, one after
-/// the other, from the first one of its link. They are in range where what its host asks and answers
-/// is, none of them queues a PDU of an encryption, and none of them changes the role of the end.
-pub fn the_control_part_goes_by_its_steps()
-    ensures step { (setup : Setup) (facts : Facts) (step : Step) → IsPlain setup.link.role facts
-        → (facts_after setup facts step).control
-        ≡ after_all (control_steps_in setup facts step) facts.control }
-    ensures past { (setup : Setup) (past : List Step) → (facts_of setup past).control
-        ≡ after_all (control_steps_of setup past)
-        (first_control setup.link.role setup.link.max_rx (first_params setup.link.fields)
-        (first_anchor setup)) }
-    ensures grows { (setup : Setup) (past : List Step) (step : Step)
-        → control_steps_of setup (past ++ step ∷ [])
-        ≡ control_steps_of setup past ++ control_steps_in setup (facts_of setup past) step }
-    ensures in_range { (setup : Setup) (past : List Step) → AreAsksInRange past
-        → AreInRange (control_steps_of setup past) }
-    ensures none_owed { (setup : Setup) (past : List Step)
-        → AllByRecursion (λ (step : ControlStep). is_owed step ≡ false)
-        (control_steps_of setup past) }
-    ensures role { (setup : Setup) (past : List Step)
-        → role_of (facts_of setup past).control.table.progress ≡ setup.link.role }
+/// An end whose host asks for no encryption, and that takes no LL_ENC_REQ and no LL_PAUSE_ENC_REQ,
+/// has the session of the beginning: no packet is forged for it, and the payload of each packet that
+/// it sends is the body of the PDU (Core 5.2, volume 6 part B, section 5.1.3).
+pub fn an_end_without_encryption_stays_clear()
+    ensures session { (setup : Setup) (past : List Step) → AllBeginNone setup past
+        → (facts_of setup past).encryption.end ≡ clear_end setup.link.role Clear }
+    ensures forged { (setup : Setup) (past : List Step) (octets : List ℕ) → AllBeginNone setup past
+        → is_forged setup (facts_of setup past) octets ≡ false }
+    ensures body { (setup : Setup) (past : List Step) → AllBeginNone setup past
+        → payload_sent (facts_of setup past) ≡ (pdu_sent (facts_of setup past)).body }
 {}
 
 /// What one end sends is opened by the other end, where its payload was made with the session and

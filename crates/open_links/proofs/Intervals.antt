@@ -38,7 +38,7 @@ use Rattle.link_end.specs.link_model.Acknowledgement.{Pdu}
 use Rattle.link_end.specs.link_model.Setup.{Setup, first_anchor, first_params}
 use Rattle.link_end.specs.link_model.Facts.{Facts, first_facts, keyed_of}
 use Rattle.link_end.specs.link_model.Controls.{goes_on, read_of}
-use Rattle.link_end.specs.link_model.ControlSteps.{AreAsksInRange, IsAskInRange}
+use Rattle.link_end.specs.link_model.AskRanges.{AreAsksInRange, IsAskInRange}
 use Rattle.link_end.specs.link_model.End.{facts_after, facts_of}
 use Rattle.link_end.specs.link_model.KeyedSteps.{is_forged_in_step, keyed_steps_from, keyed_steps_in, keyed_steps_of}
 use Rattle.link_end.specs.link_model.Step.{Step}

@@ -14,7 +14,7 @@ use Rattle.link_end.specs.link_model.Data.{is_control}
 use Rattle.link_end.specs.link_model.Setup.{Setup}
 use Rattle.link_end.specs.link_model.Facts.{Facts}
 use Rattle.link_end.specs.link_model.Controls.{goes_on, is_quiet_now}
-use Rattle.link_end.specs.link_model.ControlSteps.{AreAsksInRange, IsAskInRange}
+use Rattle.link_end.specs.link_model.AskRanges.{AreAsksInRange, IsAskInRange}
 use Rattle.link_end.specs.link_model.End.{facts_after, facts_of}
 use Rattle.link_end.specs.link_model.Entering.{control_entered, facts_entered_if}
 use Rattle.link_end.specs.link_model.Fixing.{fixed_anew}

@@ -4,7 +4,7 @@ use Rattle.ble_base.specs.declared.error_codes.ErrCode.{ErrCode}
 use Rattle.procedures.specs.procedure_values.declared.asks.Ask.{Ask}
 use Rattle.instants.specs.Track.{next_anchor_of}
 use Rattle.link_end.specs.link_model.Controls.{goes_on}
-use Rattle.link_end.specs.link_model.ControlSteps.{IsAskInRange}
+use Rattle.link_end.specs.link_model.AskRanges.{IsAskInRange}
 use Rattle.link_end.specs.link_model.Step.{Step, DataGiven, DataReported, Disconnected, PacketReceived, PacketSent, PduFixed, ProcedureAsked, RequestAnswered}
 use Rattle.open_links.specs.OpenLinks.{OpenLink, facts_in, link_after}
 use Rattle.open_links.specs.Turns.{link_entered}

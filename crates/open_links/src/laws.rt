@@ -10,7 +10,7 @@ ghost use Rattle.adv_pdu.specs.Ranges.{IsInRange};
 ghost use Rattle.procedures.specs.procedure_values.declared.asks.Ask.{Ask};
 ghost use Rattle.link_end.specs.link_model.Setup.{Setup};
 ghost use Rattle.open_links.specs.Ended.{HandlesAscend, IsAmong};
-ghost use Rattle.link_end.specs.link_model.ControlSteps.{AreAsksInRange};
+ghost use Rattle.link_end.specs.link_model.AskRanges.{AreAsksInRange};
 ghost use Rattle.link_end.specs.link_model.Step.{DataGiven, Disconnected, PduFixed, ProcedureAsked};
 ghost use Rattle.link_end.specs.link_model.Step.{RequestAnswered, Step};
 ghost use Rattle.open_links.specs.Data.{buffers_taken, link_reported, links_fixed};

@@ -1,5 +1,6 @@
--- The keys of an end that encrypts nothing stay as they are in each step, and its control part goes by the step alone.
-use Rattle.std.proofs.Common.{◌≡◌, ℕ, ◌==◌, ◌&&◌, ◌||◌, Bool, true, false, List, Option, Some, None, is_none, is_some, if◌then◌else◌, refl, ap, sym, ◌∙◌}
+-- The keys of an end that encrypts nothing stay as they are in each step that begins no encryption, and its control
+-- part goes by the step alone.
+use Rattle.std.proofs.Common.{◌≡◌, ℕ, ◌==◌, ◌&&◌, ◌||◌, not, Bool, true, false, List, Option, Some, None, is_none, is_some, if◌then◌else◌, refl, ap, sym, ◌∙◌}
 use Rattle.ble_base.specs.declared.error_codes.ErrCode.{ErrCode}
 use Rattle.ble_base.specs.declared.roles.Role.{Role}
 use Rattle.ble_base.specs.declared.roles.Role.TheVariants.{Central, Peripheral}
@@ -27,7 +28,7 @@ use Rattle.phased_end.specs.keyed_control.Keyed.{Keyed, first_material}
 use Rattle.phased_end.specs.keyed_control.KeyedSteps.{Enters, GivesKey, LacksKey, SeesAcknowledged, Takes, TakesData, end_changed, keyed_after, material_entered, with_asked_if, with_read}
 use Rattle.unencrypted_ends.specs.Unencrypted.{IsUnencrypted, begins_no_encryption, is_enc_req, plain_phased}
 use Rattle.unencrypted_ends.proofs.Going.{acknowledged_goes, begins_other, data_left, enters_goes, key_given_left, key_lacking_left, none_again}
-use Rattle.unencrypted_ends.proofs.Staying.{entered_none, none_read}
+use Rattle.unencrypted_ends.proofs.Staying.{entered_none}
 use Rattle.unencrypted_ends.proofs.Taking.{takes_goes}
 
 -- such an end with its keys
@@ -37,24 +38,20 @@ plain_keyed role c knows =
 
 -- ---- what is read begins no encryption
 
-pub supported_again : (read : CtrlRead) → read_supported (read_supported read) ≡ read_supported read
-supported_again (Known ctrl) = by (begins_encryption ctrl) refl
+pub supported : (read : CtrlRead) → begins_no_encryption read ≡ true → read_supported read ≡ read
+supported (Known ctrl) is = by (begins_encryption ctrl) is
   where
-    by : (b : Bool) → begins_encryption ctrl ≡ b
-        → read_supported (if b then Unknown (opcode_of ctrl) else Known ctrl) ≡ (if b then Unknown (opcode_of ctrl) else Known ctrl)
-    by true is = refl
-    by false is = ap (λ b. if b then Unknown (opcode_of ctrl) else Known ctrl) is
-supported_again (Unknown opcode) = refl
-supported_again Bare = refl
+    by : (begins : Bool) → not begins ≡ true → (if begins then Unknown (opcode_of ctrl) else Known ctrl) ≡ Known ctrl
+    by true is = absurd (cc)
+    by false is = refl
+supported (Unknown opcode) is = refl
+supported Bare is = refl
 
-no_request : (read : CtrlRead) → begins_no_encryption read ≡ true → is_enc_req read ≡ false
+pub no_request : (read : CtrlRead) → begins_no_encryption read ≡ true → is_enc_req read ≡ false
 no_request (Known (EncReq rand ediv skd_m iv_m)) is = absurd (cc)
 no_request (Known ctrl) is = refl
 no_request (Unknown opcode) is = refl
 no_request Bare is = refl
-
-pub none_requested : (read : CtrlRead) → is_enc_req (read_supported read) ≡ false
-none_requested read = no_request (read_supported read) (none_read read)
 
 -- ---- what leaves material and session as they are
 
@@ -165,7 +162,7 @@ module _ (role : Role) (c : Control) (knows : Bool) where
 
   -- ---- a PDU is taken
 
-  module _ (read : CtrlRead) (slot : ℕ) (response : Response) (supported : read_supported read ≡ read) (other : is_enc_req read ≡ false) where
+  module _ (read : CtrlRead) (slot : ℕ) (response : Response) (same : read_supported read ≡ read) (other : is_enc_req read ≡ false) where
     abbrev step : PhasedStep
     step = phased_takes read slot response
 
@@ -176,7 +173,7 @@ module _ (role : Role) (c : Control) (knows : Bool) where
         → phased_after step s ≡ plain_phased (after (control_takes read slot true) c) knows_then
     taken_by None is =
         takes_goes c knows read slot response other is
-        ∙ (λ i. plain_phased (after (control_takes (supported i) slot true) c) (knows || (is_none (sym is i) && is_version read)))
+        ∙ (λ i. plain_phased (after (control_takes (same i) slot true) c) (knows || (is_none (sym is i) && is_version read)))
     taken_by (Some code) is = over (is_none c.ends) (ap (λ (e : Option ErrCode). is_none e) is)
       where
         over : (b : Bool) → b ≡ false
