@@ -26,7 +26,7 @@ use Rattle.link_model.specs.enc_phase.Sealing.{EncEnd}
 use Rattle.link_pairs.specs.Ends.{AreEnds, is_lasting}
 use Rattle.link_pairs.specs.Hearing.{received}
 use Rattle.link_pairs.specs.Parting.{HasFittingPdu}
-use Rattle.link_pairs.specs.Shown.{ArePlain, HasKeys, HaveKeys, Shows}
+use Rattle.link_pairs.specs.Shown.{HasKeys, HaveKeys, Shows}
 use Rattle.link_pairs.proofs.Counts.{acknowledged_by, is_fresh, says_right, turned}
 use Rattle.link_pairs.proofs.KeysAt.{can_open_down, can_open_up, made_down_at, made_up_at}
 use Rattle.link_pairs.proofs.LastCiphers.{central_ends_none, peripheral_ends_keyless, peripheral_ends_shut}
@@ -65,7 +65,7 @@ genuine setup facts slot octets room goes ended = by (is_forged setup facts octe
 
 module _ (central peripheral : Setup) (ends : AreEnds central peripheral) (slot : ℕ) (answers : Bool) (c p : Facts) (l : Link)
     (reached : IsReached central peripheral l) (running : is_running l.joint ≡ true)
-    (s : Shows central peripheral (slot + 1) answers l c p) (keys : HaveKeys (keys_at central peripheral l reached) c p) (plain : ArePlain central peripheral c p)
+    (s : Shows central peripheral (slot + 1) answers l c p) (keys : HaveKeys (keys_at central peripheral l reached) c p)
     (central_lasts : Lasts c) (peripheral_lasts : Lasts p) (room : Bool) where
   abbrev k : KeyedJoint
   k = keys_at central peripheral l reached
@@ -172,7 +172,6 @@ module _ (central peripheral : Setup) (ends : AreEnds central peripheral) (slot 
           sender_made = k.central.made;
           sender_fits = central_fits;
           sends_so = central_sends_so;
-          plain = plain.0;
         }
 
   -- the central hears the peripheral
@@ -205,5 +204,4 @@ module _ (central peripheral : Setup) (ends : AreEnds central peripheral) (slot 
           sender_made = k.peripheral.made;
           sender_fits = peripheral_fits;
           sends_so = peripheral_sends_so;
-          plain = plain.1;
         }

@@ -29,7 +29,6 @@ use Rattle.link_model.specs.Step.{PacketReceived}
 use Rattle.link_model.specs.Packets.{is_forged}
 use Rattle.link_model.specs.Receiving.{accepted_if, data_taken_if, facts_hearing, procedures_take_if, taken_if}
 use Rattle.link_model.proofs.Hearing.{IsHeardWhole}
-use Rattle.link_pairs.proofs.PlainEnds.{plain_step}
 use Rattle.link_pairs.specs.Ends.{AreEnds, heard_turns, is_lasting, phased_of}
 use Rattle.link_pairs.specs.Hearing.{IsPacketOf, is_mixed, received}
 use Rattle.link_pairs.specs.Shown.{AreLinked, HasKeys, HaveKeys, Shows}
@@ -419,6 +418,5 @@ module _ (heard : IsHeardWhole) (central peripheral : Setup) (slot : ℕ) (c p :
   pub hears : AreLinked central peripheral (slot + 1) false heard_then p
   hears =
       linked_on central peripheral (slot + 1) (slot + 1) true false c p heard_then p linked
-      (plain_step central c (PacketReceived slot octets room) linked.plain.0, linked.plain.1)
       (lasts_before central c (PacketReceived slot octets room)) (λ is. is)
       (λ l reached running s keys. hears_on l reached running s keys (read l reached running s keys))

@@ -13,10 +13,9 @@ use Rattle.joint_laws.specs.joint_controls.phased_control.enc_phase.Sealing.{cle
 use Rattle.joint_laws.specs.joint_controls.phased_control.enc_phase.declared.facts.PhaseFacts.TheVariants.{Clear}
 use Rattle.joint_laws.specs.joint_controls.phased_control.Phased.{first_phased}
 use Rattle.control_octets.specs.procedure_values.Values.{IsPayloadMax}
-use Rattle.link_model.proofs.Plain.{begins_plain}
 use Rattle.link_model.specs.Facts.{first_facts}
 use Rattle.link_pairs.specs.Ends.{AreEnds, IsAtRest, phased_of}
-use Rattle.link_pairs.specs.Shown.{AreLinked, EncryptsNothing, HaveKeys, Shows, new_link}
+use Rattle.link_pairs.specs.Shown.{AreLinked, HaveKeys, Shows, new_link}
 use Rattle.link_pairs.proofs.Reaching.{keys_at, linked, reached_first, shown}
 
 -- ---- one end
@@ -43,9 +42,6 @@ rests_first setup rx range =
       past = omega arith;
       stays = refl;
     }
-
-plain_first : (setup : Setup) → EncryptsNothing setup (first_facts setup)
-plain_first setup = record { plain = begins_plain setup; payload = refl }
 
 -- ---- both ends
 
@@ -97,4 +93,4 @@ module _ (central peripheral : Setup) (ends : AreEnds central peripheral) where
   first_linked =
       linked central peripheral (central.opened + 1) false (first_facts central) (first_facts peripheral)
       (shown central peripheral (central.opened + 1) false (new_link central peripheral) (first_facts central) (first_facts peripheral)
-      (reached_first central peripheral) shows_first keys_first refl) (plain_first central, plain_first peripheral)
+      (reached_first central peripheral) shows_first keys_first refl)

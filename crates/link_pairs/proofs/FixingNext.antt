@@ -4,23 +4,18 @@ use Rattle.std.proofs.Common.{◌≡◌, ℕ, zero, suc, ◌<◌, ◌≤◌, ◌
 use Rattle.ble_base.specs.declared.roles.Role.TheVariants.{Peripheral}
 use Rattle.ble_base.specs.declared.error_codes.ErrCode.{ErrCode}
 use Rattle.data_pdu.specs.declared.ctrl.Ctrl.{Ctrl}
-use Rattle.data_pdu.specs.declared.ctrl.CtrlRead.TheVariants.{Known, Unknown}
-use Rattle.data_pdu.specs.Reading.{opcode_of}
 use Rattle.ack_bit.proofs.Directions.{not-false}
 use Rattle.instants.specs.Track.{event_of}
 use Rattle.control_octets.specs.procedure_stages.Closing.{is_open}
 use Rattle.control_octets.specs.procedures.Sending.{next_ctrl_of}
 use Rattle.joint_laws.specs.joint_controls.phased_control.enc_phase.Phases.{seals}
 use Rattle.control_octets.specs.control_model.Control.{Control}
-use Rattle.control_octets.specs.control_model.Supported.{begins_encryption, read_supported}
 use Rattle.control_octets.specs.Fitting.{FitsOctets}
 use Rattle.control_octets.proofs.Pdus.{written_short}
 use Rattle.control_octets.proofs.Steps.{sent_now_is_read}
 use Rattle.link_model.specs.control_end.Answers.{next_ctrl}
 use Rattle.link_model.specs.control_end.Held.{held_of}
 use Rattle.joint_laws.specs.joint_controls.phased_control.Phased.{Phased}
-use Rattle.unencrypted_ends.specs.Unencrypted.{IsUnencrypted}
-use Rattle.unencrypted_ends.proofs.Sending.{none_sent}
 use Rattle.joint_laws.specs.joint_controls.Joint.{Clear, Control as control_item, Data, Fixed, Item, Joint, PeripheralFixes, PeripheralFixesData, Way, after_all, fixed, is_clear, item_by, may_all, next_item, next_out, sends_data}
 use Rattle.joint_laws.specs.joint_parameters.Turns.{Fixing, FixesControl, FixesData, FixesNothing, MayFix, after_acknowledgement, fixing_steps}
 use Rattle.link_model.specs.Acknowledgement.{Pdu, is_acked}
@@ -36,22 +31,16 @@ use Rattle.link_pairs.proofs.PeripheralSteps.{fixes_after, fixes_data_after, nex
 
 -- ---- the next control PDU is read as itself
 
-supported_if : (begins : Bool) (ctrl : Ctrl) → begins ≡ false → (if begins then Unknown (opcode_of ctrl) else Known ctrl) ≡ Known ctrl
-supported_if true ctrl is = absurd (cc)
-supported_if false ctrl is = refl
-
--- as long as no link encrypts, a PDU that begins an encryption is not read as itself
-pub next_is_control : (c : Control) (quiet : Bool) (ctrl : Ctrl) → c.ends ≡ None → FitsOctets c → IsUnencrypted c → next_ctrl quiet (held_of c) ≡ Some ctrl
+pub next_is_control : (c : Control) (quiet : Bool) (ctrl : Ctrl) → c.ends ≡ None → FitsOctets c → next_ctrl quiet (held_of c) ≡ Some ctrl
     → IsControlPdu ctrl (pdu_of_control (Some ctrl))
-next_is_control c quiet ctrl lasts fits plain next =
+next_is_control c quiet ctrl lasts fits next =
     let now : next_ctrl_of c.table (event_of c.track) c.track.params.latency quiet ≡ Some ctrl =
     ap (λ (ends : Option ErrCode). if is_none ends then next_ctrl_of c.table (event_of c.track) c.track.params.latency quiet else None) (sym lasts) ∙ next in
     let read = sent_now_is_read c quiet ctrl fits now in
-    let begins = none_sent c.table (event_of c.track) c.track.params.latency quiet ctrl plain.waits now in
     record {
       written_as = refl;
       is_ctrl = read.0;
-      read_as = ap read_supported read.1 ∙ supported_if (begins_encryption ctrl) ctrl begins;
+      read_as = read.1;
     }
 
 -- ---- a control PDU is short (section 2.4.2)
@@ -129,7 +118,7 @@ module _ (central : Phased) (down way : Way) (slot : ℕ) (facts : Facts) where
     pub answer : acked ≡ true → IsAnswer next_way (gone (acked && fixes)).outgoing.fixed
     pub same : acked ≡ false → next_way ≡ way
 
-  module _ (lasts : facts.control.ends ≡ None) (fits : FitsOctets facts.control) (plain : IsUnencrypted facts.control)
+  module _ (lasts : facts.control.ends ≡ None) (fits : FitsOctets facts.control)
       (clear : is_acked facts.acknowledgement ≡ true → way ≡ Clear)
       (control : facts.fixes_control ≡ is_some (next_control facts))
       (data_first :
@@ -165,7 +154,7 @@ module _ (central : Phased) (down way : Way) (slot : ℕ) (facts : Facts) where
               ∙ ap (with_end central down (fixed (next_item x)) false) (sym (gone_phased true slot facts));
           answer =
               λ all. Holds item false (ap fixed is)
-              (subst (IsItem item) (sym pdu) (next_is_control facts.control (is_quiet_now facts) next.0 lasts fits plain next.1));
+              (subst (IsItem item) (sym pdu) (next_is_control facts.control (is_quiet_now facts) next.0 lasts fits next.1));
           same = λ none. absurd (cc);
         }
 

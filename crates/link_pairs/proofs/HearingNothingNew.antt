@@ -18,7 +18,6 @@ use Rattle.link_pairs.specs.Turns.{central_begun, prepared, sent_if}
 use Rattle.link_pairs.proofs.Answering.{gone_same}
 use Rattle.link_pairs.proofs.Counts.{acknowledged_by, is_fresh}
 use Rattle.link_pairs.proofs.NothingNew.{HasNothingNew, nothing_then, prepared_still, same_still}
-use Rattle.link_pairs.proofs.PlainEnds.{plain_with}
 use Rattle.link_pairs.proofs.TakingNothing.{takes_none}
 use Rattle.link_pairs.proofs.Ways.{sent_again}
 
@@ -29,9 +28,6 @@ again_still setup slot facts out =
     let e = facts.encryption in
     let payload = payload_made e.end facts.outgoing.fixed in
     record {
-      plain =
-          λ is. plain_with setup.link.role (fixed_sent slot facts) e
-          (ap (λ (all : Bool). record e { end = end_sending (seals_new all facts.outgoing.fixed) e.end }) out) is.encryption is.control;
       control = takes_none facts.control;
       lacks = λ is. record { role = is.role; asked = is.asked; none = is.none };
       end = λ shut. ap (λ (all : Bool). end_sending (seals_new all facts.outgoing.fixed) e.end) out;
@@ -103,7 +99,6 @@ module _ (role : Role) (slot : ℕ) (room : Bool) (header : DataHeader) (pdu : P
     nothing_still : (setup : Setup) → HasNothingNew setup facts (hearing_by false false false)
     nothing_still setup =
         record {
-          plain = λ is. record { encryption = is.encryption; control = is.control };
           control = takes_none facts.control;
           lacks = λ is. record { role = is.role; asked = is.asked; none = is.none };
           end = λ shut. refl;

@@ -46,10 +46,9 @@ use Rattle.link_model.specs.KeyedSteps.{step_if}
 use Rattle.link_model.specs.declared.state.Leaving.{Leaving}
 use Rattle.link_model.specs.Step.{Step, DataGiven, DataReported, Disconnected, EventEntered, PacketReceived, PacketSent, PduFixed, ProcedureAsked, RequestAnswered, KeyAnswered, WordsGiven}
 use Rattle.link_model.proofs.KeyedSteps.{one_step}
-use Rattle.link_pairs.proofs.PlainEnds.{plain_step}
 use Rattle.link_pairs.specs.Ends.{AreEnds, IsAtRest, IsLaterPdu, heard_turns, is_lasting, phased_of, turns_at}
 use Rattle.link_pairs.specs.Hosts.{MayAsk, MayHost}
-use Rattle.link_pairs.specs.Shown.{AreLinked, EncryptsNothing, HasKeys, HaveKeys, Shows}
+use Rattle.link_pairs.specs.Shown.{AreLinked, HasKeys, HaveKeys, Shows}
 use Rattle.link_pairs.proofs.KeysAt.{central_phase_at, peripheral_phase_at}
 use Rattle.link_pairs.proofs.KeysHeld.{has_moved, have_after}
 use Rattle.link_pairs.proofs.Lasting.{lasts_before}
@@ -305,7 +304,6 @@ module _ (central peripheral : Setup) (ends : AreEnds central peripheral) (turns
         → AreLinked central peripheral turns answers d p
     central_does step d is comes does =
         linked_on central peripheral turns turns answers answers c p d p a
-        (subst (EncryptsNothing central) (sym is) (plain_step central c step a.plain.0), a.plain.1)
         (λ lasting. lasts_before central c step (ap is_lasting (sym is) ∙ lasting)) (λ lasting. lasting) goes
       where
         goes : (l : Link) (reached : IsReached central peripheral l) → is_running l.joint ≡ true → Shows central peripheral turns answers l c p
@@ -333,7 +331,6 @@ module _ (central peripheral : Setup) (ends : AreEnds central peripheral) (turns
         → AreLinked central peripheral turns answers c d
     peripheral_does step d is comes does =
         linked_on central peripheral turns turns answers answers c p c d a
-        (a.plain.0, subst (EncryptsNothing peripheral) (sym is) (plain_step peripheral p step a.plain.1))
         (λ lasting. lasting) (λ lasting. lasts_before peripheral p step (ap is_lasting (sym is) ∙ lasting)) goes
       where
         goes : (l : Link) (reached : IsReached central peripheral l) → is_running l.joint ≡ true → Shows central peripheral turns answers l c p
@@ -364,7 +361,7 @@ module _ (central peripheral : Setup) (ends : AreEnds central peripheral) (turns
       → AreLinked central peripheral turns answers (facts_after central c step) p
   central_stays step lasts phased same heard rests has =
       let d = facts_after central c step in
-      linked_on central peripheral turns turns answers answers c p d p a (plain_step central c step a.plain.0, a.plain.1)
+      linked_on central peripheral turns turns answers answers c p d p a
       (λ lasting. sym lasts ∙ lasting) (λ lasting. lasting)
       (λ l reached running s keys. shown central peripheral turns answers l d p reached
       (central_shows central peripheral turns answers l c p s l.joint.central d (s.central_part ∙ sym phased) same heard (rests s.central_rests))
@@ -378,7 +375,7 @@ module _ (central peripheral : Setup) (ends : AreEnds central peripheral) (turns
       → AreLinked central peripheral turns answers c (facts_after peripheral p step)
   peripheral_stays step lasts phased same heard rests has =
       let d = facts_after peripheral p step in
-      linked_on central peripheral turns turns answers answers c p c d a (a.plain.0, plain_step peripheral p step a.plain.1)
+      linked_on central peripheral turns turns answers answers c p c d a
       (λ lasting. lasting) (λ lasting. sym lasts ∙ lasting)
       (λ l reached running s keys. shown central peripheral turns answers l c d reached
       (peripheral_shows central peripheral turns answers l c p s l.joint.peripheral d (s.peripheral_part ∙ sym phased) same heard (rests s.peripheral_rests))

@@ -40,7 +40,6 @@ pub mod PeripheralSteps
 pub mod PhaseTests
 pub mod PhasedEnds
 pub mod PhasedKept
-pub mod PlainEnds
 pub mod ReachedRuns
 pub mod Reaching
 pub mod Reading

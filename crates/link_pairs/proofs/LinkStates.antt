@@ -56,6 +56,10 @@ module _ (central peripheral : Setup) (ends : AreEnds central peripheral) (l : L
   pub peripheral_keeps_none : l.joint.peripheral.kept ≡ None
   peripheral_keeps_none = ap (λ (j : Joint). j.peripheral.kept) (sym same) ∙ v.standing.shown.peripheral.kept
 
+  -- its session is in its phase
+  pub peripheral_in_phase : k.peripheral.end.phase ≡ l.joint.peripheral.phase
+  peripheral_in_phase = v.standing.peripheral.phase_too ∙ ap (λ (j : Joint). j.peripheral.phase) same
+
   pub opens_up : is_settled l.joint.up ≡ true → CanOpen k.peripheral.end k.central.end ⊎ HasNothing l.joint.peripheral
   opens_up settled =
       subst (λ (j : Joint). CanOpen k.peripheral.end k.central.end ⊎ HasNothing j.peripheral) same

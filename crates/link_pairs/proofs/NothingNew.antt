@@ -28,16 +28,13 @@ use Rattle.link_model.specs.declared.state.Leaving.{Leaving}
 use Rattle.link_model.specs.Fixing.{data_cut, fixed_anew}
 use Rattle.link_model.specs.Hosts.{asked_unless, ends_without_key, first_slot, is_to_come, key_step, leaving_from_if}
 use Rattle.link_model.specs.Payload.{payload_made}
-use Rattle.link_model.specs.Plain.{IsPlain}
 use Rattle.link_model.specs.Receiving.{lengths_seen}
 use Rattle.link_model.specs.Step.{Step, DataGiven, DataReported, Disconnected, EventEntered, KeyAnswered, PacketReceived, PacketSent, PduFixed, ProcedureAsked, RequestAnswered, WordsGiven}
 use Rattle.link_model.specs.enc_phase.Phases.{is_quiet}
 use Rattle.link_model.specs.enc_phase.Sealing.{EncEnd}
-use Rattle.link_model.proofs.Plain.{step_plain}
 use Rattle.link_pairs.specs.Ends.{phased_of}
 use Rattle.link_pairs.specs.Hosts.{MayHost}
 use Rattle.link_pairs.specs.Parting.{ArePartingFrom, HasFittingPdu, HasNothing, HasSentTerminate, HasTakenTerminate, IsOpenedBy, LacksKey, SendsNoControl}
-use Rattle.link_pairs.specs.Shown.{EncryptsNothing}
 use Rattle.link_pairs.specs.Turns.{entered_if, entered_in, prepared}
 use Rattle.link_pairs.specs.Ways.{IsUnseen}
 use Rattle.link_pairs.proofs.Fixing.{anew_piece, fixed_payload, piece_no_control}
@@ -50,7 +47,6 @@ use Rattle.link_pairs.proofs.TakingNothing.{TakesNothing, answers_nothing, asks_
 -- ---- an end that sends and hears nothing new
 
 pub record HasNothingNew (setup : Setup) (before now : Facts) : Type 0 where
-  pub plain : IsPlain setup.link.role before → IsPlain setup.link.role now
   pub control : TakesNothing before.control now.control
   -- where its link is to end, its phase and its session stay
   pub end : is_open before.control.table.closing ≡ false → now.encryption.end ≡ before.encryption.end
@@ -66,7 +62,6 @@ pub record HasNothingNew (setup : Setup) (before now : Facts) : Type 0 where
 pub nothing_then : (setup : Setup) (a b c : Facts) → HasNothingNew setup a b → HasNothingNew setup b c → HasNothingNew setup a c
 nothing_then setup a b c one two =
     record {
-      plain = λ is. two.plain (one.plain is);
       control = takes_then a.control b.control c.control one.control two.control;
       end = λ shut. two.end (ap is_open (one.control.table.closing shut) ∙ shut) ∙ one.end shut;
       phase = λ shut. two.phase (ap is_open (one.control.table.closing shut) ∙ shut) ∙ one.phase shut;
@@ -143,13 +138,6 @@ module _ (setup : Setup) (before now : Facts) (nothing : HasNothingNew setup bef
         fits = fits_still other took.made took.fits;
       }
 
-  plain_still : EncryptsNothing setup before → EncryptsNothing setup now
-  plain_still is =
-      record {
-        plain = nothing.plain is.plain;
-        payload = nothing.payload ∙ is.payload ∙ ap (λ (pdu : Pdu). pdu.body) (sym last_same);
-      }
-
 -- ---- two ends that part
 
 module _ (taker sender : Setup) (t s : Facts) (parting : ArePartingFrom taker sender t s) where
@@ -160,8 +148,6 @@ module _ (taker sender : Setup) (t s : Facts) (parting : ArePartingFrom taker se
         took = took_still taker t now nothing sender parting.took;
         sent = parting.sent;
         opens = opened_still taker t now nothing s.encryption.end parting.took.made parting.took.closing parting.opens;
-        taker_plain = plain_still taker t now nothing parting.taker_plain;
-        sender_plain = parting.sender_plain;
         agreement = subst (λ (a : Acknowledgement). AreInAgreement a s.acknowledgement) same parting.agreement;
         unseen = subst (λ (a : Acknowledgement). IsUnseen s.acknowledgement a) same parting.unseen;
         seen = subst (λ (a : Acknowledgement). a.acked ≡ length s.acknowledgement.accepted) same parting.seen;
@@ -177,8 +163,6 @@ module _ (taker sender : Setup) (t s : Facts) (parting : ArePartingFrom taker se
         took = parting.took;
         sent = sent_still sender s now nothing taker parting.sent;
         opens = subst (λ (e : EncEnd). IsOpenedBy e parting.took.made t) (sym (nothing.end parting.sent.shut)) parting.opens;
-        taker_plain = parting.taker_plain;
-        sender_plain = plain_still sender s now nothing parting.sender_plain;
         agreement = subst (λ (a : Acknowledgement). AreInAgreement t.acknowledgement a) same parting.agreement;
         unseen = subst (λ (a : Acknowledgement). IsUnseen a t.acknowledgement) same parting.unseen;
         seen = subst (λ (a : Acknowledgement). t.acknowledgement.acked ≡ length a.accepted) same parting.seen;
@@ -190,7 +174,6 @@ module _ (taker sender : Setup) (t s : Facts) (parting : ArePartingFrom taker se
 pub same_still : (setup : Setup) (facts : Facts) → HasNothingNew setup facts facts
 same_still setup facts =
     record {
-      plain = λ is. is;
       control = takes_none facts.control;
       lacks = λ is. is;
       end = λ shut. refl;
@@ -207,7 +190,6 @@ same_still setup facts =
 pub event_still : (setup : Setup) (facts : Facts) (e : ConnectionEvent) → HasNothingNew setup facts (record facts { event = e })
 event_still setup facts e =
     record {
-      plain = λ is. record { encryption = is.encryption; control = is.control };
       control = takes_none facts.control;
       lacks = λ is. record { role = is.role; asked = is.asked; none = is.none };
       end = λ shut. refl;
@@ -338,7 +320,6 @@ pub host_still : (setup : Setup) (facts : Facts) (step : Step) → MayHost step 
 host_still setup facts step m =
     let host = hosted setup facts step m in
     record {
-      plain = step_plain setup facts step;
       control = host.control;
       lacks = host.lacks;
       end = host.end;
@@ -354,11 +335,9 @@ host_still setup facts step m =
 -- ---- a turn begins
 
 entered_still : (goes : Bool) (setup : Setup) (slot : ℕ) (facts : Facts)
-    → (IsPlain setup.link.role facts → IsPlain setup.link.role (facts_entered_if goes setup slot facts))
     → HasNothingNew setup facts (facts_entered_if goes setup slot facts)
-entered_still true setup slot facts plain =
+entered_still true setup slot facts =
     record {
-      plain = plain;
       control = entered_nothing slot facts;
       lacks = λ is. subst LacksKey (sym (entered_phased setup slot facts)) (stays_lacking (Enters slot) (phased_of facts) is);
       end = λ shut. (enters_shut (keyed_of facts) shut slot).end;
@@ -370,16 +349,15 @@ entered_still true setup slot facts plain =
       stays = refl;
       answered = λ is. is;
     }
-entered_still false setup slot facts plain = same_still setup facts
+entered_still false setup slot facts = same_still setup facts
 
 entered_if_still : (enters : Bool) (setup : Setup) (slot : ℕ) (facts : Facts) → HasNothingNew setup facts (entered_if enters setup slot facts)
-entered_if_still true setup slot facts = entered_still (goes_on facts) setup slot facts (step_plain setup facts (EventEntered slot))
+entered_if_still true setup slot facts = entered_still (goes_on facts) setup slot facts
 entered_if_still false setup slot facts = same_still setup facts
 
 pub anew_still : (setup : Setup) (facts : Facts) → HasNothingNew setup facts (fixed_anew facts)
 anew_still setup facts =
     record {
-      plain = λ is. record { encryption = is.encryption; control = is.control };
       control = takes_none facts.control;
       lacks = λ is. record { role = is.role; asked = is.asked; none = is.none };
       end = λ shut. refl;

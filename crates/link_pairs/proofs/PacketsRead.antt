@@ -109,9 +109,15 @@ module _ (whole : IsHeardWhole) (from to : Setup) (slot : ℕ) (facts listener :
 
   -- a packet that is not forged, and not read as another
   module _ (pure : is_mixed to listener octets facts.acknowledgement.last ≡ false) (genuine : is_forged to listener octets ≡ false) where
-    pub read_pure : AreRead to listener slot octets facts.acknowledgement
-    read_pure = by (opened_or whole from to slot facts listener channel octets made fields is same last pure)
+    opened_pure : IsOpened is.before listener
+    opened_pure = by (opened_or whole from to slot facts listener channel octets made fields is same last pure)
       where
-        by : IsOpened is.before listener ⊎ (is_forged to listener octets ≡ true) → AreRead to listener slot octets facts.acknowledgement
-        by (inl opens) = are_read opens
+        by : IsOpened is.before listener ⊎ (is_forged to listener octets ≡ true) → IsOpened is.before listener
+        by (inl opens) = opens
         by (inr wrong) = absurd (let never = sym wrong ∙ genuine in cc)
+
+    pub read_pure : AreRead to listener slot octets facts.acknowledgement
+    read_pure = are_read opened_pure
+
+    pub understood_pure : IsUnderstood from is.before to listener
+    understood_pure = understood_it opened_pure

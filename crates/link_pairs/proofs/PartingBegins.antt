@@ -29,11 +29,10 @@ use Rattle.link_model.specs.enc_phase.Sealing.{EncEnd}
 use Rattle.link_model.specs.keyed_control.KeyedSteps.{SeesAcknowledged, end_changed, keyed_moved}
 use Rattle.link_model.specs.Receiving.{accepts, acknowledged_if, answers_with_control, facts_before_taking, facts_hearing, heard_in_slot, replies_by, replies_of}
 use Rattle.link_model.specs.Sending.{control_gone_if, data_sent_as, facts_sent}
-use Rattle.link_model.specs.Step.{PacketReceived}
 use Rattle.link_pairs.specs.Ends.{AreEnds, is_lasting, phased_of}
 use Rattle.link_pairs.specs.Hearing.{IsPacketOf, answered, is_mixed, received}
 use Rattle.link_pairs.specs.Parting.{ArePartingFrom, HasNothing}
-use Rattle.link_pairs.specs.Shown.{AreLinked, EncryptsNothing, HasKeys, HaveKeys, Shows, keys_of, link_of}
+use Rattle.link_pairs.specs.Shown.{AreLinked, HasKeys, HaveKeys, Shows, keys_of, link_of}
 use Rattle.link_pairs.specs.Turns.{HasFixed, HaveBegun, sent_if}
 use Rattle.link_pairs.proofs.Answering.{all_same, answers_plainly, fixed_again, gone_same, taken, took}
 use Rattle.link_pairs.proofs.BothMeet.{down_meets, fits_down_it, fits_up_it, genuine, lasts, peripheral_receives, up_meets}
@@ -47,7 +46,6 @@ use Rattle.link_pairs.proofs.KeysHeld.{acked_has}
 use Rattle.link_pairs.proofs.PeripheralSteps.{may_parts}
 use Rattle.link_pairs.proofs.PhasedEnds.{acked_alone, acked_if, acked_phased, asks_none, gone_if, gone_phased}
 use Rattle.link_pairs.proofs.PacketsRead.{AreRead, read_pure}
-use Rattle.link_pairs.proofs.PlainEnds.{plain_step}
 use Rattle.link_pairs.proofs.Replying.{good_not_forged, replies_as}
 use Rattle.link_pairs.proofs.ReachedRuns.{requests_none}
 use Rattle.link_pairs.proofs.Reaching.{IsReached, comes, joint_at, keys_at, reached_by}
@@ -79,12 +77,12 @@ module _ (whole : IsHeardWhole) (central peripheral : Setup) (ends : AreEnds cen
   read : AreRead central c slot octets p.acknowledgement
   read =
       read_pure whole peripheral central slot p c channel octets (keys_of central peripheral linked.steps).peripheral.made (sym ends.one_link.fields) packet same
-      (fits_up_it central peripheral ends slot true c p l reached running shows keys linked.plain (lasts c central_lasts) (lasts p peripheral_lasts) room
+      (fits_up_it central peripheral ends slot true c p l reached running shows keys (lasts c central_lasts) (lasts p peripheral_lasts) room
       (sent_packet peripheral slot p channel octets packet).out) pure (genuine central c slot octets room (lasts c central_lasts) ended)
 
   meets : Meets central peripheral slot room read.header c p l.joint.up l.joint.down
   meets =
-      up_meets central peripheral ends slot true c p l reached running shows keys linked.plain (lasts c central_lasts) (lasts p peripheral_lasts) room octets read
+      up_meets central peripheral ends slot true c p l reached running shows keys (lasts c central_lasts) (lasts p peripheral_lasts) room octets read
 
   abbrev heard : Facts
   heard = received central slot octets room c
@@ -97,9 +95,6 @@ module _ (whole : IsHeardWhole) (central peripheral : Setup) (ends : AreEnds cen
 
   ended_so : is_some (facts_hearing Central slot room header p.acknowledgement.last c).leaving.ended_by_peer ≡ true
   ended_so = ap (λ (f : Facts). is_some f.leaving.ended_by_peer) (sym heard_as) ∙ ended
-
-  plain_so : EncryptsNothing central (facts_hearing Central slot room header p.acknowledgement.last c)
-  plain_so = subst (EncryptsNothing central) heard_as (plain_step central c (PacketReceived slot octets room) linked.plain.0)
 
   -- ---- its last PDU is acknowledged, if that was taken
 
@@ -171,17 +166,17 @@ module _ (whole : IsHeardWhole) (central peripheral : Setup) (ends : AreEnds cen
       by
       (opens_down central peripheral ends l reached running may_ack taken_last refl
       (settles central peripheral ends l reached running taken_last refl
-      (settled_then central peripheral slot room header c p Central l.joint.up l.joint.down meets kept_none ended_so plain_so all)))
+      (settled_then central peripheral slot room header c p Central l.joint.up l.joint.down meets kept_none ended_so all)))
     where
       by : CanOpen then_acked.central.end then_acked.peripheral.end ⊎ HasNothing then_acked.joint.central
           → CanOpen (facts_hearing Central slot room header p.acknowledgement.last c).encryption.end p.encryption.end
           ⊎ HasNothing (phased_of (facts_hearing Central slot room header p.acknowledgement.last c))
       by (inl can) =
-          inl (can_heard central peripheral slot room header c p Central l.joint.up l.joint.down meets kept_none ended_so plain_so
+          inl (can_heard central peripheral slot room header c p Central l.joint.up l.joint.down meets kept_none ended_so
           (subst (λ (e : EncEnd). CanOpen e p.encryption.end) seen_end
           (subst (CanOpen then_acked.central.end) (acked_peripheral central peripheral ends l reached running taken_last ∙ keys.peripheral_keys.session) can)))
       by (inr none) =
-          inr (nothing_heard central peripheral slot room header c p Central l.joint.up l.joint.down meets kept_none ended_so plain_so (subst HasNothing seen_part none))
+          inr (nothing_heard central peripheral slot room header c p Central l.joint.up l.joint.down meets kept_none ended_so (subst HasNothing seen_part none))
 
   never_peripheral : (role : Role) → role ≡ Central → role ≡ Peripheral → ⊥
   never_peripheral Central is other = absurd (cc)
@@ -191,7 +186,7 @@ module _ (whole : IsHeardWhole) (central peripheral : Setup) (ends : AreEnds cen
   central_took =
       subst (λ (f : Facts). ArePartingFrom central peripheral f p) (sym heard_as)
       (part central peripheral (facts_hearing Central slot room header p.acknowledgement.last c) p
-      (to_part central peripheral slot room header c p Central l.joint.up l.joint.down meets kept_none ended_so plain_so) next
+      (to_part central peripheral slot room header c p Central l.joint.up l.joint.down meets kept_none ended_so) next
       (ap is_control (central_fixed Central slot room header p.acknowledgement.last c refl) ∙ shows.central_rests.none_gone)
       (λ is. absurd (never_peripheral central.link.role ends.is_central is)))
 
@@ -238,17 +233,17 @@ module _ (whole : IsHeardWhole) (central peripheral : Setup) (ends : AreEnds cen
   read_down : AreRead peripheral p slot octets c.acknowledgement
   read_down =
       read_pure whole central peripheral slot c p channel octets (keys_of central peripheral begun.linked.steps).central.made ends.one_link.fields packet same
-      (fits_down_it central peripheral ends slot false c p link_down reached_down running_down shows_down keys_down begun.linked.plain (lasts c central_lasts)
+      (fits_down_it central peripheral ends slot false c p link_down reached_down running_down shows_down keys_down (lasts c central_lasts)
       (lasts p peripheral_lasts) room (sent_packet central slot c channel octets packet).out) pure (genuine peripheral p slot octets room (lasts p peripheral_lasts) ended)
 
   meets_down : Meets peripheral central slot room read_down.header p c link_down.joint.down link_down.joint.up
   meets_down =
-      down_meets central peripheral ends slot false c p link_down reached_down running_down shows_down keys_down begun.linked.plain (lasts c central_lasts) (lasts p peripheral_lasts) room octets
+      down_meets central peripheral ends slot false c p link_down reached_down running_down shows_down keys_down (lasts c central_lasts) (lasts p peripheral_lasts) room octets
       read_down
 
   receives_down : p.control.table.lengths.peer_rx ≤ central.link.max_rx
   receives_down =
-      peripheral_receives central peripheral ends slot false c p link_down reached_down running_down shows_down keys_down begun.linked.plain (lasts c central_lasts) (lasts p peripheral_lasts) room
+      peripheral_receives central peripheral ends slot false c p link_down reached_down running_down shows_down keys_down (lasts c central_lasts) (lasts p peripheral_lasts) room
 
   abbrev heard_down : Facts
   heard_down = received peripheral slot octets room p
@@ -290,9 +285,6 @@ module _ (whole : IsHeardWhole) (central peripheral : Setup) (ends : AreEnds cen
 
   ended_down : is_some (facts_hearing Peripheral slot room header_down c.acknowledgement.last p).leaving.ended_by_peer ≡ true
   ended_down = ap (λ (f : Facts). is_some f.leaving.ended_by_peer) (sym heard_hearing) ∙ ended
-
-  plain_down : EncryptsNothing peripheral (facts_hearing Peripheral slot room header_down c.acknowledgement.last p)
-  plain_down = subst (EncryptsNothing peripheral) heard_hearing (plain_step peripheral p (PacketReceived slot octets room) begun.linked.plain.1)
 
   -- ---- its last PDU is acknowledged, and its fixed one leaves its queue, or neither is so
 
@@ -367,20 +359,20 @@ module _ (whole : IsHeardWhole) (central peripheral : Setup) (ends : AreEnds cen
   next_fixed all =
       by
       (opens_up central peripheral ends link_down reached_down running_down
-      (settled_then peripheral central slot room header_down p c Peripheral link_down.joint.down link_down.joint.up meets_down kept_down ended_down plain_down all))
+      (settled_then peripheral central slot room header_down p c Peripheral link_down.joint.down link_down.joint.up meets_down kept_down ended_down all))
     where
       by : CanOpen own.end (keys_at central peripheral link_down reached_down).central.end ⊎ HasNothing link_down.joint.peripheral
           → CanOpen (facts_hearing Peripheral slot room header_down c.acknowledgement.last p).encryption.end c.encryption.end
           ⊎ (is_empty (pdu_fixed (facts_hearing Peripheral slot room header_down c.acknowledgement.last p)) ≡ true)
       by (inl can) =
-          inl (can_heard peripheral central slot room header_down p c Peripheral link_down.joint.down link_down.joint.up meets_down kept_down ended_down plain_down
+          inl (can_heard peripheral central slot room header_down p c Peripheral link_down.joint.down link_down.joint.up meets_down kept_down ended_down
           (subst (λ (e : EncEnd). CanOpen e c.encryption.end) (sym earlier_end) (subst (CanOpen own.end) keys_down.central_keys.session can)))
       by (inr none) = inr (fixed_empty (subst HasNothing shows_down.peripheral_part none))
 
   parts : AreToPart peripheral central heard_down c
   parts =
       subst (λ (f : Facts). AreToPart peripheral central f c) (sym heard_hearing)
-      (to_part peripheral central slot room header_down p c Peripheral link_down.joint.down link_down.joint.up meets_down kept_down ended_down plain_down)
+      (to_part peripheral central slot room header_down p c Peripheral link_down.joint.down link_down.joint.up meets_down kept_down ended_down)
 
   opens_fixed : OpensFixed heard_down c
   opens_fixed = subst (λ (f : Facts). OpensFixed f c) (sym heard_hearing) next_fixed

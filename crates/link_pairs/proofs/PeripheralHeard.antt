@@ -12,11 +12,10 @@ use Rattle.link_model.specs.Packets.{is_forged}
 use Rattle.link_model.specs.Receiving.{ended_by_forgery, replies_of}
 use Rattle.link_model.specs.Step.{PacketReceived, PacketSent}
 use Rattle.link_model.proofs.Hearing.{IsHeardWhole}
-use Rattle.link_pairs.proofs.PlainEnds.{plain_after_if, plain_step}
 use Rattle.link_pairs.specs.Ends.{AreEnds, heard_turns, is_lasting}
 use Rattle.link_pairs.specs.Hearing.{IsPacketOf, is_mixed, received}
 use Rattle.link_pairs.specs.Hearing as hearing
-use Rattle.link_pairs.specs.Shown.{AreLinked, ArePlain, HaveKeys, Shows, link_of}
+use Rattle.link_pairs.specs.Shown.{AreLinked, HaveKeys, Shows, link_of}
 use Rattle.link_pairs.specs.Turns.{AreReady, HaveBegun, sent_if}
 use Rattle.link_pairs.proofs.Replying.{forged_unanswered, received_forged}
 use Rattle.link_pairs.proofs.LastPdus.{last_reached}
@@ -54,7 +53,6 @@ module _ (heard : IsHeardWhole) (central peripheral : Setup) (slot : ℕ) (c p :
             running = running;
             shows = s;
             keys = keys;
-            plain = begun.linked.plain.1.plain;
             out_last =
                 ap (λ (x : Phased). x.control.table.out) (sym s.peripheral_part) ∙ (last_reached central peripheral ends l reached).peripheral;
             bits = is.bits;
@@ -104,13 +102,6 @@ module _ (heard : IsHeardWhole) (central peripheral : Setup) (slot : ℕ) (c p :
       lasts_before peripheral p (PacketReceived slot octets room)
       (lasts_before_if replies_then peripheral (received peripheral slot octets room p) (PacketSent slot) is)
 
-  plain_then : ArePlain central peripheral c answer_now
-  plain_then = (
-    begun.linked.plain.0,
-    plain_after_if replies_then peripheral (received peripheral slot octets room p) (PacketSent slot)
-        (plain_step peripheral p (PacketReceived slot octets room) begun.linked.plain.1),
-  )
-
   pub hears_linked : AreLinked central peripheral (slot + 1) replies_then c answer_now
   hears_linked = by (is_running (link_of central peripheral begun.linked.steps).joint) refl
     where
@@ -121,6 +112,6 @@ module _ (heard : IsHeardWhole) (central peripheral : Setup) (slot : ℕ) (c p :
           let s = begun.linked.shows running in
           let keys = begun.linked.keys running in
           linked central peripheral (slot + 1) replies_then c answer_now
-          (hears_on (begun.ready running) l reached running s keys (read (begun.ready running) l reached running s keys)) plain_then
+          (hears_on (begun.ready running) l reached running s keys (read (begun.ready running) l reached running s keys))
       by false stopped =
-          linked_stopped central peripheral (slot + 1) (slot + 1) false replies_then c p c answer_now begun.linked plain_then (λ is. is) lasts_then stopped
+          linked_stopped central peripheral (slot + 1) (slot + 1) false replies_then c p c answer_now begun.linked (λ is. is) lasts_then stopped

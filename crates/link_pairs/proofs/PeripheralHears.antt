@@ -37,11 +37,9 @@ use Rattle.link_model.specs.declared.state.Leaving.{Leaving}
 use Rattle.link_model.specs.Controls.{is_quiet_now, is_terminate, next_control}
 use Rattle.link_model.specs.Facts.{Encryption, Facts, keyed_of}
 use Rattle.link_model.specs.Packets.{good_pdu}
-use Rattle.link_model.specs.Plain.{IsPlain}
-use Rattle.link_model.specs.Receiving.{accepts, facts_hearing, has_ended, heard_in_slot, replies_by, replies_of, taken_if}
+use Rattle.link_model.specs.Receiving.{accepts, facts_hearing, has_ended, replies_by, replies_of, taken_if}
 use Rattle.link_model.specs.Step.{PacketSent}
 use Rattle.link_model.specs.Sending.{control_gone_if, fixed_sent, takes_leave}
-use Rattle.link_model.proofs.Plain.{acknowledged_stays, heard_plain}
 use Rattle.link_pairs.specs.Ends.{AreEnds, HasExchange, heard_turns, is_lasting, phased_of, turns_at}
 use Rattle.link_pairs.specs.Hearing.{received}
 use Rattle.link_pairs.specs.Hearing as hearing
@@ -119,8 +117,6 @@ module _ (central peripheral : Setup) (slot : ℕ) (l : Link) (c p : Facts) (hea
     pub running : is_running l.joint ≡ true
     pub shows : Shows central peripheral (slot + 1) false l c p
     pub keys : HaveKeys (keys_at central peripheral l reached) c p
-    -- as long as no link encrypts
-    pub plain : IsPlain peripheral.link.role p
     pub out_last : p.control.table.out ≡ outgoing_on l.joint.up
     pub bits : HasBitsOf c.acknowledgement header
     pub out : is_acked c.acknowledgement ≡ false
@@ -187,10 +183,6 @@ module _ (central peripheral : Setup) (slot : ℕ) (l : Link) (c p : Facts) (hea
 
     seen_is : phased_of before ≡ acked_if (acks && is_control p.acknowledgement.last) (phased_of p)
     seen_is = acked_phased (acks && is_control p.acknowledgement.last) (keyed_of p)
-
-    plain_before : IsPlain peripheral.link.role before
-    plain_before =
-        acknowledged_stays peripheral.link.role acks (heard_in_slot slot header.md p) (heard_plain peripheral.link.role slot header.md p m.plain)
 
     goes : GoesOn l.joint
     goes = goes_on l.joint m.running
@@ -260,7 +252,7 @@ module _ (central peripheral : Setup) (slot : ℕ) (l : Link) (c p : Facts) (hea
 
     pub fixes : FixesNext (phased_of c) l.joint.down (cleared l.joint.up) slot before (is_acked before.acknowledgement) before.fixes_control fixing
     fixes =
-        fixes_next (phased_of c) l.joint.down (cleared l.joint.up) slot before seen_lasts seen_keeps.fits.control plain_before.control
+        fixes_next (phased_of c) l.joint.down (cleared l.joint.up) slot before seen_lasts seen_keeps.fits.control
         (clear_seen p.acknowledgement c.acknowledgement acks fresh says agreed l.joint.up s.up)
         (m.has_fixed.control ∙ ap (λ (next : Option Ctrl). is_some next) (sym next_same))
         (λ is. let first = m.has_fixed.data_first (sym (ap is_data fixed_same) ∙ is) in (

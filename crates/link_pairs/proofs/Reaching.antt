@@ -20,7 +20,7 @@ use Rattle.joint_laws.specs.joint_controls.phased_control.Phased.{Phased}
 use Rattle.link_model.specs.Controls.{goes_on}
 use Rattle.link_model.specs.Facts.{Facts}
 use Rattle.link_pairs.specs.Ends.{AreEnds, is_lasting}
-use Rattle.link_pairs.specs.Shown.{AreLinked, ArePlain, HaveKeys, Shows, keys_of, link_of, new_link}
+use Rattle.link_pairs.specs.Shown.{AreLinked, HaveKeys, Shows, keys_of, link_of, new_link}
 
 -- a test that holds and does not
 pub not_both : {A : Type 0} (b : Bool) → b ≡ false → b ≡ true → A
@@ -180,44 +180,42 @@ module _ (central peripheral : Setup) where
         lasts = λ central_lasts peripheral_lasts. absurd (never central_lasts peripheral_lasts);
       }
 
-  pub linked : (turns : ℕ) (answers : Bool) (c p : Facts) → IsShown turns answers c p → ArePlain central peripheral c p
+  pub linked : (turns : ℕ) (answers : Bool) (c p : Facts) → IsShown turns answers c p
       → AreLinked central peripheral turns answers c p
-  linked turns answers c p s plain =
+  linked turns answers c p s =
       record {
         steps = s.reached.steps;
         may = s.reached.may;
         in_range = s.reached.in_range;
         shows = subst (λ (l : Link). is_running l.joint ≡ true → Shows central peripheral turns answers l c p) (sym s.reached.reaches) s.shows;
         keys = subst (λ (l : Link). is_running l.joint ≡ true → HaveKeys (keys_at s.link s.reached) c p) (sym s.reached.reaches) s.keys;
-        plain = plain;
         lasts = subst (λ (l : Link). is_lasting c ≡ true → is_lasting p ≡ true → is_running l.joint ≡ true) (sym s.reached.reaches) s.lasts;
       }
 
   -- a run that has stopped stays so; where the link lasts at an end, it lasted before
   abbrev pub linked_stopped : (turns later : ℕ) (answers answered : Bool) (c p d q : Facts) (a : AreLinked central peripheral turns answers c p)
-      → ArePlain central peripheral d q → (is_lasting d ≡ true → is_lasting c ≡ true) → (is_lasting q ≡ true → is_lasting p ≡ true)
+      → (is_lasting d ≡ true → is_lasting c ≡ true) → (is_lasting q ≡ true → is_lasting p ≡ true)
       → is_running (link_of central peripheral a.steps).joint ≡ false → AreLinked central peripheral later answered d q
-  linked_stopped turns later answers answered c p d q a plain central_before peripheral_before stopped =
+  linked_stopped turns later answers answered c p d q a central_before peripheral_before stopped =
       record {
         steps = a.steps;
         may = a.may;
         in_range = a.in_range;
         shows = not_both (is_running (link_of central peripheral a.steps).joint) stopped;
         keys = not_both (is_running (link_of central peripheral a.steps).joint) stopped;
-        plain = plain;
         lasts = λ central_lasts peripheral_lasts. a.lasts (central_before central_lasts) (peripheral_before peripheral_lasts);
       }
 
   -- where the run goes on the link goes on to what shows what they hold now
   pub linked_on : (turns later : ℕ) (answers answered : Bool) (c p d q : Facts) → AreLinked central peripheral turns answers c p
-      → ArePlain central peripheral d q → (is_lasting d ≡ true → is_lasting c ≡ true) → (is_lasting q ≡ true → is_lasting p ≡ true)
+      → (is_lasting d ≡ true → is_lasting c ≡ true) → (is_lasting q ≡ true → is_lasting p ≡ true)
       → ((l : Link) (reached : IsReached l) → is_running l.joint ≡ true → Shows central peripheral turns answers l c p → HaveKeys (keys_at l reached) c p
       → IsShown later answered d q)
       → AreLinked central peripheral later answered d q
-  linked_on turns later answers answered c p d q a plain central_before peripheral_before next = by (is_running (link_of central peripheral a.steps).joint) refl
+  linked_on turns later answers answered c p d q a central_before peripheral_before next = by (is_running (link_of central peripheral a.steps).joint) refl
     where
       by : (b : Bool) → is_running (link_of central peripheral a.steps).joint ≡ b → AreLinked central peripheral later answered d q
       by true running =
           linked later answered d q
-          (next (link_of central peripheral a.steps) (reached_by a.steps a.may a.in_range) running (a.shows running) (a.keys running)) plain
-      by false stopped = linked_stopped turns later answers answered c p d q a plain central_before peripheral_before stopped
+          (next (link_of central peripheral a.steps) (reached_by a.steps a.may a.in_range) running (a.shows running) (a.keys running))
+      by false stopped = linked_stopped turns later answers answered c p d q a central_before peripheral_before stopped

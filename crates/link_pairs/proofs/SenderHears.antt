@@ -13,7 +13,7 @@ use Rattle.link_model.specs.Setup.{Setup}
 use Rattle.link_model.proofs.Hearing.{IsHeardWhole}
 use Rattle.link_model.specs.Controls.{goes_on, is_procedure_pdu, is_terminate}
 use Rattle.link_model.specs.Facts.{Facts}
-use Rattle.link_model.specs.Packets.{good_pdu, is_forged}
+use Rattle.link_model.specs.Packets.{good_pdu, is_forged, verdict_of}
 use Rattle.link_model.specs.Receiving.{accepted_if, data_taken_if, facts_hearing, has_ended, procedures_take_if, replies_by, replies_of}
 use Rattle.link_model.specs.Step.{PacketReceived}
 use Rattle.link_model.specs.Times.{ended_by_procedures}
@@ -90,6 +90,10 @@ module _ (whole : IsHeardWhole) (taker sender : Setup) (fields : taker.link.fiel
   agreed : AreInAgreement s.acknowledgement t.acknowledgement
   agreed = turned t.acknowledgement s.acknowledgement parting.agreement
 
+  -- it is good or forged
+  pub judged_so : verdict_of sender s octets ≡ (if is_forged sender s octets then Forged else Good)
+  judged_so = judged whole taker sender slot t s channel octets parting.took.made fields packet same last
+
   -- it is read as another only where it is mixed
   module _ (opened : IsOpenedThere) where
     some : Counts whole opened taker sender slot t s channel octets parting.took.made s.encryption.end fields packet same last agreed refl
@@ -165,9 +169,7 @@ module _ (whole : IsHeardWhole) (taker sender : Setup) (fields : taker.link.fiel
     pub ends_forged : EndsForged sender s slot octets room
     ends_forged =
         record {
-          judged =
-              judged whole taker sender slot t s channel octets parting.took.made fields packet same last
-              ∙ ap (λ (b : Bool). if b then Forged else Good) forged;
+          judged = judged_so ∙ ap (λ (b : Bool). if b then Forged else Good) forged;
           ends =
               ap (λ (f : Facts). f.control.ends) (received_forged sender s slot octets room forged) ∙ forged_code s.control parting.sent.goes_on;
           answers_none = ap (λ (b : Bool). sent_if b sender slot (received sender slot octets room s)) (forged_unanswered sender s slot octets room forged);

@@ -19,7 +19,6 @@ use Rattle.control_octets.proofs.Pdus.{written_short}
 use Rattle.control_octets.proofs.Steps.{stays_fitting}
 use Rattle.joint_laws.specs.joint_controls.phased_control.Phased.{Phased}
 use Rattle.joint_laws.specs.joint_controls.phased_control.Taken.{Sends, phased_after}
-use Rattle.unencrypted_ends.specs.Unencrypted.{IsUnencrypted}
 use Rattle.joint_laws.specs.joint_controls.Joint.{CentralSends, CentralSendsData, Clear, Control as control_item, Data as data_item, Item, Joint, JointStep, OnAir, Way, is_running, item_by, may, next_item, next_out, on_air, sends_data}
 use Rattle.joint_laws.proofs.joint_controls.Running.{goes_on}
 use Rattle.joint_keys.specs.KeyedJoint.{Keys, keyed_joint_after_all, keys_sending}
@@ -194,8 +193,7 @@ module _ (central peripheral : Setup) (ends : AreEnds central peripheral) (turns
       have_after [] (step ∷ []) k l.joint d p (joint_at central peripheral l reached) (and_from (may step l.joint) true comes refl)
       (subst (λ (x : Keys). HasKeys x d) (sym (one k.central)) has) (subst (λ (x : Keys). HasKeys x p) (sym (other k.peripheral)) keys.peripheral_keys)
 
-  module _ (fixed : HasFixed c) (piece : IsPiece (tx_of c.control.table.lengths) c.outgoing.fixed) (entered : 1 ≤ c.control.track.entered)
-      (plain : IsUnencrypted c.control) where
+  module _ (fixed : HasFixed c) (piece : IsPiece (tx_of c.control.table.lengths) c.outgoing.fixed) (entered : 1 ≤ c.control.track.entered) where
     goes_alike : GoesAlike (phased_of c)
     goes_alike = subst GoesAlike s.central_part (goes_alike_at central peripheral ends l reached running).0
 
@@ -285,7 +283,7 @@ module _ (central peripheral : Setup) (ends : AreEnds central peripheral) (turns
         pdu_short = subst (λ (pdu : Pdu). length pdu.body ≤ 24) (sym pdu_is) (written_short ctrl)
 
         is_item : IsItem item (pdu_fixed c)
-        is_item = subst (IsItem item) (sym pdu_is) (next_is_control c.control (is_quiet_now c) ctrl lasts s.central_rests.fits plain next)
+        is_item = subst (IsItem item) (sym pdu_is) (next_is_control c.control (is_quiet_now c) ctrl lasts s.central_rests.fits next)
 
         gone_rests : IsAtRest central turns (sent_as true slot (control_gone slot c))
         gone_rests =

@@ -22,13 +22,11 @@ use Rattle.link_model.specs.Controls.{is_quiet_now, next_control, pdu_fixed, pdu
 use Rattle.link_model.specs.Facts.{Encryption, Facts}
 use Rattle.link_model.specs.Fixing.{data_cut, data_fixed_by, data_goes, fixed_anew}
 use Rattle.link_model.specs.Sending.{control_gone_if, data_sent_as, facts_sent, takes_leave}
-use Rattle.link_model.specs.Step.{PacketSent}
 use Rattle.link_model.specs.enc_phase.Phases.{seals}
 use Rattle.link_model.specs.enc_phase.Sealing.{EncEnd}
 use Rattle.link_model.proofs.Acknowledging.{ack_sent}
 use Rattle.link_pairs.specs.Ends.{phased_of}
 use Rattle.link_pairs.specs.Parting.{ArePartingFrom, HasAnswered, HasFittingPdu, HasNothing, HasSentTerminate, IsOpenedOut}
-use Rattle.link_pairs.specs.Shown.{EncryptsNothing}
 use Rattle.link_pairs.specs.Turns.{central_begun, entered_in, prepared, sent_if}
 use Rattle.link_pairs.specs.Ways.{IsUnseen}
 use Rattle.link_pairs.proofs.Answering.{gone_same}
@@ -39,7 +37,6 @@ use Rattle.link_pairs.proofs.HeardCounts.{gone_nothing}
 use Rattle.link_pairs.proofs.Items.{never}
 use Rattle.link_pairs.proofs.NothingNew.{anew_still, entered_in_still, prepared_still, taker_still}
 use Rattle.link_pairs.proofs.HasSent.{HasSent, has_sent}
-use Rattle.link_pairs.proofs.PlainEnds.{plain_step}
 use Rattle.link_pairs.proofs.TakingNothing.{TakesNothing}
 
 -- ---- the PDU that is fixed fits the other end
@@ -168,8 +165,6 @@ pub record AreToPart (taker sender : Setup) (t s : Facts) : Type 0 where
   pub agreement : AreInAgreement t.acknowledgement s.acknowledgement
   pub unseen : IsUnseen s.acknowledgement t.acknowledgement
   pub seen : t.acknowledgement.acked ≡ length s.acknowledgement.accepted
-  pub taker_plain : EncryptsNothing taker t
-  pub sender_plain : EncryptsNothing sender s
 
 -- the next PDU is opened too, or the one that is fixed is empty
 abbrev pub OpensFixed : Facts → Facts → Type 0
@@ -200,8 +195,6 @@ module _ (taker sender : Setup) (t s : Facts) where
         agreement = parts.agreement;
         unseen = parts.unseen;
         seen = parts.seen;
-        taker_plain = parts.taker_plain;
-        sender_plain = parts.sender_plain;
         answers = answers;
       }
 
@@ -220,8 +213,6 @@ module _ (taker sender : Setup) (t s : Facts) where
         agreement = parting.agreement;
         unseen = parting.unseen;
         seen = parting.seen;
-        taker_plain = parting.taker_plain;
-        sender_plain = parting.sender_plain;
       }
 
 module _ (taker sender : Setup) (t s : Facts) (slot : ℕ) (parts : AreToPart taker sender t s) (next : OpensFixed t s) (fixed : FixedFits sender t) where
@@ -293,8 +284,6 @@ module _ (taker sender : Setup) (t s : Facts) (slot : ℕ) (parts : AreToPart ta
           unseen = parts.unseen.unseen;
         };
         seen = has_sent_it.acked ∙ parts.seen;
-        taker_plain = plain_step taker t (PacketSent slot) parts.taker_plain;
-        sender_plain = parts.sender_plain;
       }
 
   pub has_answered : HasAnswered now

@@ -35,7 +35,6 @@ use Rattle.link_model.specs.Receiving.{accepted_if, acknowledged_if, answers_wit
 use Rattle.link_model.specs.Sending.{control_gone_if}
 use Rattle.link_pairs.specs.Ends.{phased_of}
 use Rattle.link_pairs.specs.Parting.{HasFittingPdu, HasNothing, HasSentTerminate, IsOpenedOut, LacksKey, SendsNoControl}
-use Rattle.link_pairs.specs.Shown.{EncryptsNothing}
 use Rattle.link_pairs.specs.Ways.{IsControlPdu, IsUnseen, IsUntaken, ShowsWay}
 use Rattle.link_pairs.proofs.Answering.{acked_fixed, gone_same}
 use Rattle.link_pairs.proofs.Counts.{HasBitsOf, Says, acknowledged_by, is_fresh, says_right, unseen_is_taken}
@@ -316,7 +315,6 @@ module _ (taker sender : Setup) (slot : ℕ) (room : Bool) (header : DataHeader)
     pub sender_made : EncEnd
     pub sender_fits : HasFittingPdu taker sender_made s
     pub sends_so : (on : HasControlOn way s.acknowledgement.last) → ends_link on.ctrl ≡ true → HasSentSo s
-    pub plain : EncryptsNothing sender s
 
   module _ (role : Role) (way other : Way) (m : Meets way other) where
     abbrev heard : Facts
@@ -329,7 +327,7 @@ module _ (taker sender : Setup) (slot : ℕ) (room : Bool) (header : DataHeader)
     acks = acknowledged_by t.acknowledgement header
 
     module _ (kept : is_quiet_now (phased_of earlier_then) ≡ true → (phased_of earlier_then).kept ≡ None)
-        (ended : is_some heard.leaving.ended_by_peer ≡ true) (heard_plain : EncryptsNothing taker heard) where
+        (ended : is_some heard.leaving.ended_by_peer ≡ true) where
       says : Says t.acknowledgement s.acknowledgement acks (is_fresh t.acknowledgement header)
       says = says_right t.acknowledgement s.acknowledgement m.agreement header m.bits m.out
 
@@ -455,8 +453,6 @@ module _ (taker sender : Setup) (slot : ℕ) (room : Bool) (header : DataHeader)
             fits = fits_now role slot room header s.acknowledgement.last t sender m.made m.fits;
             sent = sent_last;
             last = last_opened;
-            taker_plain = heard_plain;
-            sender_plain = m.plain;
             agreement = hearing_agreed role slot room header t s.acknowledgement m.agreement m.bits m.out;
             unseen =
                 subst (IsUnseen s.acknowledgement) (sym counts)

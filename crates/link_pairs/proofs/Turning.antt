@@ -13,11 +13,9 @@ use Rattle.link_model.specs.Facts.{Facts}
 use Rattle.link_model.specs.Fixing.{fixed_anew}
 use Rattle.link_model.specs.Sending.{control_gone_if, facts_sent, takes_leave}
 use Rattle.link_model.specs.Step.{EventEntered, PacketSent, PduFixed}
-use Rattle.link_pairs.proofs.PlainEnds.{plain_after_if}
-use Rattle.unencrypted_ends.specs.Unencrypted.{IsUnencrypted}
 use Rattle.joint_keys.specs.KeyedJoint.{KeyedJoint}
 use Rattle.link_pairs.specs.Ends.{AreEnds, HasExchange, is_lasting, phased_of, turns_at}
-use Rattle.link_pairs.specs.Shown.{AreLinked, ArePlain, EncryptsNothing, HaveKeys, Shows, link_of}
+use Rattle.link_pairs.specs.Shown.{AreLinked, HaveKeys, Shows, link_of}
 use Rattle.link_pairs.specs.Turns.{AreReady, HasFixed, HaveBegun, MayExchange, central_begun, entered_in, fixed_if, prepared, sent_if}
 use Rattle.link_pairs.proofs.Beginning.{begun_keys, begun_runs, begun_shows}
 use Rattle.link_pairs.proofs.ControlKept.{sent_kept}
@@ -155,14 +153,14 @@ module _ (central peripheral : Setup) (ends : AreEnds central peripheral) (slot 
         peripheral_keys = prepared_keys.peripheral_keys;
       }
 
-  pub turn_goes : (transmits : Bool) → MayExchange central slot transmits c → IsUnencrypted (fixed_anew central_in).control
+  pub turn_goes : (transmits : Bool) → MayExchange central slot transmits c
       → IsShown central peripheral (slot + 1) false (central_begun central slot transmits c) (prepared peripheral slot listens p)
-  turn_goes false may plain =
+  turn_goes false may =
       shown central peripheral (slot + 1) false next central_in (prepared peripheral slot listens p) reached_begun prepared_shows prepared_keys (joint_goes_on next.joint runs).stopped
-  turn_goes true may plain =
+  turn_goes true may =
       subst (λ (d : Facts). IsShown central peripheral (slot + 1) false (facts_sent slot d) (prepared peripheral slot listens p)) (sym central_is)
       (packet_goes central peripheral ends (slot + 1) false next reached_begun runs (fixed_anew central_in) (prepared peripheral slot listens p) fixed_shows fixed_keys slot
-      (anew_fixed central_in) (anew_piece central_in) (may refl).0 plain)
+      (anew_fixed central_in) (anew_piece central_in) (may refl).0)
 
 -- ---- the turn, whether the run goes on or not
 
@@ -176,24 +174,11 @@ module _ (setup : Setup) (slot : ℕ) (exchanges : Bool) (facts : Facts) where
   begun_lasted : is_lasting (central_begun setup slot exchanges facts) ≡ true → is_lasting facts ≡ true
   begun_lasted is = prepared_lasted (lasts_before_if exchanges setup (prepared setup slot exchanges facts) (PacketSent slot) is)
 
-  -- as long as no link encrypts, it encrypts nothing
-  entered_plain : EncryptsNothing setup facts → EncryptsNothing setup (entered_in setup slot facts)
-  entered_plain = plain_after_if (next_anchor_of facts.control.track == slot) setup facts (EventEntered slot)
-
-  prepared_plain : EncryptsNothing setup facts → EncryptsNothing setup (prepared setup slot exchanges facts)
-  prepared_plain is = plain_after_if exchanges setup (entered_in setup slot facts) PduFixed (entered_plain is)
-
-  begun_plain : EncryptsNothing setup facts → EncryptsNothing setup (central_begun setup slot exchanges facts)
-  begun_plain is = plain_after_if exchanges setup (prepared setup slot exchanges facts) (PacketSent slot) (prepared_plain is)
-
 module _ (central peripheral : Setup) (slot : ℕ) (answers transmits listens : Bool) (c p : Facts) (ends : AreEnds central peripheral)
     (a : AreLinked central peripheral slot answers c p) (transmits_in : MayExchange central slot transmits c)
     (listens_in : MayExchange peripheral slot listens p) where
   abbrev l : Link
   l = link_of central peripheral a.steps
-
-  plain_now : ArePlain central peripheral (central_begun central slot transmits c) (prepared peripheral slot listens p)
-  plain_now = (begun_plain central slot transmits c a.plain.0, prepared_plain peripheral slot listens p a.plain.1)
 
   -- nothing is heard yet
   ready : (running : is_running l.joint ≡ true)
@@ -214,8 +199,7 @@ module _ (central peripheral : Setup) (slot : ℕ) (answers transmits listens : 
         linked =
             linked central peripheral (slot + 1) false (central_begun central slot transmits c) (prepared peripheral slot listens p)
             (turn_goes central peripheral ends slot answers listens c p l (reached_by central peripheral a.steps a.may a.in_range) running (a.shows running)
-            (a.keys running) transmits transmits_in (entered_plain central slot transmits c a.plain.0).plain.control)
-            plain_now;
+            (a.keys running) transmits transmits_in);
         ready = λ still. ready running;
         transmits_in = begun_exchanges central slot transmits c transmits_in;
         listens_in = prepared_exchanges peripheral slot listens p listens_in;
@@ -223,7 +207,7 @@ module _ (central peripheral : Setup) (slot : ℕ) (answers transmits listens : 
   turn_begun false stopped =
       record {
         linked =
-            linked_stopped central peripheral slot (slot + 1) answers false c p (central_begun central slot transmits c) (prepared peripheral slot listens p) a plain_now
+            linked_stopped central peripheral slot (slot + 1) answers false c p (central_begun central slot transmits c) (prepared peripheral slot listens p) a
             (begun_lasted central slot transmits c) (prepared_lasted peripheral slot listens p) stopped;
         ready = not_both (is_running l.joint) stopped;
         transmits_in = begun_exchanges central slot transmits c transmits_in;

@@ -14,7 +14,7 @@ use Rattle.link_model.specs.enc_phase.Sealing.{AreMatched, EncEnd, sent_payload}
 use Rattle.link_model.specs.Acknowledgement.{Pdu, is_acked}
 use Rattle.link_model.specs.Data.{is_empty}
 use Rattle.link_model.specs.Facts.{Facts}
-use Rattle.link_model.specs.Hearing.{IsOpened, air_octets, body_read}
+use Rattle.link_model.specs.Hearing.{IsOpened, IsUnderstood, air_octets, body_read}
 use Rattle.link_model.specs.OneLink.{AreInAgreement}
 use Rattle.link_model.specs.Packets.{counts_here, good_pdu, has_new_pdu, header_sent, is_forged, payload_sent, pdu_sent, verdict_of}
 use Rattle.link_model.specs.Payload.{CanOpen, opens_now, payload_made}
@@ -29,6 +29,7 @@ use Rattle.link_pairs.proofs.Counts.{Says, acknowledged_by, says_right, turned, 
 use Rattle.link_pairs.proofs.HasSent.{HasSent, sent_packet}
 use Rattle.link_pairs.proofs.KeysAt.{can_open_down, can_open_up}
 use Rattle.link_pairs.proofs.LastFits.{fits_down, fits_up}
+use Rattle.link_pairs.proofs.PacketsRead.{AreRead, read_pure, understood_pure}
 use Rattle.link_pairs.proofs.Reaching.{IsReached, not_both}
 use Rattle.link_pairs.proofs.Reading.{bits_heard, counts_as, mixed_as, payload_made_so, two_bits, understood, unopened}
 use Rattle.link_pairs.proofs.Sounding.{link_now, reached_now, runs}
@@ -189,6 +190,15 @@ module _ (heard : IsHeardWhole) (central peripheral : Setup) (turns slot : ℕ) 
     pub judged_at_peripheral : verdict_of peripheral p octets ≡ (if is_forged peripheral p octets then Forged else Good)
     judged_at_peripheral = judged heard central peripheral slot c p channel octets k.central.made ends.one_link.fields packet same fits_it
 
+    -- where it is neither forged nor mixed, all of it is read
+    pub whole_at_peripheral : IsReadSo peripheral p octets c.acknowledgement.last → AreRead peripheral p slot octets c.acknowledgement
+    whole_at_peripheral so =
+        read_pure heard central peripheral slot c p channel octets k.central.made ends.one_link.fields packet same fits_it so.pure so.genuine
+
+    pub understood_at_peripheral : IsReadSo peripheral p octets c.acknowledgement.last → IsUnderstood central packet.before peripheral p
+    understood_at_peripheral so =
+        understood_pure heard central peripheral slot c p channel octets k.central.made ends.one_link.fields packet same fits_it so.pure so.genuine
+
     pub read_at_peripheral : IsOpenedThere → HaveOneKey k.central.made p.encryption.end → IsReadSo peripheral p octets c.acknowledgement.last
     read_at_peripheral opened one =
         let agreed = turned c.acknowledgement p.acknowledgement s.agreement in
@@ -212,6 +222,10 @@ module _ (heard : IsHeardWhole) (central peripheral : Setup) (turns slot : ℕ) 
 
     pub judged_at_central : verdict_of central c octets ≡ (if is_forged central c octets then Forged else Good)
     judged_at_central = judged heard peripheral central slot p c channel octets k.peripheral.made (sym ends.one_link.fields) packet same fits_up_it
+
+    pub understood_at_central : IsReadSo central c octets p.acknowledgement.last → IsUnderstood peripheral packet.before central c
+    understood_at_central so =
+        understood_pure heard peripheral central slot p c channel octets k.peripheral.made (sym ends.one_link.fields) packet same fits_up_it so.pure so.genuine
 
     pub read_at_central : IsOpenedThere → HaveOneKey k.peripheral.made c.encryption.end → IsReadSo central c octets p.acknowledgement.last
     read_at_central opened one =

@@ -27,7 +27,6 @@ use Rattle.link_model.specs.enc_phase.Phases.{is_asked, seals}
 use Rattle.link_model.specs.enc_phase.Sealing.{EncEnd}
 use Rattle.link_pairs.specs.Ends.{phased_of}
 use Rattle.link_pairs.specs.Hearing.{answered, received}
-use Rattle.link_pairs.specs.Shown.{EncryptsNothing}
 use Rattle.link_pairs.specs.Ways.{IsUnseen}
 
 -- ---- each end
@@ -111,9 +110,6 @@ pub record ArePartingFrom (taker sender : Setup) (t s : Facts) : Type 0 where
   pub took : HasTakenTerminate sender t
   pub sent : HasSentTerminate taker s
   pub opens : IsOpenedBy s.encryption.end took.made t
-  -- as long as no link encrypts, both encrypt nothing
-  pub taker_plain : EncryptsNothing taker t
-  pub sender_plain : EncryptsNothing sender s
   pub agreement : AreInAgreement t.acknowledgement s.acknowledgement
   -- the taker accepted all that the sender sent
   pub unseen : IsUnseen s.acknowledgement t.acknowledgement

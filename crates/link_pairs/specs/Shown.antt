@@ -11,7 +11,6 @@ use Rattle.link_model.specs.OneLink.{AreInAgreement}
 use Rattle.link_model.specs.Setup.{Setup, first_anchor, first_params}
 use Rattle.link_model.specs.Facts.{Facts}
 use Rattle.link_model.specs.Payload.{payload_made}
-use Rattle.link_model.specs.Plain.{IsPlain}
 use Rattle.link_pairs.specs.Ends.{IsAtRest, heard_turns, is_lasting, phased_of}
 use Rattle.link_pairs.specs.Ways.{ShowsLast, ShowsWay}
 
@@ -65,14 +64,6 @@ keys_of central peripheral steps =
     keyed_links.keys_of central.link.max_rx peripheral.link.max_rx (first_params central.link.fields) (first_anchor central)
     (central.opened + 1) steps
 
--- as long as no link encrypts, an end encrypts nothing, and a payload is a body
-pub record EncryptsNothing (setup : Setup) (facts : Facts) : Type 0 where
-  pub plain : IsPlain setup.link.role facts
-  pub payload : facts.outgoing.payload ≡ facts.acknowledgement.last.body
-
-abbrev pub ArePlain : Setup → Setup → Facts → Facts → Type 0
-ArePlain central peripheral c p = EncryptsNothing central c × EncryptsNothing peripheral p
-
 -- both ends came to what they hold as a link by turns and packets does, as long as that goes on: until one of them ended
 -- it, is shut, or took LL_TERMINATE_IND
 pub record AreLinked (central peripheral : Setup) (turns : ℕ) (answers : Bool) (c p : Facts) : Type 0 where
@@ -84,7 +75,6 @@ pub record AreLinked (central peripheral : Setup) (turns : ℕ) (answers : Bool)
       → Shows central peripheral turns answers (link_of central peripheral steps) c p
   pub keys :
       is_running (link_of central peripheral steps).joint ≡ true → HaveKeys (keys_of central peripheral steps) c p
-  pub plain : ArePlain central peripheral c p
   -- it goes on while the link lasts at both ends
   pub lasts :
       is_lasting c ≡ true → is_lasting p ≡ true → is_running (link_of central peripheral steps).joint ≡ true

@@ -22,3 +22,5 @@ pub use crate::soundness::{
     a_packet_is_mixed_only_with_other_keys, linked_ends_are_sound, linked_ends_hear_in_one_event,
     linked_ends_understand_each_other, only_a_late_peripheral_ends_a_link,
 };
+// what the laws above rest on too
+pub use link_model::a_sealed_packet_is_opened;

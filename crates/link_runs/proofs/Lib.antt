@@ -1,5 +1,4 @@
 -- The lemmas of this crate.
-pub mod AsSent
 pub mod ByTurns
 pub mod EventsKept
 pub mod Exchanges

@@ -8,23 +8,26 @@ use Rattle.link_pairs.specs.link_model.Receiving.{replies_of}
 use Rattle.link_pairs.specs.link_model.Step.{Step}
 use Rattle.link_pairs.specs.link_model.Times.{due_of}
 use Rattle.link_pairs.specs.Ends.{AreEnds, heard_turns, is_lasting, turns_at}
-use Rattle.link_pairs.specs.Hearing.{IsPacketOf, answered, received}
+use Rattle.link_pairs.specs.Hearing.{IsPacketOf, answered, is_mixed, received}
 use Rattle.link_pairs.specs.Shown.{AreLinked, Shows, link_of}
 use Rattle.link_pairs.specs.Turns.{HaveBegun, sent_if}
 use Rattle.link_pairs.proofs.CentralHears.{hears}
 use Rattle.link_pairs.proofs.Hosting.{central_hosts, peripheral_hosts}
 use Rattle.link_pairs.proofs.PeripheralHeard.{hears_linked}
 use Rattle.link_pairs.proofs.Turning.{begun_hears, prepared_hears, turn_begun}
-use Rattle.link_runs.specs.Turn.{Given, answer, central_sent, central_heard, central_ready, facts_hosted, is_answer_heard, is_heard, listens, packet, peripheral_ready, peripheral_heard, peripheral_received, transmits}
+use Rattle.link_runs.specs.Turn.{Given, IsUnmixed, answer, central_sent, central_heard, central_ready, facts_hosted, is_answer_heard, is_heard, listens, packet, peripheral_ready, peripheral_heard, peripheral_received, transmits}
 use Rattle.link_runs.specs.Runs.{MayHostAll}
 use Rattle.link_runs.proofs.Exchanges.{may_exchange}
 use Rattle.link_runs.proofs.Supervision.{heard_in_time}
+use Rattle.ble_base.specs.ErrorCodes.{mic_failure}
 use Rattle.ble_base.specs.declared.error_codes.ErrCode.{ErrCode}
 use Rattle.link_pairs.specs.joint_controls.Joint.{has_passed, last_change}
 use Rattle.link_pairs.proofs.link_model.Hearing.{IsHeardWhole}
+use Rattle.link_pairs.specs.link_model.Packets.{is_forged}
 use Rattle.link_pairs.specs.link_model.Times.{ending_of}
-use Rattle.link_pairs.specs.Parting.{ArePartingFrom}
-use Rattle.link_pairs.specs.Sound.{EndsForInstant}
+use Rattle.link_pairs.specs.Parting.{ArePartingFrom, EndsForged as HearsForged, HasSeenTerminate, HearsTheEnd}
+use Rattle.link_pairs.specs.Sound.{EndsForInstant, EndsForged}
+use Rattle.link_pairs.proofs.Understanding.{IsOpenedThere}
 use Rattle.link_pairs.proofs.Ending.{answered_ends}
 use Rattle.link_pairs.proofs.Ending.{central_lasts as central_goes, peripheral_lasts as peripheral_goes}
 use Rattle.link_pairs.proofs.EndingNothing.{begun_ends_nothing, prepared_ends_nothing}
@@ -32,10 +35,10 @@ use Rattle.link_pairs.proofs.Items.{never}
 use Rattle.link_pairs.proofs.NothingNew.{prepared_still, sender_still}
 use Rattle.link_pairs.proofs.PartingBegins.{central_took, peripheral_took}
 use Rattle.link_pairs.proofs.PartingEndings.{taker_ends}
-use Rattle.link_pairs.proofs.SenderHears.{has_seen, hears_the_end}
+use Rattle.link_pairs.proofs.OtherKeys.{mixed_at_central, mixed_at_peripheral}
+use Rattle.link_pairs.proofs.SenderHears.{ends_forged, has_seen, hears_the_end, unmixed_parting}
 use Rattle.link_pairs.proofs.TakerSends.{begun_parting}
-use Rattle.link_runs.specs.Open.{AreOpenEnds, GoesOnUnlessLate, IsLastingLink}
-use Rattle.link_runs.proofs.AsSent.{IsAsSent, as_sent_down, as_sent_parting, as_sent_up, ends_as_sent, ends_late_or_none}
+use Rattle.link_runs.specs.Open.{AreOpenEnds, GoesOnUnlessLate, HasHeardForged, IsLastingLink}
 use Rattle.link_runs.proofs.EventsKept.{answered_in_event, ended_no_reply}
 use Rattle.link_runs.proofs.GoingOn.{lasting_by, lasting_goes, lasting_took_none, open_goes_on, shut_by, still_lasts}
 
@@ -65,7 +68,6 @@ module _ (central peripheral : Setup) (turns : ℕ) (answers : Bool) where
         in_range = linked.in_range;
         shows = λ running. without (linked.shows running);
         keys = linked.keys;
-        plain = linked.plain;
         lasts = linked.lasts;
       }
     where
@@ -187,14 +189,15 @@ module _ (central peripheral : Setup) (slot : ℕ) (given : Given) (c p : Facts)
   -- ---- what becomes of both ends in the turn
 
   pub record AreAfterTurn : Type 0 where
-    pub central_goes_on : c_heard.control.ends ≡ None
+    pub central_goes_on : (c_heard.control.ends ≡ None) ⊎ HasHeardForged c_heard
     pub peripheral_goes_on : GoesOnUnlessLate (Some c_heard) p_heard
     pub opens : is_none (ending_of c_heard) ≡ true → is_none (ending_of p_heard) ≡ true
         → AreOpenEnds central peripheral (slot + 1) c_heard p_heard
 
   -- ---- the central took LL_TERMINATE_IND before the turn
 
-  module _ (whole : IsHeardWhole) (ends : AreEnds central peripheral) (parting : ArePartingFrom central peripheral c p) where
+  module _ (whole : IsHeardWhole) (opened : IsOpenedThere) (ends : AreEnds central peripheral) (unmixed : IsUnmixed central peripheral slot given c p)
+      (parting : ArePartingFrom central peripheral c p) where
     parting_at : ArePartingFrom central peripheral c_at p_at
     parting_at =
         let least = ends.peripheral_max.from in
@@ -208,22 +211,42 @@ module _ (central peripheral : Setup) (slot : ℕ) (given : Given) (c p : Facts)
         let most = ends.peripheral_max.to in
         let fields = ends.one_link.fields in
         let room = given.peripheral_room in
-        let as_sent = (as_sent_parting whole central peripheral fields most c_at p_at parting_at slot _ sent_octets packet_now now.same).so in
-        let over = hears_the_end whole central peripheral fields most c_at p_at parting_at slot _ sent_octets packet_now now.same room as_sent.pure as_sent.genuine in
-        let seen = has_seen whole central peripheral fields most c_at p_at parting_at slot _ sent_octets packet_now now.same room as_sent.pure as_sent.genuine in
-        let c_is : c_heard ≡ c_at = unheard (ap (λ (b : Bool). heard_now && b) over.replies ∙ never heard_now) in
-        let p_is : p_heard ≡ taken = ap p_heard_if is ∙ over.answers_none in
-        record {
-          central_goes_on = ap (λ (f : Facts). f.control.ends) c_is ∙ parting_at.took.goes_on;
-          peripheral_goes_on = inl (ap (λ (f : Facts). f.control.ends) p_is ∙ seen.goes_on);
-          opens = λ c_open p_open.
-              absurd (shut_by (ending_of p_heard) (ap (λ (f : Facts). is_some (ending_of f)) p_is ∙ ap (λ (o : Option ErrCode). is_some o) seen.ending) p_open);
-        }
+        let pure = unmixed_parting whole central peripheral fields most c_at p_at parting_at slot _ sent_octets packet_now now.same room opened (unmixed.down is) in
+        by (is_forged peripheral p_at sent_octets) refl
+        (hears_the_end whole central peripheral fields most c_at p_at parting_at slot _ sent_octets packet_now now.same room pure)
+        (has_seen whole central peripheral fields most c_at p_at parting_at slot _ sent_octets packet_now now.same room pure)
+        (ends_forged whole central peripheral fields most c_at p_at parting_at slot _ sent_octets packet_now now.same room)
+      where
+        by : (forged : Bool) → is_forged peripheral p_at sent_octets ≡ forged
+            → (is_forged peripheral p_at sent_octets ≡ false → HearsTheEnd peripheral p_at slot sent_octets given.peripheral_room)
+            → (is_forged peripheral p_at sent_octets ≡ false → HasSeenTerminate c_at.acknowledgement taken)
+            → (is_forged peripheral p_at sent_octets ≡ true → HearsForged peripheral p_at slot sent_octets given.peripheral_room) → AreAfterTurn
+        by false genuine hears has forged =
+            let over = hears genuine in
+            let seen = has genuine in
+            let c_is : c_heard ≡ c_at = unheard (ap (λ (b : Bool). heard_now && b) over.replies ∙ never heard_now) in
+            let p_is : p_heard ≡ taken = ap p_heard_if is ∙ over.answers_none in
+            record {
+              central_goes_on = inl (ap (λ (f : Facts). f.control.ends) c_is ∙ parting_at.took.goes_on);
+              peripheral_goes_on = inl (ap (λ (f : Facts). f.control.ends) p_is ∙ seen.goes_on);
+              opens = λ c_open p_open.
+                  absurd (shut_by (ending_of p_heard) (ap (λ (f : Facts). is_some (ending_of f)) p_is ∙ ap (λ (o : Option ErrCode). is_some o) seen.ending) p_open);
+            }
+        by true wrong hears has forged =
+            let over = forged wrong in
+            let c_is : c_heard ≡ c_at = unheard (ap (λ (b : Bool). heard_now && b) over.replies ∙ never heard_now) in
+            let p_is : p_heard ≡ taken = ap p_heard_if is ∙ over.answers_none in
+            let ended : p_heard.control.ends ≡ Some (record { 0 = mic_failure }) = ap (λ (f : Facts). f.control.ends) p_is ∙ over.ends in
+            record {
+              central_goes_on = inl (ap (λ (f : Facts). f.control.ends) c_is ∙ parting_at.took.goes_on);
+              peripheral_goes_on = inr (inr ended);
+              opens = λ c_open p_open. absurd (let goes = open_goes_on p_heard p_open in let no = sym ended ∙ goes in cc);
+            }
     parting_after false is =
         let c_is : c_heard ≡ c_at = unheard (ap (λ (b : Bool). b && replies) is) in
         let p_is : p_heard ≡ p_at = ap p_heard_if is in
         record {
-          central_goes_on = ap (λ (f : Facts). f.control.ends) c_is ∙ parting_at.took.goes_on;
+          central_goes_on = inl (ap (λ (f : Facts). f.control.ends) c_is ∙ parting_at.took.goes_on);
           peripheral_goes_on = inl (ap (λ (f : Facts). f.control.ends) p_is ∙ parting_at.sent.goes_on);
           opens = λ c_open p_open. inr (subst (λ (f : Facts). ArePartingFrom central peripheral c_heard f) (sym p_is)
               (subst (λ (f : Facts). ArePartingFrom central peripheral f p_at) (sym c_is) parting_at));
@@ -234,8 +257,8 @@ module _ (central peripheral : Setup) (slot : ℕ) (given : Given) (c p : Facts)
 
   -- ---- the link lasts at both ends before the turn
 
-  module _ (whole : IsHeardWhole) (ends : AreEnds central peripheral) (link : IsLastingLink central peripheral slot c p)
-      (not_due : is_none (due_of peripheral p slot) ≡ true) where
+  module _ (whole : IsHeardWhole) (opened : IsOpenedThere) (ends : AreEnds central peripheral) (unmixed : IsUnmixed central peripheral slot given c p)
+      (link : IsLastingLink central peripheral slot c p) (not_due : is_none (due_of peripheral p slot) ≡ true) where
     shows : Shows central peripheral slot false (link_of central peripheral link.linked.steps) c p
     shows = link.linked.shows (link.linked.lasts link.central_lasts link.peripheral_lasts)
 
@@ -261,12 +284,13 @@ module _ (central peripheral : Setup) (slot : ℕ) (given : Given) (c p : Facts)
         subst (λ (b : Bool). HaveBegun central peripheral slot b true c_at p_at) now.transmits_in
         (subst (λ (b : Bool). HaveBegun central peripheral slot transmits_now b c_at p_at) now.listens_in begun)
 
-    -- ---- what is heard is read as it was sent
+    -- ---- what is heard is not read as another
 
-    down_as_sent : IsHeardNow → IsAsSent peripheral p_at slot sent_octets c_at.acknowledgement
-    down_as_sent now =
-        as_sent_down whole central peripheral ends (slot + 1) slot false c_at p_at _ sent_octets begun.linked c_lasts p_lasts
-        (packet_of_central now.transmits_in) now.same
+    down_pure : heard_now ≡ true → is_mixed peripheral p_at sent_octets c_at.acknowledgement.last ≡ false
+    down_pure is =
+        let now = is_heard_now is in
+        mixed_at_peripheral whole opened central peripheral (slot + 1) slot false c_at p_at _ sent_octets ends begun.linked c_lasts p_lasts
+        (packet_of_central now.transmits_in) now.same (unmixed.down is)
 
     -- ---- they stay linked
 
@@ -274,7 +298,7 @@ module _ (central peripheral : Setup) (slot : ℕ) (given : Given) (c p : Facts)
     heard_linked true is =
         let now = is_heard_now is in
         hears_linked whole central peripheral slot c_at p_at _ sent_octets given.peripheral_room ends (both_begun now)
-        (packet_of_central now.transmits_in) now.same supervised (down_as_sent now).so.pure
+        (packet_of_central now.transmits_in) now.same supervised (down_pure is)
     heard_linked false is = begun.linked
 
     answer_comes : IsAnswerHeard → AreLinked central peripheral (slot + 1) true c_at p_heard
@@ -289,40 +313,45 @@ module _ (central peripheral : Setup) (slot : ℕ) (given : Given) (c p : Facts)
     central_entered : IsAnswerHeard → 1 ≤ c_at.control.track.entered
     central_entered now = (begun.transmits_in (is_heard_now now.heard_it).transmits_in).0
 
-    up_as_sent : IsAnswerHeard → is_lasting p_heard ≡ true → IsAsSent central c_at slot answer_octets p_heard.acknowledgement
-    up_as_sent now lasts =
-        as_sent_up whole central peripheral ends (slot + 1) slot true c_at p_heard _ answer_octets (answer_comes now) c_lasts lasts
-        (packet_of_peripheral now.heard_it now.replied) now.same_back
+    up_pure : answer_heard ≡ true → is_lasting p_heard ≡ true → is_mixed central c_at answer_octets p_heard.acknowledgement.last ≡ false
+    up_pure is lasts =
+        let now = is_answer_heard_now is in
+        mixed_at_central whole opened central peripheral (slot + 1) slot true c_at p_heard _ answer_octets ends (answer_comes now) c_lasts lasts
+        (packet_of_peripheral now.heard_it now.replied) now.same_back (unmixed.up is)
 
     answer_linked : (hears_it : Bool) → answer_heard ≡ hears_it → is_lasting p_heard ≡ true
         → AreLinked central peripheral (slot + 1) false (c_heard_if hears_it) p_heard
     answer_linked true is lasts =
         let now = is_answer_heard_now is in
         hears whole central peripheral slot c_at p_heard _ answer_octets given.central_room ends (answer_comes now) central_past (central_entered now)
-        (packet_of_peripheral now.heard_it now.replied) now.same_back (up_as_sent now lasts).so.pure
+        (packet_of_peripheral now.heard_it now.replied) now.same_back (up_pure is lasts)
     answer_linked false is lasts = unanswered central peripheral (slot + 1) (heard_now && replies) c_at p_heard (heard_linked heard_now refl)
 
     -- ---- no procedure ends the link, but at a late peripheral
 
     late_at : (hears_it : Bool) → heard_now ≡ hears_it
-        → ((p_heard_if hears_it).control.ends ≡ None) ⊎ EndsForInstant c_at p_at (p_heard_if hears_it).control.ends
+        → ((p_heard_if hears_it).control.ends ≡ None)
+        ⊎ (EndsForInstant c_at p_at (p_heard_if hears_it).control.ends ⊎ EndsForged peripheral p_at sent_octets (p_heard_if hears_it).control.ends)
     late_at true is =
         let now = is_heard_now is in
-        let as_sent = down_as_sent now in
-        ends_late_or_none peripheral p_at slot sent_octets c_at.acknowledgement as_sent _ _ _
-        (peripheral_goes whole central peripheral slot c_at p_at _ sent_octets given.peripheral_room ends (both_begun now) c_lasts p_lasts
-        (packet_of_central now.transmits_in) now.same supervised as_sent.so.pure)
+        peripheral_goes whole central peripheral slot c_at p_at _ sent_octets given.peripheral_room ends (both_begun now) c_lasts p_lasts
+        (packet_of_central now.transmits_in) now.same supervised (down_pure is)
     late_at false is = inl (lasting_goes p_at p_lasts)
 
     -- the central hears the answer, while the link lasts at the peripheral
-    central_by : (hears_it : Bool) → answer_heard ≡ hears_it → is_lasting p_heard ≡ true → (c_heard_if hears_it).control.ends ≡ None
+    central_by : (hears_it : Bool) → answer_heard ≡ hears_it → is_lasting p_heard ≡ true
+        → ((c_heard_if hears_it).control.ends ≡ None) ⊎ HasHeardForged (c_heard_if hears_it)
     central_by true is lasts =
         let now = is_answer_heard_now is in
-        let as_sent = up_as_sent now lasts in
-        ends_as_sent central c_at slot answer_octets p_heard.acknowledgement as_sent _ _
+        by
         (central_goes whole central peripheral slot c_at p_heard _ answer_octets given.central_room ends (answer_comes now) c_lasts lasts central_past
-        (central_entered now) (packet_of_peripheral now.heard_it now.replied) now.same_back as_sent.so.pure)
-    central_by false is lasts = lasting_goes c_at c_lasts
+        (central_entered now) (packet_of_peripheral now.heard_it now.replied) now.same_back (up_pure is lasts))
+      where
+        by : ((c_heard_if true).control.ends ≡ None) ⊎ EndsForged central c_at answer_octets (c_heard_if true).control.ends
+            → ((c_heard_if true).control.ends ≡ None) ⊎ HasHeardForged (c_heard_if true)
+        by (inl goes) = inl goes
+        by (inr forged) = inr forged.1
+    central_by false is lasts = inl (lasting_goes c_at c_lasts)
 
     -- ---- the central takes LL_TERMINATE_IND, or does not
 
@@ -331,7 +360,7 @@ module _ (central peripheral : Setup) (slot : ℕ) (given : Given) (c p : Facts)
     takes_by true is lasts took =
         let now = is_answer_heard_now is in
         central_took whole central peripheral ends slot c_at p_heard _ answer_octets given.central_room (answer_comes now) c_lasts lasts
-        (packet_of_peripheral now.heard_it now.replied) now.same_back (up_as_sent now lasts).so.pure took
+        (packet_of_peripheral now.heard_it now.replied) now.same_back (up_pure is lasts) took
     takes_by false is lasts took = absurd (let none = lasting_took_none c_at c_lasts in let no = ap (λ (o : Option ErrCode). is_some o) none in cc)
 
     central_open : (took : Bool) → is_some c_heard.leaving.ended_by_peer ≡ took → is_lasting p_heard ≡ true → c_heard.control.ends ≡ None
@@ -346,7 +375,7 @@ module _ (central peripheral : Setup) (slot : ℕ) (given : Given) (c p : Facts)
         record {
           central_goes_on = goes;
           peripheral_goes_on = inl (lasting_goes p_heard lasts);
-          opens = λ c_open p_open. central_open (is_some c_heard.leaving.ended_by_peer) refl lasts goes;
+          opens = λ c_open p_open. central_open (is_some c_heard.leaving.ended_by_peer) refl lasts (open_goes_on c_heard c_open);
         }
 
     -- ---- the peripheral takes LL_TERMINATE_IND
@@ -356,19 +385,29 @@ module _ (central peripheral : Setup) (slot : ℕ) (given : Given) (c p : Facts)
     took_by true is took =
         let now = is_heard_now is in
         peripheral_took whole central peripheral ends slot c_at p_at _ sent_octets given.peripheral_room (both_begun now) c_lasts p_lasts
-        (packet_of_central now.transmits_in) now.same (down_as_sent now).so.pure took
+        (packet_of_central now.transmits_in) now.same (down_pure is) took
     took_by false is took = absurd (let none = lasting_took_none p_at p_lasts in let no = ap (λ (o : Option ErrCode). is_some o) none in cc)
 
-    central_seen : (hears_it : Bool) → answer_heard ≡ hears_it → ArePartingFrom peripheral central p_heard c_at → (c_heard_if hears_it).control.ends ≡ None
+    central_seen : (hears_it : Bool) → answer_heard ≡ hears_it → ArePartingFrom peripheral central p_heard c_at
+        → ((c_heard_if hears_it).control.ends ≡ None) ⊎ HasHeardForged (c_heard_if hears_it)
     central_seen true is parting =
         let now = is_answer_heard_now is in
         let packet_now = packet_of_peripheral now.heard_it now.replied in
         let fields = sym ends.one_link.fields in
         let most = ends.central_max.to in
-        let as_sent = (as_sent_parting whole peripheral central fields most p_heard c_at parting slot _ answer_octets packet_now now.same_back).so in
-        (has_seen whole peripheral central fields most p_heard c_at parting slot _ answer_octets packet_now now.same_back given.central_room as_sent.pure
-        as_sent.genuine).goes_on
-    central_seen false is parting = lasting_goes c_at c_lasts
+        let room = given.central_room in
+        let pure = unmixed_parting whole peripheral central fields most p_heard c_at parting slot _ answer_octets packet_now now.same_back room opened (unmixed.up is) in
+        by (is_forged central c_at answer_octets) refl
+        (has_seen whole peripheral central fields most p_heard c_at parting slot _ answer_octets packet_now now.same_back room pure)
+        (ends_forged whole peripheral central fields most p_heard c_at parting slot _ answer_octets packet_now now.same_back room)
+      where
+        by : (forged : Bool) → is_forged central c_at answer_octets ≡ forged
+            → (is_forged central c_at answer_octets ≡ false → HasSeenTerminate p_heard.acknowledgement (c_heard_if true))
+            → (is_forged central c_at answer_octets ≡ true → HearsForged central c_at slot answer_octets given.central_room)
+            → ((c_heard_if true).control.ends ≡ None) ⊎ HasHeardForged (c_heard_if true)
+        by false genuine has forged = inl (has genuine).goes_on
+        by true wrong has forged = inr (forged wrong).ends
+    central_seen false is parting = inl (lasting_goes c_at c_lasts)
 
     peripheral_taking : is_some p_heard.leaving.ended_by_peer ≡ true → AreAfterTurn
     peripheral_taking took =
@@ -393,15 +432,19 @@ module _ (central peripheral : Setup) (slot : ℕ) (given : Given) (c p : Facts)
     late_in_event true = answered_in_event peripheral slot sent_octets given.peripheral_room p_at
     late_in_event false = refl
 
-    peripheral_late : (code : ErrCode) → p_heard.control.ends ≡ Some code → EndsForInstant c_at p_at p_heard.control.ends → AreAfterTurn
-    peripheral_late code ended late =
+    over_then : c_heard ≡ c_at → p_heard.control.track.entered ≡ p_at.control.track.entered
+        → EndsForInstant c_at p_at p_heard.control.ends ⊎ EndsForged peripheral p_at sent_octets p_heard.control.ends
+        → EndsForInstant c_heard p_heard p_heard.control.ends ⊎ HasHeardForged p_heard
+    over_then c_is entered (inl late) = inl (late.0, (λ i. has_passed (last_change (c_is i).control.sent) (entered i - 1)) ∙ late.1)
+    over_then c_is entered (inr forged) = inr forged.1
+
+    peripheral_late : (code : ErrCode) → p_heard.control.ends ≡ Some code
+        → EndsForInstant c_at p_at p_heard.control.ends ⊎ EndsForged peripheral p_at sent_octets p_heard.control.ends → AreAfterTurn
+    peripheral_late code ended over =
         let c_is : c_heard ≡ c_at = unheard (late_answers heard_now code refl ended) in
         record {
-          central_goes_on = ap (λ (f : Facts). f.control.ends) c_is ∙ lasting_goes c_at c_lasts;
-          peripheral_goes_on = inr (
-            late.0,
-            (λ i. has_passed (last_change (c_is i).control.sent) (late_in_event heard_now i - 1)) ∙ late.1,
-          );
+          central_goes_on = inl (ap (λ (f : Facts). f.control.ends) c_is ∙ lasting_goes c_at c_lasts);
+          peripheral_goes_on = inr (over_then c_is (late_in_event heard_now) over);
           opens = λ c_open p_open. absurd (let goes = open_goes_on p_heard p_open in let no = sym ended ∙ goes in cc);
         }
 
@@ -411,9 +454,11 @@ module _ (central peripheral : Setup) (slot : ℕ) (given : Given) (c p : Facts)
     by_terminate true is goes = peripheral_taking is
     by_terminate false is goes = peripheral_lasting (lasting_by p_heard goes is)
 
-    by_late : (o : Option ErrCode) → p_heard.control.ends ≡ o → ((p_heard.control.ends ≡ None) ⊎ EndsForInstant c_at p_at p_heard.control.ends) → AreAfterTurn
-    by_late o is (inl goes) = by_terminate (is_some p_heard.leaving.ended_by_peer) refl goes
-    by_late o is (inr late) = peripheral_late _ late.0 late
+    by_late : ((p_heard.control.ends ≡ None)
+        ⊎ (EndsForInstant c_at p_at p_heard.control.ends ⊎ EndsForged peripheral p_at sent_octets p_heard.control.ends)) → AreAfterTurn
+    by_late (inl goes) = by_terminate (is_some p_heard.leaving.ended_by_peer) refl goes
+    by_late (inr (inl late)) = peripheral_late _ late.0 (inl late)
+    by_late (inr (inr forged)) = peripheral_late _ forged.1 (inr forged)
 
     pub lasting_turn : AreAfterTurn
-    lasting_turn = by_late p_heard.control.ends refl (late_at heard_now refl)
+    lasting_turn = by_late (late_at heard_now refl)

@@ -1,7 +1,7 @@
 -- With which codes an end is shut.
 use Rattle.std.proofs.Common.{◌≡◌, ◌⊎◌, inl, inr, ℕ, Bool, true, false, Option, Some, None, IfSome, refl, ap, sym, subst, ◌∙◌, if◌then◌else◌}
 use Rattle.std.specs.Option.{option_map}
-use Rattle.ble_base.specs.ErrorCodes.{connection_not_established, connection_timeout, instant_passed, ll_response_timeout, terminated_by_local_host}
+use Rattle.ble_base.specs.ErrorCodes.{connection_not_established, connection_timeout, instant_passed, ll_response_timeout, mic_failure, terminated_by_local_host}
 use Rattle.ble_base.specs.declared.error_codes.ErrCode.{ErrCode}
 use Rattle.instants.specs.declared.indications.Params.{Params}
 use Rattle.link_pairs.specs.link_model.declared.events.Reception.{Reception}
@@ -12,7 +12,7 @@ use Rattle.link_pairs.specs.control_end.Held.{held_of}
 use Rattle.link_pairs.specs.link_model.declared.state.Leaving.{Leaving}
 use Rattle.link_pairs.specs.link_model.Facts.{Facts, params_of}
 use Rattle.link_pairs.specs.link_model.Times.{due_of, ended_by_procedures, ending_of, first_of, termination_due}
-use Rattle.link_runs.specs.Open.{AreTerminated, GoOnUnlessLate, GoesOnUnlessLate, IsTerminated, is_timeout}
+use Rattle.link_runs.specs.Open.{AreTerminated, GoOnUnlessLate, GoesOnUnlessLate, HasHeardForged, IsTerminated, is_timeout}
 
 -- ---- at the end of a turn
 
@@ -33,32 +33,47 @@ module _ (leaving : Leaving) (code : ErrCode) where
   terminated true acked is = inl (acked, some_same _ code is)
   terminated false acked is = inr (peer_ends leaving.answered leaving.ended_by_peer code is)
 
-  late : (acknowledged : Bool) → leaving.acknowledged ≡ acknowledged → shut_with acknowledged (Some (record { 0 = instant_passed })) ≡ Some code
-      → IsTerminated leaving code ⊎ (code ≡ record { 0 = instant_passed })
-  late true acked is = inl (inl (acked, some_same _ code is))
-  late false acked is = inr (some_same _ code is)
+  ended : (with_code : ErrCode) (acknowledged : Bool) → leaving.acknowledged ≡ acknowledged → shut_with acknowledged (Some with_code) ≡ Some code
+      → IsTerminated leaving code ⊎ (code ≡ with_code)
+  ended with_code true acked is = inl (inl (acked, some_same _ code is))
+  ended with_code false acked is = inr (some_same _ code is)
 
 goes_terminated : (facts : Facts) → facts.control.ends ≡ None → (code : ErrCode) → ending_of facts ≡ Some code → IsTerminated facts.leaving code
 goes_terminated facts goes code is =
     terminated facts.leaving code facts.leaving.acknowledged refl
     (ap (shut_with facts.leaving code facts.leaving.acknowledged) (sym goes) ∙ is)
 
-late_terminated : (facts : Facts) → facts.control.ends ≡ Some (record { 0 = instant_passed }) → (code : ErrCode) → ending_of facts ≡ Some code
-    → IsTerminated facts.leaving code ⊎ (code ≡ record { 0 = instant_passed })
-late_terminated facts ended code is =
-    late facts.leaving code facts.leaving.acknowledged refl (ap (shut_with facts.leaving code facts.leaving.acknowledged) (sym ended) ∙ is)
+ended_terminated : (facts : Facts) (with_code : ErrCode) → facts.control.ends ≡ Some with_code → (code : ErrCode) → ending_of facts ≡ Some code
+    → IsTerminated facts.leaving code ⊎ (code ≡ with_code)
+ended_terminated facts with_code over code is =
+    ended facts.leaving code with_code facts.leaving.acknowledged refl (ap (shut_with facts.leaving code facts.leaving.acknowledged) (sym over) ∙ is)
+
+central_by : (c : Facts) → (c.control.ends ≡ None) ⊎ HasHeardForged c → (code : ErrCode) → ending_of c ≡ Some code
+    → IsTerminated c.leaving code ⊎ (code ≡ record { 0 = mic_failure })
+central_by c (inl goes) code is = inl (goes_terminated c goes code is)
+central_by c (inr forged) code is = ended_terminated c (record { 0 = mic_failure }) forged code is
+
+-- one of two codes
+either_code : {A B C : Type 0} → A ⊎ B → A ⊎ (B ⊎ C)
+either_code (inl is) = inl is
+either_code (inr is) = inr (inl is)
+
+other_code : {A B C : Type 0} → A ⊎ C → A ⊎ (B ⊎ C)
+other_code (inl is) = inl is
+other_code (inr is) = inr (inr is)
 
 peripheral_by : (o : Option Facts) (p : Facts) → GoesOnUnlessLate o p → (code : ErrCode) → ending_of p ≡ Some code
-    → IsTerminated p.leaving code ⊎ (code ≡ record { 0 = instant_passed })
+    → IsTerminated p.leaving code ⊎ ((code ≡ record { 0 = instant_passed }) ⊎ (code ≡ record { 0 = mic_failure }))
 peripheral_by None p goes code is = inl (goes_terminated p goes code is)
 peripheral_by (Some c) p (inl goes) code is = inl (goes_terminated p goes code is)
-peripheral_by (Some c) p (inr over) code is = late_terminated p over.0 code is
+peripheral_by (Some c) p (inr (inl over)) code is = either_code (ended_terminated p (record { 0 = instant_passed }) over.0 code is)
+peripheral_by (Some c) p (inr (inr forged)) code is = other_code (ended_terminated p (record { 0 = mic_failure }) forged code is)
 
 pub are_terminated : (o q : Option Facts) → GoOnUnlessLate (record { central = o; peripheral = q }) → AreTerminated (record { central = o; peripheral = q })
 are_terminated None None goes = record { central = tt; peripheral = tt }
 are_terminated None (Some p) goes = record { central = tt; peripheral = peripheral_by None p goes.peripheral }
-are_terminated (Some c) None goes = record { central = goes_terminated c goes.central; peripheral = tt }
-are_terminated (Some c) (Some p) goes = record { central = goes_terminated c goes.central; peripheral = peripheral_by (Some c) p goes.peripheral }
+are_terminated (Some c) None goes = record { central = central_by c goes.central; peripheral = tt }
+are_terminated (Some c) (Some p) goes = record { central = central_by c goes.central; peripheral = peripheral_by (Some c) p goes.peripheral }
 
 -- ---- at the start of a turn
 

@@ -1,7 +1,7 @@
 -- How two open ends of a link are between two turns, and with which codes an end is shut (Core 5.2, volume 6 part B,
 -- sections 4.5.2, 5.1.6, 5.2 and 5.5.1).
 use Rattle.std.specs.Prelude.{◌≡◌, ◌⊎◌, ℕ, ◌==◌, ◌||◌, Bool, true, false, Option, Some, None, IfSome}
-use Rattle.ble_base.specs.ErrorCodes.{connection_not_established, connection_timeout, instant_passed, ll_response_timeout, terminated_by_local_host}
+use Rattle.ble_base.specs.ErrorCodes.{connection_not_established, connection_timeout, instant_passed, ll_response_timeout, mic_failure, terminated_by_local_host}
 use Rattle.ble_base.specs.declared.error_codes.ErrCode.{ErrCode}
 use Rattle.link_pairs.specs.link_model.Setup.{Setup}
 use Rattle.link_pairs.specs.link_model.declared.state.Leaving.{Leaving}
@@ -36,14 +36,19 @@ is_timeout code =
 
 -- ---- at the end of a turn
 
--- no procedure of the peripheral ended the link, or one did with 0x28, for an Instant that has passed (section 5.5.1)
+-- an end ended the link with 0x3D, as it heard a forged packet (section 5.1.3.1)
+abbrev pub HasHeardForged : Facts → Type 0
+HasHeardForged facts = facts.control.ends ≡ Some (record { 0 = mic_failure })
+
+-- no procedure of the peripheral ended the link, or one did with 0x28, for an Instant that has passed (section 5.5.1), or
+-- the peripheral heard a forged packet
 abbrev pub GoesOnUnlessLate : Option Facts → Facts → Type 0
 GoesOnUnlessLate None p = p.control.ends ≡ None
-GoesOnUnlessLate (Some c) p = (p.control.ends ≡ None) ⊎ EndsForInstant c p p.control.ends
+GoesOnUnlessLate (Some c) p = (p.control.ends ≡ None) ⊎ (EndsForInstant c p p.control.ends ⊎ HasHeardForged p)
 
--- and no procedure of the central did
+-- and no procedure of the central did, unless that heard a forged packet
 pub record GoOnUnlessLate (ends : Ends) : Type 0 where
-  pub central : IfSome ends.central (λ c. c.control.ends ≡ None)
+  pub central : IfSome ends.central (λ c. (c.control.ends ≡ None) ⊎ HasHeardForged c)
   pub peripheral : IfSome ends.peripheral (GoesOnUnlessLate ends.central)
 
 -- an end is shut with this code because its LL_TERMINATE_IND was acknowledged, or because its peer ended the link with
@@ -53,9 +58,11 @@ IsTerminated leaving code =
     ((leaving.acknowledged ≡ true) × (code ≡ record { 0 = terminated_by_local_host }))
     ⊎ (leaving.ended_by_peer ≡ Some code)
 
--- each end that is shut is shut so, or is a peripheral and shut with 0x28
+-- each end that is shut is shut so, or with 0x3D, or is a peripheral and shut with 0x28
 pub record AreTerminated (ends : Ends) : Type 0 where
-  pub central : IfSome ends.central (λ c. (code : ErrCode) → ending_of c ≡ Some code → IsTerminated c.leaving code)
+  pub central : IfSome ends.central (λ c. (code : ErrCode) → ending_of c ≡ Some code
+      → IsTerminated c.leaving code ⊎ (code ≡ record { 0 = mic_failure }))
   pub peripheral :
       IfSome ends.peripheral (λ p. (code : ErrCode) → ending_of p ≡ Some code
-      → IsTerminated p.leaving code ⊎ (code ≡ record { 0 = instant_passed }))
+      → IsTerminated p.leaving code
+      ⊎ ((code ≡ record { 0 = instant_passed }) ⊎ (code ≡ record { 0 = mic_failure })))

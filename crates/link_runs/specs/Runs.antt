@@ -5,7 +5,7 @@ use Rattle.link_pairs.specs.link_model.Facts.{Facts, first_facts}
 use Rattle.link_pairs.specs.link_model.End.{facts_after}
 use Rattle.link_pairs.specs.link_model.Step.{Step}
 use Rattle.link_pairs.specs.Hosts.{MayHost}
-use Rattle.link_runs.specs.Turn.{Ends, Given, ends_after_turn}
+use Rattle.link_runs.specs.Turn.{Ends, Given, IsUnmixed, end_at_start, ends_after_turn}
 
 -- ---- what the hosts may do
 
@@ -39,6 +39,25 @@ MayAllHostFrom central peripheral slot ends (given ∷ turns) =
     MayHostTurn central peripheral given ends
     × MayAllHostFrom central peripheral (slot + 1) (ends_after_turn central peripheral slot given ends) turns
 
+-- ---- no packet is mixed (part E, section 2): a link is followed up to the first one that is
+
+abbrev pub IsUnmixedAt : Setup → Setup → ℕ → Given → Option Facts → Option Facts → Type 0
+IsUnmixedAt central peripheral slot given (Some c) (Some p) = IsUnmixed central peripheral slot given c p
+IsUnmixedAt central peripheral slot given o q = ⊤
+
+-- in one turn
+abbrev pub IsUnmixedTurn : Setup → Setup → ℕ → Given → Ends → Type 0
+IsUnmixedTurn central peripheral slot given ends =
+    IsUnmixedAt central peripheral slot given (end_at_start central slot given.central_host ends.central)
+    (end_at_start peripheral slot given.peripheral_host ends.peripheral)
+
+-- in each of these turns
+abbrev pub AreUnmixedFrom : Setup → Setup → ℕ → Ends → List Given → Type 0
+AreUnmixedFrom central peripheral slot ends [] = ⊤
+AreUnmixedFrom central peripheral slot ends (given ∷ turns) =
+    IsUnmixedTurn central peripheral slot given ends
+    × AreUnmixedFrom central peripheral (slot + 1) (ends_after_turn central peripheral slot given ends) turns
+
 -- ---- from the beginning of the link
 
 -- both ends as they begin
@@ -59,3 +78,8 @@ slot_after central turns = central.opened + 1 + length turns
 abbrev pub MayAllHost : Setup → Setup → List Given → Type 0
 MayAllHost central peripheral turns =
     MayAllHostFrom central peripheral (central.opened + 1) (first_ends central peripheral) turns
+
+-- no packet is mixed in any turn
+abbrev pub AreUnmixed : Setup → Setup → List Given → Type 0
+AreUnmixed central peripheral turns =
+    AreUnmixedFrom central peripheral (central.opened + 1) (first_ends central peripheral) turns

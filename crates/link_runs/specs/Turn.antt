@@ -1,6 +1,6 @@
 -- One turn of both ends of a link: what their hosts do, what passes between them, and whether each end stays open (Core
 -- 5.2, volume 6 part B, sections 4.5 and 5.1; the order is our choice).
-use Rattle.std.specs.Prelude.{ℕ, ◌+◌, ◌==◌, ◌&&◌, Bool, true, false, List, Option, Some, None, is_none, fold, if◌then◌else◌}
+use Rattle.std.specs.Prelude.{◌≡◌, ℕ, ◌+◌, ◌==◌, ◌&&◌, Bool, true, false, List, Option, Some, None, is_none, fold, if◌then◌else◌}
 use Rattle.instants.specs.Track.{next_anchor_of}
 use Rattle.link_pairs.specs.link_model.Setup.{Setup}
 use Rattle.link_pairs.specs.link_model.Facts.{Facts}
@@ -9,7 +9,7 @@ use Rattle.link_pairs.specs.link_model.Packets.{packet_sent}
 use Rattle.link_pairs.specs.link_model.Receiving.{replies_of}
 use Rattle.link_pairs.specs.link_model.Step.{Step, DataReported}
 use Rattle.link_pairs.specs.link_model.Times.{due_of, ending_of, has_second_exchange, wants_of}
-use Rattle.link_pairs.specs.Hearing.{answered, received}
+use Rattle.link_pairs.specs.Hearing.{answered, is_mixed_packet, received}
 use Rattle.link_pairs.specs.Turns.{central_begun, entered_in, prepared}
 
 -- both ends of a link, each with what it holds until it is shut
@@ -129,6 +129,11 @@ module _ (central peripheral : Setup) (slot : ℕ) (given : Given) where
     abbrev pub central_heard : Facts
     central_heard =
         if is_answer_heard then received central slot answer given.central_room (central_sent c) else central_sent c
+
+    -- no packet that is heard is mixed (part E, section 2)
+    pub record IsUnmixed : Type 0 where
+      pub down : is_heard ≡ true → is_mixed_packet peripheral (peripheral_ready p) (central_sent c) packet ≡ false
+      pub up : is_answer_heard ≡ true → is_mixed_packet central (central_sent c) peripheral_heard answer ≡ false
 
   -- ---- any turn
 

@@ -10,3 +10,5 @@ pub use crate::rows::{
     a_central_ends_a_link, a_link_goes_on, a_peripheral_ends_a_link, an_update_comes_too_late,
     runs_meet_the_premises,
 };
+// what the laws above rest on too
+pub use link_pairs::a_sealed_packet_is_opened;

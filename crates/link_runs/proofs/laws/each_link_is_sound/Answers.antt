@@ -5,20 +5,21 @@ use Rattle.link_runs.proofs.laws.each_link_is_sound.Goals as goal
 
 pub returns-clause-agreement : goal.returns-clause-agreement
 returns-clause-agreement g =
-    λ central peripheral turns c p ends may. agreed_by_turns central peripheral g.packet_tells_its_pdu.ensures.heard ends turns c p may
+    λ central peripheral turns c p ends may. agreed_by_turns central peripheral g.packet_tells_its_pdu.ensures.heard g.a_sealed_packet_is_opened.ensures.opened ends turns c p may
 
 pub returns-clause-ends : goal.returns-clause-ends
 returns-clause-ends g =
-    λ central peripheral turns c p ends may. sound_by_turns central peripheral g.packet_tells_its_pdu.ensures.heard ends turns c p may
+    λ central peripheral turns c p ends may. sound_by_turns central peripheral g.packet_tells_its_pdu.ensures.heard g.a_sealed_packet_is_opened.ensures.opened ends turns c p may
 
 pub returns-clause-procedures : goal.returns-clause-procedures
 returns-clause-procedures g =
-    λ central peripheral turns given ends may. late_by_turns central peripheral g.packet_tells_its_pdu.ensures.heard ends turns given may
+    λ central peripheral turns given ends may. late_by_turns central peripheral g.packet_tells_its_pdu.ensures.heard g.a_sealed_packet_is_opened.ensures.opened ends turns given may
 
 pub returns-clause-codes : goal.returns-clause-codes
 returns-clause-codes g =
-    λ central peripheral turns given ends may next.
-    are_terminated _ _ (late_by_turns central peripheral g.packet_tells_its_pdu.ensures.heard ends turns given may next)
+    λ central peripheral turns given ends may unmixed next unmixed_next.
+    are_terminated _ _
+    (late_by_turns central peripheral g.packet_tells_its_pdu.ensures.heard g.a_sealed_packet_is_opened.ensures.opened ends turns given may unmixed next unmixed_next)
 
 pub returns-clause-timeouts : goal.returns-clause-timeouts
 returns-clause-timeouts g = due_by_time
