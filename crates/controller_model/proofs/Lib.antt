@@ -20,7 +20,6 @@ pub mod NoAnswers
 pub mod InOrder
 pub mod Opcodes
 pub mod Rands
-pub mod NoWords
 pub mod Alike
 pub mod NoLinks
 pub mod Alone

@@ -1,11 +1,12 @@
 -- An accepted command may come on its link, and the view knows the end after it.
 use Rattle.std.proofs.Common.{◌≡◌, ℕ, ◌<◌, ◌^◌, ◌+◌, ◌%◌, ◌==◌, Bool, true, false, ◌&&◌, ◌||◌, not, if◌then◌else◌, List, [], ◌∷◌, length, reverse, nat_le, nat_lt, Option, Some, None, Result, Ok, Err, is_some, refl, ap, sym, ◌∙◌, subst, arith, eqb-true}
 use Rattle.std.proofs.lemmas.Bool.Decides.{nat_tests}
+use Rattle.std.proofs.Math.Nat.{mod-lt}
 use Rattle.ble_base.specs.Bits.{has_bit}
 use Rattle.ble_base.specs.ChannelMap.{IsMap, used_channels}
 use Rattle.ble_base.specs.declared.error_codes.ErrCode.{ErrCode}
 use Rattle.ble_base.specs.declared.procedure_kinds.Kind.{Kind}
-use Rattle.ble_base.specs.declared.procedure_kinds.Kind.TheVariants.{Features as features_kind, Length as length_kind, Map as map_kind, Phy as phy_kind, Version as version_kind}
+use Rattle.ble_base.specs.declared.procedure_kinds.Kind.TheVariants.{Encrypt as encrypt_kind, Features as features_kind, Length as length_kind, Map as map_kind, Phy as phy_kind, Version as version_kind}
 use Rattle.ble_base.specs.declared.roles.Role.{Role}
 use Rattle.ble_base.specs.declared.roles.Role.TheVariants.{Central, Peripheral}
 use Rattle.hci_cmd.specs.declared.command.Command.{Command}
@@ -13,7 +14,7 @@ use Rattle.hci_cmd.specs.declared.command.Command.TheVariants.{Disconnect, LeCon
 use Rattle.exclusive_stages.specs.declared.stages.PeerAtCentral.{PeerAtCentral}
 use Rattle.exclusive_stages.specs.declared.stages.PeerAtCentral.TheVariants.{Absent, GrantUnsent}
 use Rattle.open_links.specs.procedure_values.declared.asks.Ask.{Ask}
-use Rattle.open_links.specs.procedure_values.declared.asks.Ask.TheVariants.{Features, Length, Map, Phy, Request, Update, Version}
+use Rattle.open_links.specs.procedure_values.declared.asks.Ask.TheVariants.{Encrypt, Features, Length, Map, Phy, Request, Update, Version}
 use Rattle.open_links.specs.procedure_values.Asks.{is_same_kind, kind_of_ask}
 use Rattle.open_links.specs.procedure_values.Wants.{count_of}
 use Rattle.procedure_events.specs.procedure_stages.declared.closing.Closing.{Closing}
@@ -30,7 +31,7 @@ use Rattle.procedure_events.specs.procedures.Going.{host_answer_step, is_answer,
 use Rattle.procedure_events.specs.procedures.Table.{TableFacts}
 use Rattle.open_links.specs.control_model.Control.{Answers, Asks, Control, Disconnects, table_if}
 use Rattle.open_links.proofs.control_model.Calls.{open_step}
-use Rattle.link_pairs.specs.control_octets.Fitting.{AskFits, RequestFits}
+use Rattle.link_pairs.specs.control_octets.Fitting.{AskFits, EncryptFits, RequestFits}
 use Rattle.link_pairs.specs.joint_controls.Joint.{is_map}
 use Rattle.open_links.specs.link_model.Facts.{Facts}
 use Rattle.open_links.specs.link_model.Hosts.{asked_unless, facts_answered, facts_asked, facts_disconnected, is_to_come}
@@ -43,21 +44,20 @@ use Rattle.host_view.specs.declared.links.Link.{Link}
 use Rattle.host_view.specs.View.{View}
 use Rattle.host_view.specs.declared.links.Asked.{Asked}
 use Rattle.host_view.specs.Changes.{answered, asking, with_asked}
-use Rattle.host_view.specs.Links.{is_asked, link_in, update_kind}
+use Rattle.host_view.specs.Links.{is_asked, is_central_role, link_in, update_kind}
 use Rattle.host_view.specs.Refusals.{are_parameters, asked_row, both_phys_rows, count_if, first_refusal, link_rows, parameters_row}
-use Rattle.host_view.specs.Status.{connection_update_rows, data_length_rows, disconnect_rows, is_data_length, is_reason, parameter_request_row, rows_of}
-use Rattle.host_view.specs.Unbuilt.{status_of, unbuilt_status_of}
+use Rattle.host_view.specs.Status.{connection_update_rows, data_length_rows, disconnect_rows, enable_encryption_rows, is_data_length, is_reason, parameter_request_row, rows_of}
+use Rattle.host_view.specs.Unbuilt.{status_of}
 use Rattle.link_commands.proofs.Ranges.{length_fits, map_fits, not_not, params_fit, passes}
 use Rattle.link_commands.specs.declared.moments.Moment.{Moment}
 use Rattle.link_commands.specs.Commands.{answered_if, ask_unless, facts_commanded, host_step_of, is_about, link_commanded, map_by, transmit_maximum, update_by}
-use Rattle.host_asks.specs.Commands.{MayComeIf}
+use Rattle.host_asks.specs.Commands.{MayComeIf, WordsFit}
 use Rattle.host_asks.specs.Knowing.{KnowsAsks, KnowsTable}
 use Rattle.host_asks.specs.Noting.{effect_after, is_of_host, link_after_step, link_after_notes, link_with_request}
-use Rattle.host_asks.proofs.Accepted.{accepted}
+use Rattle.host_asks.proofs.Accepted.{table_of}
 use Rattle.host_asks.proofs.Controls.{ends_before}
 use Rattle.host_asks.proofs.Ends.{key_knows, step_knows}
 use Rattle.host_asks.proofs.Keeping.{asked_with, same_kinds}
-use Rattle.host_asks.proofs.NotBuilt.{encryption_refused}
 use Rattle.host_asks.proofs.Tables.{may_ask_new, table_asks}
 
 -- ---- the steps of the host, one end
@@ -201,6 +201,16 @@ reason_fits reason is = grind (arith, nat_tests)
 octet_fits : (reason : ℕ) → reason % 256 < 256
 octet_fits reason = omega arith
 
+-- the numbers of a command in their octets, and the words that are drawn
+encrypt_fits : (rand ediv : ℕ) (moment : Moment) → WordsFit moment → EncryptFits (rand % 2 ^ 64) (ediv % 2 ^ 16) moment.skd_m moment.iv_m
+encrypt_fits rand ediv moment words =
+    record {
+      rand_fits = mod-lt rand (omega arith);
+      ediv_fits = mod-lt ediv (omega arith);
+      skd_fits = words.skd_fits;
+      iv_fits = words.iv_fits;
+    }
+
 request_fits : (min max latency timeout : ℕ) → are_parameters min max latency timeout ≡ true → RequestFits min max latency timeout
 request_fits min max latency timeout are =
     record {
@@ -212,8 +222,8 @@ request_fits min max latency timeout are =
 
 -- ---- what a command does on its link
 
-pub record IsCarriedOut (setup : Setup) (step : Option Step) (after : Link) (facts : Facts) : Type 0 where
-  pub may : MayComeIf step facts
+pub record IsCarriedOut (setup : Setup) (moment : Moment) (step : Option Step) (after : Link) (facts : Facts) : Type 0 where
+  pub may : WordsFit moment → MayComeIf step facts
   pub keeps : (facts_commanded setup step facts).control.ends ≡ None → KnowsAsks after (facts_commanded setup step facts)
 
 unknown_by : (same knows kept told : Bool) → ((knows || kept) ≡ true → told ≡ true) → (same && told) ≡ false → (same && knows) ≡ false
@@ -225,15 +235,15 @@ may_by : (x same known : Bool) → x ≡ true → (same && known) ≡ false → 
 may_by x same known is none = rw (is, none) refl
 
 -- it asks for a procedure
-asks_out : (setup : Setup) (link : Link) (facts : Facts) (ask : Ask) → KnowsAsks link facts → is_asked (kind_of_ask ask) link.asked ≡ false
-    → AskFits ask → is_same_kind (kind_of_ask ask) map_kind ≡ false → is_map ask ≡ false
+asks_out : (setup : Setup) (moment : Moment) (link : Link) (facts : Facts) (ask : Ask) → KnowsAsks link facts → is_asked (kind_of_ask ask) link.asked ≡ false
+    → (WordsFit moment → AskFits ask) → is_same_kind (kind_of_ask ask) map_kind ≡ false → is_map ask ≡ false
     → (is_same_kind (kind_of_ask ask) version_kind && is_some facts.peer.version) ≡ false → is_to_come ask facts ≡ false
-    → IsCarriedOut setup (Some (ProcedureAsked ask)) (asking (kind_of_ask ask) link) facts
-asks_out setup link facts ask knows new fits other no_map unknown comes =
+    → IsCarriedOut setup moment (Some (ProcedureAsked ask)) (asking (kind_of_ask ask) link) facts
+asks_out setup moment link facts ask knows new fits other no_map unknown comes =
     record {
-      may =
+      may = λ words.
           record {
-            in_range = fits;
+            in_range = fits words;
             may =
                 ap (λ (b : Bool). b || (may_ask_of facts.control.table (kind_of_ask ask) && not (is_same_kind (kind_of_ask ask) version_kind && facts.encryption.knows_version))) no_map
                 ∙ may_by (may_ask_of facts.control.table (kind_of_ask ask)) (is_same_kind (kind_of_ask ask) version_kind) facts.encryption.knows_version
@@ -253,11 +263,11 @@ asked_again k kind asked new other =
     by true is = sym (subst (λ (a : Kind). is_asked a asked ≡ false) (same_kinds k kind is) new)
     by false is = asked_with k kind true asked other ∙ ap (λ (b : Bool). if b then true else is_asked kind asked) is
 
-known_out : (setup : Setup) (link : Link) (facts : Facts) (k : Kind) → KnowsAsks link facts → is_asked k link.asked ≡ false
-    → IsCarriedOut setup None (answered k (asking k link)) facts
-known_out setup link facts k knows new =
+known_out : (setup : Setup) (moment : Moment) (link : Link) (facts : Facts) (k : Kind) → KnowsAsks link facts → is_asked k link.asked ≡ false
+    → IsCarriedOut setup moment None (answered k (asking k link)) facts
+known_out setup moment link facts k knows new =
     record {
-      may = tt;
+      may = λ words. tt;
       keeps = λ lasts.
           record {
             table =
@@ -273,30 +283,30 @@ known_out setup link facts k knows new =
           };
     }
 
-version_out : (setup : Setup) (link : Link) (facts : Facts) (known : Bool) → is_some facts.peer.version ≡ known → KnowsAsks link facts
+version_out : (setup : Setup) (moment : Moment) (link : Link) (facts : Facts) (known : Bool) → is_some facts.peer.version ≡ known → KnowsAsks link facts
     → is_asked version_kind link.asked ≡ false
-    → IsCarriedOut setup (ask_unless known Version) (answered_if known version_kind (asking version_kind link)) facts
-version_out setup link facts true is knows new = known_out setup link facts version_kind knows new
-version_out setup link facts false is knows new = asks_out setup link facts Version knows new tt refl refl is refl
+    → IsCarriedOut setup moment (ask_unless known Version) (answered_if known version_kind (asking version_kind link)) facts
+version_out setup moment link facts true is knows new = known_out setup moment link facts version_kind knows new
+version_out setup moment link facts false is knows new = asks_out setup moment link facts Version knows new (λ words. tt) refl refl is refl
 
-features_out : (setup : Setup) (link : Link) (facts : Facts) (known : Bool) → KnowsAsks link facts → is_asked features_kind link.asked ≡ false
-    → IsCarriedOut setup (ask_unless known Features) (answered_if known features_kind (asking features_kind link)) facts
-features_out setup link facts true knows new = known_out setup link facts features_kind knows new
-features_out setup link facts false knows new = asks_out setup link facts Features knows new tt refl refl refl refl
+features_out : (setup : Setup) (moment : Moment) (link : Link) (facts : Facts) (known : Bool) → KnowsAsks link facts → is_asked features_kind link.asked ≡ false
+    → IsCarriedOut setup moment (ask_unless known Features) (answered_if known features_kind (asking features_kind link)) facts
+features_out setup moment link facts true knows new = known_out setup moment link facts features_kind knows new
+features_out setup moment link facts false knows new = asks_out setup moment link facts Features knows new (λ words. tt) refl refl refl refl
 
-update_out : (setup : Setup) (link : Link) (facts : Facts) (role : Role) (min max latency timeout : ℕ) → KnowsAsks link facts
+update_out : (setup : Setup) (moment : Moment) (link : Link) (facts : Facts) (role : Role) (min max latency timeout : ℕ) → KnowsAsks link facts
     → are_parameters min max latency timeout ≡ true → is_asked (update_kind role) link.asked ≡ false
-    → IsCarriedOut setup (Some (ProcedureAsked (update_by role min max latency timeout))) (asking (update_kind role) link) facts
-update_out setup link facts Central min max latency timeout knows are new =
-    asks_out setup link facts (Update max latency timeout) knows new (params_fit min max latency timeout are) refl refl refl refl
-update_out setup link facts Peripheral min max latency timeout knows are new =
-    asks_out setup link facts (Request min max latency timeout) knows new (request_fits min max latency timeout are) refl refl refl refl
+    → IsCarriedOut setup moment (Some (ProcedureAsked (update_by role min max latency timeout))) (asking (update_kind role) link) facts
+update_out setup moment link facts Central min max latency timeout knows are new =
+    asks_out setup moment link facts (Update max latency timeout) knows new (λ words. params_fit min max latency timeout are) refl refl refl refl
+update_out setup moment link facts Peripheral min max latency timeout knows are new =
+    asks_out setup moment link facts (Request min max latency timeout) knows new (λ words. request_fits min max latency timeout are) refl refl refl refl
 
-map_out : (setup : Setup) (link : Link) (facts : Facts) (role : Role) (map : ℕ) → KnowsAsks link facts → IsMap map
-    → IsCarriedOut setup (map_by role map) link facts
-map_out setup link facts Central map knows is =
-    record { may = record { in_range = is; may = refl }; keeps = λ lasts. map_knows link facts map knows lasts }
-map_out setup link facts Peripheral map knows is = record { may = tt; keeps = λ lasts. knows }
+map_out : (setup : Setup) (moment : Moment) (link : Link) (facts : Facts) (role : Role) (map : ℕ) → KnowsAsks link facts → IsMap map
+    → IsCarriedOut setup moment (map_by role map) link facts
+map_out setup moment link facts Central map knows is =
+    record { may = λ words. record { in_range = is; may = refl }; keeps = λ lasts. map_knows link facts map knows lasts }
+map_out setup moment link facts Peripheral map knows is = record { may = λ words. tt; keeps = λ lasts. knows }
 
 -- the rows of a choice of PHYs do not hold
 phys_pass : (all tx rx : ℕ) (rows : List (Bool × ℕ)) → first_refusal (both_phys_rows all tx rx rows) ≡ 0 → first_refusal rows ≡ 0
@@ -311,88 +321,92 @@ given_link : (view : View) (given handle : ℕ) (link : Link) → (given == hand
 given_link view given handle link same is = subst (λ (h : ℕ). link_in view.links h ≡ Some link) (sym (eqb-true given handle same)) is
 
 pub carried_out : (setup : Setup) (view : View) (command : Command) (handle : ℕ) (moment : Moment) (link : Link) (facts : Facts)
-    → first_refusal (rows_of view command) ≡ 0 → unbuilt_status_of command ≡ 0 → is_about handle command ≡ true
+    → first_refusal (rows_of view command) ≡ 0 → is_about handle command ≡ true
     → link_in view.links handle ≡ Some link → KnowsAsks link facts
-    → IsCarriedOut setup (host_step_of command moment link.role facts.peer) (link_commanded command facts.peer link) facts
-carried_out setup view (Disconnect given reason) handle moment link facts ok built about is knows =
+    → IsCarriedOut setup moment (host_step_of command moment link.role facts.peer) (link_commanded command facts.peer link) facts
+carried_out setup view (Disconnect given reason) handle moment link facts ok about is knows =
     let rows =
     passes link.disconnecting _ _
     (subst (λ (l : Option Link). first_refusal (disconnect_rows l reason) ≡ 0) (given_link view given handle link about is) ok)
     in
     record {
-      may = reason_fits reason (not_not (is_reason reason) (passes (not (is_reason reason)) _ _ rows.1).0);
+      may = λ words. reason_fits reason (not_not (is_reason reason) (passes (not (is_reason reason)) _ _ rows.1).0);
       keeps = λ lasts. disconnect_knows link facts (record { 0 = reason }) moment.slot knows lasts;
     }
-carried_out setup view (ReadRemoteVersion given) handle moment link facts ok built about is knows =
+carried_out setup view (ReadRemoteVersion given) handle moment link facts ok about is knows =
     let rows =
     passes link.disconnecting _ _
     (subst (λ (l : Option Link). first_refusal (link_rows l (asked_row version_kind l ∷ [])) ≡ 0) (given_link view given handle link about is) ok)
     in
-    version_out setup link facts (is_some facts.peer.version) refl knows (passes (is_asked version_kind link.asked) _ _ rows.1).0
-carried_out setup view (LeReadRemoteFeatures given) handle moment link facts ok built about is knows =
+    version_out setup moment link facts (is_some facts.peer.version) refl knows (passes (is_asked version_kind link.asked) _ _ rows.1).0
+carried_out setup view (LeReadRemoteFeatures given) handle moment link facts ok about is knows =
     let rows =
     passes link.disconnecting _ _
     (subst (λ (l : Option Link). first_refusal (link_rows l (asked_row features_kind l ∷ [])) ≡ 0) (given_link view given handle link about is) ok)
     in
-    features_out setup link facts (is_some facts.peer.features) knows (passes (is_asked features_kind link.asked) _ _ rows.1).0
-carried_out setup view (LeSetDataLength given most time) handle moment link facts ok built about is knows =
+    features_out setup moment link facts (is_some facts.peer.features) knows (passes (is_asked features_kind link.asked) _ _ rows.1).0
+carried_out setup view (LeSetDataLength given most time) handle moment link facts ok about is knows =
     let rows =
     passes link.disconnecting _ _
     (subst (λ (l : Option Link). first_refusal (data_length_rows l most time) ≡ 0) (given_link view given handle link about is) ok)
     in
     let long = passes (not (is_data_length most time)) _ _ rows.1 in
-    asks_out setup link facts (Length (transmit_maximum most time)) knows (passes (is_asked length_kind link.asked) _ _ long.1).0
-    (length_fits most time (not_not (is_data_length most time) long.0)) refl refl refl refl
-carried_out setup view (LeConnectionUpdate given min max latency timeout lengths) handle moment link facts ok built about is knows =
+    asks_out setup moment link facts (Length (transmit_maximum most time)) knows (passes (is_asked length_kind link.asked) _ _ long.1).0
+    (λ words. length_fits most time (not_not (is_data_length most time) long.0)) refl refl refl refl
+carried_out setup view (LeConnectionUpdate given min max latency timeout lengths) handle moment link facts ok about is knows =
     let rows =
     passes link.disconnecting _ _
     (subst (λ (l : Option Link). first_refusal (connection_update_rows l min max latency timeout) ≡ 0) (given_link view given handle link about is) ok)
     in
     let valid = passes (not (are_parameters min max latency timeout)) _ _ rows.1 in
-    update_out setup link facts link.role min max latency timeout knows (not_not (are_parameters min max latency timeout) valid.0)
+    update_out setup moment link facts link.role min max latency timeout knows (not_not (are_parameters min max latency timeout) valid.0)
     (passes (is_asked (update_kind link.role) link.asked) _ _ valid.1).0
-carried_out setup view (LeSetChannels map) handle moment link facts ok built about is knows =
-    map_out setup link facts link.role map knows (map_fits map (passes (nat_lt (length (used_channels map)) 2 || nat_le (2 ^ 37) map) _ _ ok).0)
-carried_out setup view (LeSetPhy given all tx rx options) handle moment link facts ok built about is knows =
+carried_out setup view (LeSetChannels map) handle moment link facts ok about is knows =
+    map_out setup moment link facts link.role map knows (map_fits map (passes (nat_lt (length (used_channels map)) 2 || nat_le (2 ^ 37) map) _ _ ok).0)
+carried_out setup view (LeSetPhy given all tx rx options) handle moment link facts ok about is knows =
     let rows =
     passes link.disconnecting _ _
     (subst (λ (l : Option Link). first_refusal (link_rows l (both_phys_rows all tx rx (asked_row phy_kind l ∷ []))) ≡ 0) (given_link view given handle link about is) ok)
     in
-    asks_out setup link facts Phy knows (passes (is_asked phy_kind link.asked) _ _ (phys_pass all tx rx (asked_row phy_kind (Some link) ∷ []) rows.1)).0 tt refl refl refl refl
-carried_out setup view (LeParamReply given min max latency timeout lengths) handle moment link facts ok built about is knows =
+    asks_out setup moment link facts Phy knows (passes (is_asked phy_kind link.asked) _ _ (phys_pass all tx rx (asked_row phy_kind (Some link) ∷ []) rows.1)).0 (λ words. tt) refl refl refl refl
+carried_out setup view (LeParamReply given min max latency timeout lengths) handle moment link facts ok about is knows =
     let rows =
     passes link.disconnecting _ _
     (subst (λ (l : Option Link). first_refusal (link_rows l (parameter_request_row l ∷ parameters_row min max latency timeout ∷ [])) ≡ 0) (given_link view given handle link about is) ok)
     in
     let waits = passes (not link.waits_for_parameters) _ _ rows.1 in
     record {
-      may = params_fit min max latency timeout (not_not (are_parameters min max latency timeout) (passes (not (are_parameters min max latency timeout)) _ _ waits.1).0);
+      may = λ words. params_fit min max latency timeout (not_not (are_parameters min max latency timeout) (passes (not (are_parameters min max latency timeout)) _ _ waits.1).0);
       keeps = λ lasts. answer_knows link facts (Ok (Update max latency timeout)) false refl knows lasts;
     }
-carried_out setup view (LeParamNegative given reason) handle moment link facts ok built about is knows =
-    record { may = octet_fits reason; keeps = λ lasts. answer_knows link facts (Err (record { 0 = reason % 256 })) false refl knows lasts }
-carried_out setup view (LeEnableEncryption given rand ediv key) handle moment link facts ok built about is knows =
-    absurd (encryption_refused given rand ediv key built)
-carried_out setup view (LeKeyReply given key) handle moment link facts ok built about is knows =
-    record { may = tt; keeps = λ lasts. key_known link _ false (key_knows (Some (reverse key)) moment.slot link facts knows) }
-carried_out setup view (LeKeyNegative given) handle moment link facts ok built about is knows =
-    record { may = tt; keeps = λ lasts. key_known link _ false (key_knows None moment.slot link facts knows) }
-carried_out setup view other handle moment link facts ok built about is knows = absurd (cc)
+carried_out setup view (LeParamNegative given reason) handle moment link facts ok about is knows =
+    record { may = λ words. octet_fits reason; keeps = λ lasts. answer_knows link facts (Err (record { 0 = reason % 256 })) false refl knows lasts }
+carried_out setup view (LeEnableEncryption given rand ediv key) handle moment link facts ok about is knows =
+    let rows =
+    passes link.disconnecting _ _
+    (subst (λ (l : Option Link). first_refusal (enable_encryption_rows l) ≡ 0) (given_link view given handle link about is) ok)
+    in
+    let at_central = passes (not (is_central_role link.role)) _ _ rows.1 in
+    asks_out setup moment link facts (Encrypt (rand % 2 ^ 64) (ediv % 2 ^ 16) (reverse key) moment.skd_m moment.iv_m) knows
+    (passes (is_asked encrypt_kind link.asked) _ _ at_central.1).0 (encrypt_fits rand ediv moment) refl refl refl refl
+carried_out setup view (LeKeyReply given key) handle moment link facts ok about is knows =
+    record { may = λ words. tt; keeps = λ lasts. key_known link _ false (key_knows (Some (reverse key)) moment.slot link facts knows) }
+carried_out setup view (LeKeyNegative given) handle moment link facts ok about is knows =
+    record { may = λ words. tt; keeps = λ lasts. key_known link _ false (key_knows None moment.slot link facts knows) }
+carried_out setup view other handle moment link facts ok about is knows = absurd (cc)
 
 pub command_may_come : (view : View) (command : Command) (handle : ℕ) (moment : Moment) (link : Link) (facts : Facts)
     → status_of view command ≡ 0 → is_about handle command ≡ true → link_in view.links handle ≡ Some link
-    → KnowsAsks link facts → MayComeIf (host_step_of command moment link.role facts.peer) facts
-command_may_come view command handle moment link facts ok about is knows =
-    let both = accepted view command ok in
-    (carried_out (central_with 0) view command handle moment link facts both.0 both.1 about is knows).may
+    → KnowsAsks link facts → WordsFit moment → MayComeIf (host_step_of command moment link.role facts.peer) facts
+command_may_come view command handle moment link facts ok about is knows words =
+    (carried_out (central_with 0) view command handle moment link facts (table_of view command ok) about is knows).may words
 
 pub command_keeps : (setup : Setup) (view : View) (command : Command) (handle : ℕ) (moment : Moment) (link : Link) (facts : Facts)
     → status_of view command ≡ 0 → is_about handle command ≡ true → link_in view.links handle ≡ Some link
     → KnowsAsks link facts → (facts_commanded setup (host_step_of command moment link.role facts.peer) facts).control.ends ≡ None
     → KnowsAsks (link_commanded command facts.peer link) (facts_commanded setup (host_step_of command moment link.role facts.peer) facts)
 command_keeps setup view command handle moment link facts ok about is knows lasts =
-    let both = accepted view command ok in
-    (carried_out setup view command handle moment link facts both.0 both.1 about is knows).keeps lasts
+    (carried_out setup view command handle moment link facts (table_of view command ok) about is knows).keeps lasts
 
 -- ---- a request is refused, also one whose event is withheld
 

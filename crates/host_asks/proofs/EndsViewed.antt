@@ -34,7 +34,7 @@ use Rattle.host_view.specs.Links.{link_in}
 use Rattle.host_view.specs.Noted.{after_packet, event_handle, acl_handle, is_acl_data, is_le_event, view_noted}
 use Rattle.link_commands.specs.declared.moments.Moment.{Moment}
 use Rattle.link_commands.specs.Commands.{answered_if, ask_unless, facts_commanded, host_step_of, is_about, is_read_of_peer, link_accepted, link_answered, link_commanded}
-use Rattle.host_asks.specs.Commands.{MayComeIf}
+use Rattle.host_asks.specs.Commands.{MayComeIf, WordsFit}
 use Rattle.host_asks.specs.Knowing.{KnowsAsks}
 use Rattle.host_asks.specs.Noting.{effect_after, is_of_host, link_after_notes, link_after_note, link_with_request}
 use Rattle.link_commands.specs.Views.{events_at_once, events_if, kind_if, kind_known, view_answered, view_commanded}
@@ -216,11 +216,11 @@ answered_by view (LeReadRemoteFeatures given) handle peer link is = known_if vie
 answered_by view other handle peer link is = is
 
 pub command_may : (view : View) (command : Command) (handle : ℕ) (moment : Moment) (facts : Facts) → status_of view command ≡ 0
-    → is_about handle command ≡ true → KnowsAt view handle facts
+    → is_about handle command ≡ true → KnowsAt view handle facts → WordsFit moment
     → MayComeIf (host_step_of command moment (role_of facts.control.table.progress) facts.peer) facts
-command_may view command handle moment facts ok about known =
+command_may view command handle moment facts ok about known words =
     subst (λ (role : Role). MayComeIf (host_step_of command moment role facts.peer) facts) (sym known.knows.table.role)
-    (command_may_come view command handle moment known.link facts ok about known.is_open known.knows)
+    (command_may_come view command handle moment known.link facts ok about known.is_open known.knows words)
 
 pub command_known : (view : View) (setup : Setup) (command : Command) (moment : Moment) (facts : Facts) → status_of view command ≡ 0
     → is_about setup.link.handle command ≡ true → KnowsAt view setup.link.handle facts

@@ -6,7 +6,6 @@ pub mod Controls
 pub mod Versions
 pub mod Ends
 pub mod Accepted
-pub mod NotBuilt
 pub mod Accepting
 pub mod Lasting
 pub mod LinksViewed

@@ -18,7 +18,7 @@ use Rattle.host_view.specs.Changes.{view_after}
 use Rattle.host_view.specs.Unbuilt.{status_of}
 use Rattle.link_commands.specs.declared.moments.Moment.{Moment}
 use Rattle.link_commands.specs.Commands.{facts_commanded, host_step_of, is_about}
-use Rattle.host_asks.specs.Commands.{MayComeIf}
+use Rattle.host_asks.specs.Commands.{MayComeIf, WordsFit}
 use Rattle.link_commands.specs.LinksCommanded.{known_in, link_after_if, links_commanded, links_commanded_from, open_link_commanded, place_commanded, view_commanded_on}
 use Rattle.host_asks.specs.OpenEnds.{KnowsOpenEnds}
 use Rattle.link_commands.specs.Views.{view_answered, view_commanded}
@@ -187,13 +187,14 @@ links_known view command moment links ok leaves known =
 -- ---- the step on each link may come
 
 pub end_may : (view : View) (command : Command) (handle : ℕ) (moment : Moment) (link : OpenLink) → status_of view command ≡ 0
-    → is_about handle command ≡ true → KnowsAt view handle (facts_in link)
+    → is_about handle command ≡ true → KnowsAt view handle (facts_in link) → WordsFit moment
     → MayComeIf (host_step_of command moment link.setup.link.role (facts_in link).peer) (facts_in link)
-end_may view command handle moment link ok about known =
+end_may view command handle moment link ok about known words =
     subst (λ (r : Role). MayComeIf (host_step_of command moment r (facts_in link).peer) (facts_in link)) (keeps_role link.setup link.past)
-    (command_may view command handle moment (facts_in link) ok about known)
+    (command_may view command handle moment (facts_in link) ok about known words)
 
 pub step_may : (view : View) (command : Command) (handle : ℕ) (moment : Moment) (links : Links) (link : OpenLink) → status_of view command ≡ 0
     → is_about handle command ≡ true → KnowsOpenEnds view links → link_at handle links ≡ Some link → (facts_in link).control.ends ≡ None
-    → MayComeIf (host_step_of command moment link.setup.link.role (facts_in link).peer) (facts_in link)
-step_may view command handle moment links link ok about known is lasts = end_may view command handle moment link ok about (known.each handle link is lasts)
+    → WordsFit moment → MayComeIf (host_step_of command moment link.setup.link.role (facts_in link).peer) (facts_in link)
+step_may view command handle moment links link ok about known is lasts words =
+    end_may view command handle moment link ok about (known.each handle link is lasts) words

@@ -11,7 +11,7 @@ use Rattle.host_view.specs.View.{View}
 use Rattle.host_view.specs.Unbuilt.{status_of}
 use Rattle.link_commands.specs.declared.moments.Moment.{Moment}
 use Rattle.link_commands.specs.Commands.{facts_commanded, host_step_of, is_about}
-use Rattle.host_asks.specs.Commands.{MayComeIf}
+use Rattle.host_asks.specs.Commands.{MayComeIf, WordsFit}
 use Rattle.host_asks.specs.Views.{KnowsAt}
 use Rattle.host_asks.proofs.EndsViewed.{command_may}
 
@@ -21,7 +21,7 @@ module _ (P : Facts → Type 0) (setup : Setup) (facts : Facts) (now : P facts) 
   left_by (Some step) may = next step may
 
   pub command_leaves : (view : View) (command : Command) (handle : ℕ) (moment : Moment) → status_of view command ≡ 0
-      → is_about handle command ≡ true → KnowsAt view handle facts
+      → is_about handle command ≡ true → KnowsAt view handle facts → WordsFit moment
       → P (facts_commanded setup (host_step_of command moment (role_of facts.control.table.progress) facts.peer) facts)
-  command_leaves view command handle moment ok about known =
-      left_by (host_step_of command moment (role_of facts.control.table.progress) facts.peer) (command_may view command handle moment facts ok about known)
+  command_leaves view command handle moment ok about known words =
+      left_by (host_step_of command moment (role_of facts.control.table.progress) facts.peer) (command_may view command handle moment facts ok about known words)

@@ -14,11 +14,11 @@ use Rattle.host_view.specs.Refusals.{count_if}
 use Rattle.host_view.specs.Unbuilt.{status_of}
 use Rattle.link_commands.specs.declared.moments.Moment.{Moment}
 use Rattle.link_commands.specs.Commands.{host_step_of, host_steps, host_steps_from, is_about, step_if_about, with_host_step}
-use Rattle.host_asks.specs.Commands.{MayComeIf}
+use Rattle.host_asks.specs.Commands.{MayComeIf, WordsFit}
 use Rattle.host_asks.specs.Knowing.{KnowsAsks}
 use Rattle.host_asks.proofs.Accepting.{command_may_come}
 
-module _ (view : View) (command : Command) (moment : Moment) (facts_at : ℕ → Facts) (ok : status_of view command ≡ 0) where
+module _ (view : View) (command : Command) (moment : Moment) (facts_at : ℕ → Facts) (ok : status_of view command ≡ 0) (words : WordsFit moment) where
   abbrev All : List (ℕ × Step) → Type 0
   All steps = AllByRecursion (λ (step : ℕ × Step). MayHost step.1 (facts_at step.0)) steps
 
@@ -34,7 +34,7 @@ module _ (view : View) (command : Command) (moment : Moment) (facts_at : ℕ →
 
   if_about : (handle : ℕ) (about : Bool) (link : Link) → is_about handle command ≡ about → KnowsAsks link (facts_at handle) → link_in view.links handle ≡ Some link
       → MayComeIf (step_if_about about (host_step_of command moment link.role (facts_at handle).peer)) (facts_at handle)
-  if_about handle true link about knows is = command_may_come view command handle moment link (facts_at handle) ok about is knows
+  if_about handle true link about knows is = command_may_come view command handle moment link (facts_at handle) ok about is knows words
   if_about handle false link about knows is = tt
 
   each : (first : ℕ) (links : List (Option Link)) → AreKnown first links → All (host_steps_from first command moment links (λ handle. (facts_at handle).peer))

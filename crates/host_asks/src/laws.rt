@@ -16,7 +16,7 @@ ghost use Rattle.host_view.specs.Noted.{opened_link};
 ghost use Rattle.host_view.specs.Unbuilt.{status_of};
 ghost use Rattle.link_commands.specs.declared.moments.Moment.{Moment};
 ghost use Rattle.link_commands.specs.Commands.{facts_commanded, host_step_of};
-ghost use Rattle.host_asks.specs.Commands.{MayComeIf};
+ghost use Rattle.host_asks.specs.Commands.{MayComeIf, WordsFit};
 ghost use Rattle.link_commands.specs.Commands.{is_about, link_commanded};
 ghost use Rattle.host_asks.specs.Knowing.{KnowsAsks};
 ghost use Rattle.host_asks.specs.Lasting.{AllMayHappen, LinkEvent, first_viewed};
@@ -29,14 +29,15 @@ pub fn a_new_link_is_known()
         → KnowsAsks (opened_link setup.link.role own peer) (first_facts setup) }
 {}
 
-/// Where a command on a link is accepted, and the view knows the end of that link, the step that the command makes may come there: the host asks for no procedure that the
-/// end wants or runs, and all values are in their ranges (Core 5.2, volume 4 part E, sections 7.1
-/// and 7.8; volume 6 part B, section 5.1).
+/// Where a command on a link is accepted, and the view knows the end of that link, the step that the
+/// command makes may come there: the host asks for no procedure that the end wants or runs, and all
+/// values are in their ranges, if the words that a central draws fit LL_ENC_REQ (Core 5.2, volume 4
+/// part E, sections 7.1 and 7.8; volume 6 part B, sections 2.4.2.4 and 5.1).
 pub fn accepted_commands_may_come()
     ensures { (view : View) (command : Command) (handle : ℕ) (moment : Moment) (link : Link) (facts : Facts)
         → status_of view command ≡ 0
         → is_about handle command ≡ true → link_in view.links handle ≡ Some link
-        → KnowsAsks link facts
+        → KnowsAsks link facts → WordsFit moment
         → MayComeIf (host_step_of command moment link.role facts.peer) facts }
 {}
 

@@ -31,7 +31,7 @@ ghost use Rattle.host_view.specs.Noted.{view_noted};
 ghost use Rattle.host_view.specs.declared.links.Link.{Link};
 ghost use Rattle.link_commands.specs.declared.moments.Moment.{Moment};
 ghost use Rattle.link_commands.specs.Commands.{facts_commanded};
-ghost use Rattle.host_asks.specs.Commands.{MayComeIf};
+ghost use Rattle.host_asks.specs.Commands.{MayComeIf, WordsFit};
 ghost use Rattle.link_commands.specs.Commands.{host_step_of, host_steps, is_about};
 ghost use Rattle.host_asks.specs.Knowing.{KnowsAsks};
 ghost use Rattle.link_commands.specs.Commands.{is_read_of_peer, link_accepted};
@@ -110,14 +110,14 @@ pub fn steps_keep_what_is_known()
 {}
 
 /// Where the view knows an end, and a command on its link is accepted, the step that the command
-/// makes there may come, and the view knows the end after it. What the end knows
-/// of its peer already is answered by one event at once, and the view takes it as done. Otherwise
-/// the command makes a step. What is known of the ends of other links stays known, but for the
-/// commands that are left out above.
+/// makes there may come, if the words that a central draws fit LL_ENC_REQ, and the view knows the
+/// end after it. What the end knows of its peer already is answered by one event at once, and the
+/// view takes it as done. Otherwise the command makes a step. What is known of the ends of other
+/// links stays known, but for the commands that are left out above.
 pub fn commands_keep_what_is_known()
     ensures may { (view : View) (command : Command) (handle : ℕ) (moment : Moment) (facts : Facts)
         → status_of view command ≡ 0
-        → is_about handle command ≡ true → KnowsAt view handle facts
+        → is_about handle command ≡ true → KnowsAt view handle facts → WordsFit moment
         → MayComeIf (host_step_of command moment (role_of facts.control.table.progress)
         facts.peer) facts }
     ensures keeps { (view : View) (setup : Setup) (command : Command) (moment : Moment) (facts : Facts)
@@ -138,10 +138,10 @@ pub fn commands_keep_what_is_known()
 {}
 
 /// Where the view knows the ends of all open links, and a command is accepted, each of the steps
-/// that it makes on them may come.
+/// that it makes on them may come, if the words that a central draws fit LL_ENC_REQ.
 pub fn all_steps_of_a_command_may_come()
     ensures { (view : View) (command : Command) (moment : Moment) (facts_at : ℕ → Facts)
-        → status_of view command ≡ 0
+        → status_of view command ≡ 0 → WordsFit moment
         → ((handle : ℕ) (link : Link) → link_in view.links handle ≡ Some link
         → KnowsAsks link (facts_at handle))
         → AllByRecursion (λ step. MayHost step.1 (facts_at step.0))

@@ -1,5 +1,5 @@
 -- What a command asks of links, as the calls on them do it.
-use Rattle.std.proofs.Common.{◌≡◌, ℕ, ◌+◌, ◌%◌, ◌<◌, ◌==◌, false, true≢false, List, [], ◌∷◌, Option, Some, None, if◌then◌else◌, refl, sym, subst, ◌∙◌}
+use Rattle.std.proofs.Common.{◌≡◌, ℕ, ◌+◌, ◌%◌, ◌^◌, ◌<◌, ◌==◌, false, true≢false, List, [], ◌∷◌, Option, Some, None, if◌then◌else◌, refl, sym, subst, ◌∙◌}
 use Rattle.std.proofs.Math.Nat.{mod-eq_of_lt}
 use Rattle.std.specs.Option.{option_map}
 use Rattle.acl_banks.specs.declared.pieces.Piece.{Piece}
@@ -109,3 +109,10 @@ module _ (held : HeldLinks) (moment : Moment) (known : Links) (received : List (
 -- a reason has one octet
 pub one_octet : (reason : ℕ) → reason < 256 → reason % 256 ≡ reason
 one_octet reason fits = mod-eq_of_lt fits
+
+-- the random number and the diversifier of encryption have eight and two
+pub eight_octets : (rand : ℕ) → rand < 2 ^ 64 → rand % 2 ^ 64 ≡ rand
+eight_octets rand fits = mod-eq_of_lt fits
+
+pub two_octets : (ediv : ℕ) → ediv < 2 ^ 16 → ediv % 2 ^ 16 ≡ ediv
+two_octets ediv fits = mod-eq_of_lt fits

@@ -1,5 +1,5 @@
 //! The keys that a host has for its links (Core 5.2, volume 4 part E, sections 7.8.24 to 7.8.26).
-ghost use Rattle.std.specs.Prelude.{◌≡◌, ◌≤◌, ◌^◌, ℕ, List, reverse, Some};
+ghost use Rattle.std.specs.Prelude.{◌≡◌, ◌≤◌, ◌%◌, ◌^◌, ℕ, List, reverse, Some};
 ghost use Rattle.acl_banks.specs.declared.pieces.Piece.{Piece};
 ghost use Rattle.open_links.specs.Hosts.{links_asked};
 ghost use Rattle.open_links.specs.Keys.{links_keyed};
@@ -22,7 +22,9 @@ pub fn turned(octets: &[u8; 16]) -> [u8; 16]
     turned
 }
 
-/// The host of a central asks for encryption with this key, which the link is to begin with.
+/// The host of a central asks for encryption with this key, which the link is to begin with. The
+/// random number and the diversifier have eight and two octets.
+#[tactic(auto, using(crate::proofs::AskedLinks::eight_octets, crate::proofs::AskedLinks::two_octets))]
 pub(crate) fn ask_encryption<const L: usize, const T: usize, const R: usize>(
     links: &mut OpenLinks<L, T, R>,
     handle: u16,
@@ -33,7 +35,8 @@ pub(crate) fn ask_encryption<const L: usize, const T: usize, const R: usize>(
 )
     ensures knows { (known : Links) (received : List (ℕ × Piece))
         → KnowsLinks links.old known received → KnowsLinks links.new (links_asked handle
-        (Encrypt rand ediv (reverse key.now) moment.skd_m moment.iv_m) known) received }
+        (Encrypt (rand % 2 ^ 64) (ediv % 2 ^ 16) (reverse key.now) moment.skd_m moment.iv_m) known)
+        received }
     ensures counts { (links.new.heard_to ≡ links.old.heard_to)
         × (links.new.unreported ≡ links.old.unreported) }
 {

@@ -15,8 +15,6 @@ use Rattle.host_view.specs.View.{View}
 use Rattle.host_view.specs.Changes.{after_counts, on_link, view_after}
 use Rattle.host_view.specs.declared.links.Link.{Link}
 use Rattle.host_view.specs.OnLinks.{asks_links}
-use Rattle.host_view.specs.Refusals.{first_refusal}
-use Rattle.host_view.specs.Status.{rows_of}
 use Rattle.host_view.specs.Unbuilt.{status_of}
 use Rattle.link_model.specs.Facts.{Facts as EndFacts}
 use Rattle.open_links.specs.declared.offers.Offer.{Offer}
@@ -32,14 +30,8 @@ use Rattle.controller_model.specs.Data.{facts_offered, offer_of}
 use Rattle.controller_model.specs.Host.{commands_accepted_by, commands_accepted_in}
 use Rattle.controller_model.specs.Side.{facts_after, facts_fed, result_of}
 use Rattle.controller_model.specs.Step.{HostOctet}
-use Rattle.controller_model.proofs.Accepted.{table_accepts}
 use Rattle.controller_model.proofs.Always.{facts_given}
 use Rattle.known_ends.proofs.TurnsKnown.{given_known, known_at, known_under}
-
--- the table of conditions accepts an accepted command
-pub table_of : (view : View) (command : Command) → status_of view command ≡ 0 → first_refusal (rows_of view command) ≡ 0
-unfolding status_of
-table_of view command is = table_accepts _ _ is
 
 -- ---- a command that is accepted has status 0
 

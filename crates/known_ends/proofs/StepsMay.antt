@@ -1,6 +1,7 @@
 -- The step that an accepted command asks of an open end may come there.
-use Rattle.std.proofs.Common.{◌≡◌, ℕ, zero, suc, ◌<◌, ◌==◌, Bool, true, false, Option, Some, None, List, [], ◌∷◌, length, refl, subst, arith, eqb-true}
+use Rattle.std.proofs.Common.{◌≡◌, ℕ, zero, suc, ◌+◌, ◌<◌, ◌==◌, Bool, true, false, Option, Some, None, List, [], ◌∷◌, length, refl, subst, arith, eqb-true}
 use Rattle.std.specs.Prelude.{is_none}
+use Rattle.std.proofs.Math.Nat.{mod-lt}
 use Rattle.ble_base.specs.ChannelMap.{IsMap}
 use Rattle.ble_base.specs.declared.roles.Role.{Role}
 use Rattle.ble_base.specs.declared.roles.Role.TheVariants.{Central, Peripheral}
@@ -18,15 +19,17 @@ use Rattle.open_links.specs.OpenLinks.{OpenLink, facts_in, link_at}
 use Rattle.controller_model.specs.link_commands.declared.moments.Moment.{Moment}
 use Rattle.controller_model.specs.link_commands.Commands.{host_step_of, is_about, map_by, step_if_about, step_on}
 use Rattle.controller_model.proofs.link_commands.Ranges.{asked_in_range, passes}
-use Rattle.host_asks.specs.Commands.{MayComeIf}
+use Rattle.host_asks.specs.Commands.{MayComeIf, WordsFit}
+use Rattle.host_asks.proofs.Accepted.{table_of}
 use Rattle.host_asks.proofs.OpenLinksKnown.{end_may}
 use Rattle.host_asks.specs.link_pairs.Hosts.{MayHost}
-use Rattle.controller_model.specs.Commands.{moment_of}
+use Rattle.controller_model.specs.Answers.{next_word}
+use Rattle.controller_model.specs.Commands.{moment_by, moment_of}
 use Rattle.controller_model.specs.Facts.{Setup}
 use Rattle.controller_model.specs.Host.{commands_accepted_after}
 use Rattle.controller_model.specs.Side.{facts_of, result_of}
 use Rattle.controller_model.specs.Step.{Step, HostOctet}
-use Rattle.known_ends.proofs.CommandsKnown.{accepted_in, table_of}
+use Rattle.known_ends.proofs.CommandsKnown.{accepted_in}
 use Rattle.known_ends.proofs.EndsKnown.{end_known, six_places}
 
 -- ---- a command on one link is refused where the view has no place for the link
@@ -63,6 +66,11 @@ has_place view other handle one ok about = absurd (cc)
 
 -- ---- the step may come
 
+-- what a central draws is cut to its octets
+words_fit : (setup : Setup) (begun drawn : ℕ) → WordsFit (moment_by setup begun drawn)
+words_fit setup begun drawn =
+    record { skd_fits = mod-lt (next_word setup drawn) (omega arith); iv_fits = mod-lt (next_word setup (drawn + 1)) (omega arith) }
+
 map_may : (role : Role) (map : ℕ) (facts : EndFacts) → IsMap map → MayComeIf (map_by role map) facts
 map_may Central map facts is = record { in_range = is; may = refl }
 map_may Peripheral map facts is = tt
@@ -82,6 +90,7 @@ module _ (setup : Setup) (past : List Step) (handle : ℕ) (link : OpenLink) (is
       let place = has_place view command handle refl (table_of view command ok) about in
       let six = six_places setup past in
       end_may view command handle moment link ok about (end_known setup past handle link (omega (arith, place, six)) is_open lasts)
+      (words_fit setup (facts_of setup past).turn.begun (facts_of setup past).drawn)
 
   may_by : (about : Bool) (command : Command) (step : EndStep) → is_about handle command ≡ about → status_of view command ≡ 0
       → step_if_about about (host_step_of command moment link.setup.link.role (facts_in link).peer) ≡ Some step → MayHost step (facts_in link)

@@ -1,6 +1,6 @@
 -- Which step of a link an accepted command makes (Core 5.2, volume 4 part E, sections 7.1 and 7.8; volume 6 part B,
 -- section 5.1).
-use Rattle.std.specs.Prelude.{ℕ, ◌+◌, ◌-◌, ◌/◌, ◌%◌, ◌==◌, ◌<◌, min, Bool, true, false, List, [], ◌∷◌, reverse, Option, Some, None, Ok, Err, is_some, if◌then◌else◌, ⊤}
+use Rattle.std.specs.Prelude.{ℕ, ◌+◌, ◌-◌, ◌/◌, ◌%◌, ◌^◌, ◌==◌, ◌<◌, min, Bool, true, false, List, [], ◌∷◌, reverse, Option, Some, None, Ok, Err, is_some, if◌then◌else◌, ⊤}
 use Rattle.ble_base.specs.ChannelMap.{IsMap}
 use Rattle.ble_base.specs.declared.procedure_kinds.Kind.{Kind}
 use Rattle.ble_base.specs.declared.procedure_kinds.Kind.TheVariants.{Encrypt as encrypt_kind, Features as features_kind, Length as length_kind, Phy as phy_kind, Version as version_kind}
@@ -43,8 +43,8 @@ map_by Central map = Some (ProcedureAsked (Map map))
 map_by Peripheral map = None
 
 -- the step, if there is one. The reason for which a host refuses a request has one octet (volume 4 part E, section
--- 7.8.32). A key of a host has its least significant octet first (sections 7.8.24 and 7.8.25), and one of a link its most
--- significant one
+-- 7.8.32), and the random number and the diversifier of encryption have eight and two (section 7.8.24). A key of a host
+-- has its least significant octet first (sections 7.8.24 and 7.8.25), and one of a link its most significant one
 abbrev pub host_step_of : Command → Moment → Role → PeerFacts → Option Step
 host_step_of (Disconnect handle reason) moment role peer = Some (Disconnected (record { 0 = reason }) moment.slot)
 host_step_of (ReadRemoteVersion handle) moment role peer = ask_unless (is_some peer.version) Version
@@ -60,7 +60,7 @@ host_step_of (LeParamReply handle min max latency timeout lengths) moment role p
 host_step_of (LeParamNegative handle reason) moment role peer =
     Some (RequestAnswered (Err (record { 0 = reason % 256 })))
 host_step_of (LeEnableEncryption handle rand ediv key) moment role peer =
-    Some (ProcedureAsked (Encrypt rand ediv (reverse key) moment.skd_m moment.iv_m))
+    Some (ProcedureAsked (Encrypt (rand % 2 ^ 64) (ediv % 2 ^ 16) (reverse key) moment.skd_m moment.iv_m))
 host_step_of (LeKeyReply handle key) moment role peer = Some (KeyAnswered (Some (reverse key)) moment.slot)
 host_step_of (LeKeyNegative handle) moment role peer = Some (KeyAnswered None moment.slot)
 host_step_of other moment role peer = None

@@ -1,6 +1,6 @@
 //! That each command is one call on the open links, and what it may ask for. The bodies do nothing:
 //! the contracts are the laws.
-ghost use Rattle.std.specs.Prelude.{◌≡◌, ◌%◌, ℕ, List, reverse, Some, None, Ok, Err, is_some};
+ghost use Rattle.std.specs.Prelude.{◌≡◌, ◌%◌, ◌^◌, ℕ, List, reverse, Some, None, Ok, Err, is_some};
 ghost use Rattle.std.specs.Prelude.{if◌then◌else◌};
 ghost use Rattle.hci_cmd.specs.declared.command.Command.{Command};
 ghost use Rattle.open_links.specs.procedure_values.declared.asks.Ask.{Ask};
@@ -55,7 +55,8 @@ pub fn each_command_is_one_call()
     ensures encrypted { (handle rand ediv : ℕ) (key : List ℕ) (moment : Moment) (links : Links)
         → links_commanded (Command.LeEnableEncryption handle rand ediv key) moment links
         ≡ links_asked handle
-        (Ask.Encrypt rand ediv (reverse key) moment.skd_m moment.iv_m) links }
+        (Ask.Encrypt (rand % 2 ^ 64) (ediv % 2 ^ 16) (reverse key) moment.skd_m moment.iv_m)
+        links }
     ensures keyed { (handle : ℕ) (key : List ℕ) (moment : Moment) (links : Links)
         → links_commanded (Command.LeKeyReply handle key) moment links
         ≡ links_keyed handle (Some (reverse key)) moment.slot links }
