@@ -1,5 +1,6 @@
 -- What a central holds after the call in which it takes the first PDU of a procedure of the peripheral.
-use Rattle.std.proofs.Common.{◌≡◌, ◌&&◌, ◌<◌, ℕ, Bool, true, false, List, [], ◌∷◌, ◌++◌, Result, Some, is_none, refl, sym, ap, ◌∙◌, subst, if◌then◌else◌, arith}
+use Rattle.std.proofs.Common.{◌≡◌, ◌&&◌, ◌<◌, ℕ, Bool, true, false, List, [], ◌∷◌, ◌++◌, Result, Option, Some, None, is_none, refl, sym, ap, ◌∙◌, subst, if◌then◌else◌, arith}
+use Rattle.std.specs.Prelude.{IfSome}
 use Rattle.ble_base.specs.declared.error_codes.ErrCode.{ErrCode}
 use Rattle.ble_base.specs.declared.roles.Role.TheVariants.{Central}
 use Rattle.exclusive_stages.specs.declared.pdus.Exclusive.{Exclusive}
@@ -20,18 +21,22 @@ use Rattle.link_pairs.specs.procedure_stages.declared.stages.Progress.TheVariant
 use Rattle.link_pairs.specs.procedure_stages.InProgress.{is_host_asked}
 use Rattle.link_pairs.specs.procedure_values.declared.asks.Ask.{Ask}
 use Rattle.run_pairs.specs.link_calls.link_model.Facts.{Facts as EndFacts}
+use Rattle.run_pairs.specs.link_calls.link_model.Hosts.{facts_key_answered}
 use Rattle.run_pairs.specs.link_calls.link_model.Setup.{Setup as EndSetup}
-use Rattle.run_pairs.specs.link_calls.open_links.OpenLinks.{OpenLink, facts_in, link_at}
+use Rattle.run_pairs.specs.link_calls.link_model.Step.{Step as EndStep, KeyAnswered, PacketReceived, RequestAnswered}
+use Rattle.run_pairs.specs.link_calls.open_links.OpenLinks.{OpenLink, facts_in, link_after, link_at}
 use Rattle.run_pairs.specs.link_calls.run_model.History.{Called, Event, past_of}
 use Rattle.run_pairs.specs.link_calls.run_model.Run.{Given, facts_at, setup_at}
-use Rattle.run_pairs.specs.link_calls.Phases.{HasPassed, IsNew, Stays, Takes, link_worded, refusal}
+use Rattle.run_pairs.specs.link_calls.Phases.{HasPassed, IsNew, Stays, Takes, link_worded, refusal_at}
 use Rattle.run_pairs.specs.link_calls.Uses.{listens_under, sends_under}
 use Rattle.run_pairs.proofs.link_calls.LinkCalls.{passes_under}
 use Rattle.run_pairs.proofs.link_calls.run_laws.TurnSteps.{IsListening}
 use Rattle.run_pairs.proofs.link_calls.run_model.Calls.{past_own}
 use Rattle.link_runs.specs.link_pairs.Hearing.{received}
 use Rattle.link_runs.specs.link_pairs.Turns.{sent_if}
-use Rattle.run_pairs.proofs.AtOnce.{refuses_at}
+use Rattle.run_pairs.proofs.link_calls.AtOnce.{IsRefusal, refusal_is}
+use Rattle.run_pairs.proofs.link_calls.run_laws.Agreed.{step_facts}
+use Rattle.run_collisions.proofs.NoKey.{key_none}
 use Rattle.run_pairs.proofs.EndCalls.{central_silent, refused_facts, taking_facts}
 use Rattle.run_pairs.proofs.LinkSteps.{replies_under}
 use Rattle.run_collisions.specs.Prevailing.{Prevails}
@@ -50,10 +55,14 @@ none_answered false answer k is = refl
 answer_same : (answer : Result Ask ErrCode) (k : Control) → (central_of k.table).peer ≡ Absent → after (Answers answer) k ≡ k
 answer_same answer k is = none_answered (is_none k.ends) answer k (not_asked_by k.table.progress k.table is)
 
-refused_same : (refuses : Bool) (setup : EndSetup) (facts : EndFacts) → (central_of facts.control.table).peer ≡ Absent
-    → refused_facts refuses setup facts ≡ facts
-refused_same true setup facts is = λ i. record facts { control = answer_same refusal facts.control is i }
-refused_same false setup facts is = refl
+-- and no host of a central is asked for a key
+refused_same : (answer : Option EndStep) (link : OpenLink) → IfSome answer IsRefusal → link.setup.link.role ≡ Central
+    → (central_of (facts_in link).control.table).peer ≡ Absent → refused_facts answer link.setup (facts_in link) ≡ facts_in link
+refused_same None link refusals role is = refl
+refused_same (Some (RequestAnswered answer)) link refusals role is = λ i. record (facts_in link) { control = answer_same answer (facts_in link).control is i }
+refused_same (Some (KeyAnswered key slot)) link refusals role is =
+    ap (λ (k : Option (List ℕ)). facts_key_answered k slot (facts_in link)) refusals ∙ key_none link.setup link.past slot role
+refused_same (Some other) link refusals role is = absurd refusals
 
 -- ---- the link under its handle after the call
 
@@ -67,7 +76,7 @@ module _ (setup : Setup) (facts : Facts) (octets : List ℕ) (handle : ℕ) (one
   received_here = received one.setup facts.turn.slot octets room (facts_in one)
 
   abbrev IsHere : EndFacts → Type 0
-  IsHere held = held ≡ refused_facts (refuses_at handle room octets facts one) one.setup received_here
+  IsHere held = held ≡ refused_facts (refusal_at handle room octets facts one) one.setup received_here
 
   abbrev sends : Bool
   sends = sends_under handle (facts_after setup facts (PacketHeard octets)).turn.doing
@@ -95,7 +104,7 @@ module _ (setup : Setup) (facts : Facts) (octets : List ℕ) (handle : ℕ) (one
   here (Takes link others was got listened is) =
       ap facts_in is ∙ taking_facts sends handle room others facts (link_worded setup facts facts.turn.doing link)
       ∙ (λ i. sent_if (silent i) (same_base link (sym was ∙ at) i).setup facts.turn.slot
-      (refused_facts (refuses_at handle room (same_octets others octets (sym got) i) facts (same_base link (sym was ∙ at) i)) (same_base link (sym was ∙ at) i).setup
+      (refused_facts (refusal_at handle room (same_octets others octets (sym got) i) facts (same_base link (sym was ∙ at) i)) (same_base link (sym was ∙ at) i).setup
       (received (same_base link (sym was ∙ at) i).setup facts.turn.slot (same_octets others octets (sym got) i) room (facts_in (same_base link (sym was ∙ at) i)))))
 
   pub held_here : IsListening facts facts.turn.doing → link_at handle (facts_after setup facts (PacketHeard octets)).links ≡ Some next → IsHere (facts_in next)
@@ -105,8 +114,11 @@ module _ (setup : Setup) (facts : Facts) (octets : List ℕ) (handle : ℕ) (one
       → link_at handle (facts_after setup facts (PacketHeard octets)).links ≡ Some next → Prevails before received_here own other
       → Prevails before (facts_in next) own other
   prevails_held before own other listening is prevails =
-      subst (λ (held : EndFacts). Prevails before held own other)
-      (sym (held_here listening is ∙ refused_same (refuses_at handle room octets facts one) one.setup received_here prevails.peer)) prevails
+      let taken = link_after (PacketReceived facts.turn.slot octets room) one in
+      let taken_is : facts_in taken ≡ received_here = step_facts one (PacketReceived facts.turn.slot octets room) in
+      let same = subst (λ (f : EndFacts). (central_of f.control.table).peer ≡ Absent → refused_facts (refusal_at handle room octets facts one) one.setup f ≡ f) taken_is
+      (refused_same (refusal_at handle room octets facts one) taken (refusal_is handle room octets facts one) role) in
+      subst (λ (held : EndFacts). Prevails before held own other) (sym (held_here listening is ∙ same prevails.peer)) prevails
 
 -- the facts of the station after the call
 pub called_facts : (given : Given) (station : ℕ) (step : Step) (before : List Event)

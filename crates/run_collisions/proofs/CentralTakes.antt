@@ -36,12 +36,12 @@ use Rattle.link_pairs.specs.link_model.Data.{is_control, is_data, is_empty}
 use Rattle.link_pairs.specs.link_model.End.{notes_after}
 use Rattle.link_pairs.specs.link_model.Facts.{Facts, keyed_of}
 use Rattle.link_pairs.specs.link_model.Hearing.{IsUnderstood, pdu_octets}
-use Rattle.link_pairs.specs.link_model.Packets.{good_pdu, header_sent, pdu_sent}
+use Rattle.link_pairs.specs.link_model.Packets.{good_pdu, header_sent, is_forged, pdu_sent}
 use Rattle.link_pairs.specs.link_model.Receiving.{accepted_if, accepts, data_taken_if, facts_before_taking, facts_hearing, notes_hearing, procedures_take, procedures_take_if}
 use Rattle.link_pairs.specs.link_model.Setup.{Setup, first_anchor, first_params}
 use Rattle.link_pairs.specs.link_model.Step.{PacketReceived}
 use Rattle.link_pairs.specs.Ends.{AreEnds, heard_turns, is_lasting, phased_of}
-use Rattle.link_pairs.specs.Hearing.{IsPacketOf, received}
+use Rattle.link_pairs.specs.Hearing.{IsPacketOf, is_mixed, is_mixed_packet, received}
 use Rattle.link_pairs.specs.Shown.{AreLinked, Shows}
 use Rattle.link_pairs.specs.Sound.{first_joint}
 use Rattle.link_pairs.proofs.link_model.Hearing.{IsHeardWhole}
@@ -60,7 +60,11 @@ use Rattle.link_pairs.proofs.SeenAcknowledged.{control_seen}
 use Rattle.link_pairs.proofs.Sounding.{link_now, reached_now, runs}
 use Rattle.link_pairs.proofs.Ways.{arrives}
 use Rattle.link_answers.specs.Owing.{Owes}
-use Rattle.link_runs.proofs.AsSent.{IsAsSent, as_sent_up, ends_as_sent, understood_up}
+use Rattle.link_pairs.proofs.OtherKeys.{mixed_at_central}
+use Rattle.link_pairs.proofs.Understanding.{IsOpenedThere, understood_at_central}
+use Rattle.run_pairs.proofs.EndCalls.{good_genuine}
+use Rattle.run_pairs.proofs.Stages.{genuine_ends}
+use Rattle.run_collisions.proofs.OfPairs.{good_taken}
 use Rattle.run_collisions.specs.Prevailing.{Prevails, first_of, seen, seen_by}
 use Rattle.run_collisions.specs.Refused.{is_refusing}
 use Rattle.run_collisions.specs.Taking.{TakesControl}
@@ -85,7 +89,7 @@ module _ (whole : IsHeardWhole) (central peripheral : Setup) (slot : ℕ) (c p :
     (ends : AreEnds central peripheral) (linked : AreLinked central peripheral (slot + 1) true c p) (c_lasts : is_lasting c ≡ true)
     (p_lasts : is_lasting p ≡ true) (past : heard_turns central c ≤ slot) (entered : 1 ≤ c.control.track.entered)
     (packet : IsPacketOf peripheral slot p channel octets) (same : channel ≡ c.event.channel)
-    (taken : TakesControl central c slot octets room) where
+    (taken : TakesControl central c slot octets room) (opened : IsOpenedThere) (unmixed : is_mixed_packet central c p octets ≡ false) where
   abbrev l : Link
   l = link_now central peripheral ends (slot + 1) true c p linked c_lasts p_lasts
 
@@ -109,11 +113,17 @@ module _ (whole : IsHeardWhole) (central peripheral : Setup) (slot : ℕ) (c p :
   abbrev has_room : Bool
   has_room = room || not (is_data last)
 
-  und : IsUnderstood peripheral packet.before central c
-  und = understood_up whole central peripheral ends (slot + 1) slot true c p channel octets linked c_lasts p_lasts packet same
+  -- it is good, so not forged
+  genuine : is_forged central c octets ≡ false
+  genuine = good_genuine central octets c (good_taken central c octets slot room taken.earlier taken.later _ taken.notes)
 
-  as_sent : IsAsSent central c slot octets p.acknowledgement
-  as_sent = as_sent_up whole central peripheral ends (slot + 1) slot true c p channel octets linked c_lasts p_lasts packet same
+  pure : is_mixed central c octets p.acknowledgement.last ≡ false
+  pure = mixed_at_central whole opened central peripheral (slot + 1) slot true c p channel octets ends linked c_lasts p_lasts packet same unmixed
+
+  und : IsUnderstood peripheral packet.before central c
+  und =
+      understood_at_central whole central peripheral (slot + 1) slot true c p channel octets ends linked c_lasts p_lasts packet same
+      (record { genuine = genuine; pure = pure })
 
   sent : HasSent packet.before p
   sent = sent_packet peripheral slot p channel octets packet
@@ -332,8 +342,8 @@ module _ (whole : IsHeardWhole) (central peripheral : Setup) (slot : ℕ) (c p :
     j_runs =
         running_from j (ap (λ (x : Joint). x.stopped) j_is ∙ terminates_none other ctrl opens)
         (ap (λ (k : Control). k.ends) j_control
-        ∙ ends_as_sent central c slot octets p.acknowledgement as_sent now.control.ends _
-        (central_lasts whole central peripheral slot c p channel octets room ends linked c_lasts p_lasts past entered packet same as_sent.so.pure))
+        ∙ genuine_ends _ central c octets now.control.ends genuine
+        (central_lasts whole central peripheral slot c p channel octets room ends linked c_lasts p_lasts past entered packet same pure))
         (ap (λ (x : Joint). x.peripheral.control.ends) j_is ∙ ap (λ (x : Joint). x.peripheral.control.ends) s1_is ∙ (goes_on l.joint running).peripheral)
 
     prevails_joint : CentralPrevails s1 own other way.outgoing ctrl collides

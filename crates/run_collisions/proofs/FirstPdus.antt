@@ -1,7 +1,7 @@
 -- The first PDU of a procedure of a peripheral, as that queued it.
 use Rattle.std.proofs.Common.{◌≡◌, ℕ, true, false, Option, Some, None, refl, ap, ◌∙◌}
 use Rattle.data_pdu.specs.declared.ctrl.Ctrl.{Ctrl}
-use Rattle.data_pdu.specs.declared.ctrl.Ctrl.TheVariants.{ConnectionParamReq as param_ctrl, EncReq, PauseEncReq, PhyReq as phy_ctrl, TerminateInd}
+use Rattle.data_pdu.specs.declared.ctrl.Ctrl.TheVariants.{ConnectionParamReq as param_ctrl, PhyReq as phy_ctrl, TerminateInd}
 use Rattle.exclusive_stages.specs.declared.pdus.Exclusive.{Exclusive}
 use Rattle.exclusive_stages.specs.declared.pdus.Pdu.{Pdu}
 use Rattle.exclusive_stages.specs.declared.pdus.Pdu.TheVariants.{ParamReq, PhyReq as phy_pdu}
@@ -13,17 +13,11 @@ use Rattle.link_pairs.specs.procedure_values.declared.drafts.Draft.TheVariants.{
 use Rattle.link_pairs.specs.procedure_values.declared.drafts.Outgoing.{Outgoing}
 use Rattle.link_pairs.specs.procedure_values.declared.drafts.Outgoing.TheVariants.{Disconnect, Nothing, Other, Rejection}
 use Rattle.link_pairs.specs.procedure_values.Drafts.{ctrl_of_draft, ctrl_of_outgoing}
-use Rattle.link_pairs.specs.control_model.Supported.{begins_encryption}
 use Rattle.link_pairs.specs.joint_controls.Joint.{is_terminate}
 use Rattle.run_collisions.specs.Prevailing.{first_of}
 
 module _ (q : Exclusive) where
-  -- it begins no encryption, and does not end the link
-  pub begins_none : (ctrl : Ctrl) → first_of ctrl ≡ Some q → begins_encryption ctrl ≡ false
-  begins_none (EncReq rand ediv skd_m iv_m) is = absurd (cc)
-  begins_none PauseEncReq is = absurd (cc)
-  begins_none ctrl is = refl
-
+  -- it does not end the link
   pub terminates_none : (ctrl : Ctrl) → first_of ctrl ≡ Some q → is_terminate ctrl ≡ false
   terminates_none (TerminateInd code) is = absurd (cc)
   terminates_none ctrl is = refl

@@ -1,18 +1,19 @@
 -- A central of a run that takes the first PDU of a procedure of the peripheral while its own is in progress, and a peripheral
 -- that takes the rejection of its procedure.
-use Rattle.std.proofs.Common.{◌≡◌, inl, inr, ℕ, zero, suc, ◌+◌, Bool, true, false, Some, List, [], ◌∷◌, ◌++◌, append-nil, length, refl, sym, ap, subst, ◌∙◌, arith}
+use Rattle.std.proofs.Common.{◌≡◌, inl, inr, ℕ, Bool, true, false, Some, List, [], ◌∷◌, ◌++◌, append-nil, length, refl, sym, ap, ◌∙◌}
 use Rattle.std.specs.Prelude.{if◌then◌else◌}
 use Rattle.std.specs.List.{filter}
 use Rattle.ble_base.specs.declared.error_codes.ErrCode.{ErrCode}
 use Rattle.ble_base.specs.declared.notes.Note.{Note}
 use Rattle.ble_base.specs.declared.notes.Note.TheVariants.{Took}
+use Rattle.ble_base.specs.declared.verdicts.Verdict.TheVariants.{Good}
 use Rattle.exclusive_stages.specs.declared.pdus.Exclusive.{Exclusive}
-use Rattle.controller_model.specs.declared.doing.Doing.{Doing}
 use Rattle.controller_model.specs.Facts.{Facts}
 use Rattle.controller_model.specs.Heard.{has_room}
 use Rattle.controller_model.specs.Step.{PacketHeard}
 use Rattle.run_pairs.specs.link_calls.link_model.Facts.{Facts as EndFacts}
 use Rattle.run_pairs.specs.link_calls.link_model.Numbers.{is_took_note}
+use Rattle.run_pairs.specs.link_calls.link_model.Packets.{is_forged, verdict_of}
 use Rattle.run_pairs.specs.link_calls.link_model.Setup.{Setup as EndSetup}
 use Rattle.run_pairs.specs.link_calls.open_links.OpenLinks.{OpenLink, facts_in, link_at}
 use Rattle.run_pairs.specs.link_calls.run_model.Feeding.{AreDistinct}
@@ -27,24 +28,29 @@ use Rattle.run_pairs.proofs.link_calls.run_laws.InAgreement.{OpenedBefore}
 use Rattle.run_pairs.proofs.link_calls.run_laws.LinkPhases.{in_phase}
 use Rattle.run_pairs.proofs.link_calls.run_laws.OpenSteps.{open_has}
 use Rattle.run_pairs.proofs.link_calls.run_laws.SameEvent.{apart_ends}
-use Rattle.run_pairs.proofs.link_calls.run_laws.TurnPlaces.{Within, at_stage, standing, turned}
+use Rattle.run_pairs.proofs.link_calls.run_laws.TurnPlaces.{Within, at_stage, standing}
 use Rattle.link_runs.specs.link_pairs.Ends.{AreEnds, is_lasting}
-use Rattle.link_runs.specs.link_pairs.Hearing.{IsPacketOf, received}
+use Rattle.link_runs.specs.link_pairs.Hearing.{IsPacketOf, is_mixed_packet, received}
+use Rattle.link_runs.proofs.link_pairs.Understanding.{IsOpenedThere}
 use Rattle.link_pairs.specs.link_model.Controls.{is_procedure_pdu}
-use Rattle.run_pairs.specs.InTurns.{HasSentNow, HearEachInTurn}
-use Rattle.run_pairs.specs.Stages.{AreAnsweredEnds, AreBegunEnds, CentralTook, IsLate, IsOver, Lasts, PeripheralTook}
-use Rattle.run_pairs.proofs.BothEnds.{ByStanding, at_standing, kept_to, packet_now}
+use Rattle.run_pairs.specs.InTurns.{HasSentNow, HearEachInTurn, HearNoMixed}
+use Rattle.run_pairs.specs.Stages.{AreAnsweredEnds, AreBegunEnds, CentralTook, IsForged, IsLate, IsOver, Lasts, PeripheralTook}
+use Rattle.run_pairs.proofs.BothEnds.{ByStanding, kept_to}
+use Rattle.run_pairs.proofs.FarPackets.{packet_now}
 use Rattle.run_pairs.proofs.CallPlaces.{StandsInPhase, stands_called}
-use Rattle.run_pairs.proofs.Conclusions.{listens_by, not_new, on_link, pair_ends, phase_of}
-use Rattle.run_pairs.proofs.EndCalls.{central_takes_in, central_unworded, peripheral_takes_in}
+use Rattle.run_pairs.proofs.Conclusions.{pair_ends}
+use Rattle.run_pairs.proofs.HeardNow.{answered_now, begun_now, listens_by, on_link, side_at}
+use Rattle.run_pairs.proofs.EndCalls.{good_genuine, central_unworded}
 use Rattle.run_pairs.proofs.LinkSteps.{AsksMayCome}
-use Rattle.run_pairs.proofs.OneSide.{StationAt, station_first, station_kept}
-use Rattle.run_pairs.proofs.PairSteps.{AreBothBegun, InTurn, IsPeripheralDone, NewOr}
+use Rattle.run_pairs.proofs.OneSide.{StationAt}
+use Rattle.run_pairs.proofs.PairSteps.{IsPacketNow}
 use Rattle.run_pairs.proofs.Stages.{hears_its_end}
+use Rattle.run_pairs.proofs.Unmixed.{front_unmixed, next_unmixed}
 use Rattle.run_collisions.specs.Prevailing.{Prevails, TakesColliding, seen}
 use Rattle.run_collisions.specs.Refused.{IsRefused, TakesRejection, is_refusing}
 use Rattle.run_collisions.proofs.AfterCalls.{called_facts, prevails_held}
 use Rattle.run_collisions.proofs.CentralTakes.{central_taken, prevails_here, refuses_none}
+use Rattle.run_collisions.proofs.OfPairs.{good_taken}
 use Rattle.run_collisions.proofs.PeripheralTakes.{is_refused, peripheral_taken}
 use Rattle.run_collisions.proofs.Taken.{taken_first, taken_rejection}
 use Rattle.run_collisions.specs.Taking.{TakesControl}
@@ -65,23 +71,31 @@ none_there (note ∷ earlier) later handle number llid body is =
 
 module _ (whole : IsHeardWhole) (central peripheral : EndSetup) (ends : AreEnds central peripheral) (slot : ℕ) (c p : EndFacts) (channel : ℕ) (octets : List ℕ)
     (room : Bool) (packet : IsPacketOf peripheral slot p channel octets) (same : channel ≡ c.event.channel) (own other : Exclusive)
-    (colliding : TakesColliding central c slot octets room own other) where
+    (colliding : TakesColliding central c slot octets room own other) (opened : IsOpenedThere) (unmixed : is_mixed_packet central c p octets ≡ false) where
+  genuine_colliding : is_forged central c octets ≡ false
+  genuine_colliding = good_genuine central octets c (good_taken central c octets slot room colliding.earlier colliding.later _ colliding.notes)
+
   pub answered_prevails : AreAnsweredEnds central peripheral slot true c p → Prevails (seen central slot octets c)
       (received central slot octets room c) own other
   answered_prevails (Lasts link) =
       prevails_here whole central peripheral slot c p channel octets room ends link.linked link.central_lasts link.peripheral_lasts link.central_past
-      (link.entered refl) packet same (taken_first central c slot octets room own other colliding) own other colliding.first colliding.runs
+      (link.entered refl) packet same (taken_first central c slot octets room own other colliding) opened unmixed own other colliding.first colliding.runs
   answered_prevails (PeripheralTook parting) =
       absurd (none_there colliding.earlier colliding.later central.link.handle colliding.number 3 colliding.body
       (ap (filter is_took_note) (sym colliding.notes)
-      ∙ (hears_its_end whole peripheral central (sym ends.one_link.fields) ends.central_max.to p c parting slot channel octets packet same room).takes_none))
+      ∙ (hears_its_end whole peripheral central (sym ends.one_link.fields) ends.central_max.to p c parting slot channel octets packet same room opened unmixed
+      genuine_colliding).takes_none))
   answered_prevails (CentralTook parting none) = absurd (cc)
   answered_prevails (IsLate link none) = absurd (cc)
   answered_prevails (IsOver link none) = absurd (cc)
+  answered_prevails (IsForged link none) = absurd (cc)
 
 module _ (whole : IsHeardWhole) (central peripheral : EndSetup) (ends : AreEnds central peripheral) (slot : ℕ) (c p : EndFacts) (channel : ℕ) (octets : List ℕ)
     (room : Bool) (packet : IsPacketOf peripheral slot p channel octets) (same : channel ≡ c.event.channel)
-    (taking : TakesControl central c slot octets room) where
+    (taking : TakesControl central c slot octets room) (opened : IsOpenedThere) (unmixed : is_mixed_packet central c p octets ≡ false) where
+  genuine_up : is_forged central c octets ≡ false
+  genuine_up = good_genuine central octets c (good_taken central c octets slot room taking.earlier taking.later _ taking.notes)
+
   -- what it takes is no refusal, and its own control PDUs were taken
   record IsTakenAlone : Type 0 where
     refuses_none : is_refusing taking.ctrl ≡ false
@@ -91,45 +105,55 @@ module _ (whole : IsHeardWhole) (central peripheral : EndSetup) (ends : AreEnds 
   answered_alone (Lasts link) =
       record {
         refuses_none = refuses_none whole central peripheral slot c p channel octets room ends link.linked link.central_lasts link.peripheral_lasts
-            link.central_past (link.entered refl) packet same taking;
+            link.central_past (link.entered refl) packet same taking opened unmixed;
         own_taken = central_taken whole central peripheral slot c p channel octets room ends link.linked link.central_lasts link.peripheral_lasts
-            link.central_past (link.entered refl) packet same taking;
+            link.central_past (link.entered refl) packet same taking opened unmixed;
       }
   answered_alone (PeripheralTook parting) =
       absurd (none_there taking.earlier taking.later central.link.handle taking.number 3 taking.body
       (ap (filter is_took_note) (sym taking.notes)
-      ∙ (hears_its_end whole peripheral central (sym ends.one_link.fields) ends.central_max.to p c parting slot channel octets packet same room).takes_none))
+      ∙ (hears_its_end whole peripheral central (sym ends.one_link.fields) ends.central_max.to p c parting slot channel octets packet same room opened unmixed
+      genuine_up).takes_none))
   answered_alone (CentralTook parting none) = absurd (cc)
   answered_alone (IsLate link none) = absurd (cc)
   answered_alone (IsOver link none) = absurd (cc)
+  answered_alone (IsForged link none) = absurd (cc)
 
 -- ---- the central sent, and the peripheral hears it
 
 module _ (whole : IsHeardWhole) (central peripheral : EndSetup) (ends : AreEnds central peripheral) (slot : ℕ) (c p : EndFacts) (channel : ℕ) (octets : List ℕ)
     (room : Bool) (packet : IsPacketOf central slot c channel octets) (same : channel ≡ p.event.channel) (q : Exclusive) (code : ErrCode)
-    (taking : TakesRejection peripheral p slot octets room q code) where
+    (taking : TakesRejection peripheral p slot octets room q code) (opened : IsOpenedThere) (unmixed : is_mixed_packet peripheral p c octets ≡ false) where
+  genuine_rejection : is_forged peripheral p octets ≡ false
+  genuine_rejection = good_genuine peripheral octets p (good_taken peripheral p octets slot room taking.earlier taking.later _ taking.notes)
+
   pub begun_refuses : AreBegunEnds central peripheral slot true true c p
       → IsRefused peripheral (seen peripheral slot octets p) (received peripheral slot octets room p) taking.later q code
   begun_refuses (inl link) =
       is_refused whole central peripheral slot c p channel octets room ends link.begun link.central_lasts link.peripheral_lasts packet same link.supervised
-      (taken_rejection peripheral p slot octets room q code taking) q code refl
+      (taken_rejection peripheral p slot octets room q code taking) opened unmixed q code refl
   begun_refuses (inr parting) =
       absurd (none_there taking.earlier taking.later peripheral.link.handle taking.number 3 taking.body
       (ap (filter is_took_note) (sym taking.notes)
-      ∙ (hears_its_end whole central peripheral ends.one_link.fields ends.peripheral_max.to c p parting slot channel octets packet same room).takes_none))
+      ∙ (hears_its_end whole central peripheral ends.one_link.fields ends.peripheral_max.to c p parting slot channel octets packet same room opened unmixed
+      genuine_rejection).takes_none))
 
 module _ (whole : IsHeardWhole) (central peripheral : EndSetup) (ends : AreEnds central peripheral) (slot : ℕ) (c p : EndFacts) (channel : ℕ) (octets : List ℕ)
     (room : Bool) (packet : IsPacketOf central slot c channel octets) (same : channel ≡ p.event.channel)
-    (taking : TakesControl peripheral p slot octets room) where
+    (taking : TakesControl peripheral p slot octets room) (opened : IsOpenedThere) (unmixed : is_mixed_packet peripheral p c octets ≡ false) where
+  genuine_down : is_forged peripheral p octets ≡ false
+  genuine_down = good_genuine peripheral octets p (good_taken peripheral p octets slot room taking.earlier taking.later _ taking.notes)
+
   begun_taken : AreBegunEnds central peripheral slot true true c p
       → is_procedure_pdu p.acknowledgement.last ≡ true → length c.acknowledgement.accepted ≡ length p.acknowledgement.sent
   begun_taken (inl link) =
       peripheral_taken whole central peripheral slot c p channel octets room ends link.begun link.central_lasts link.peripheral_lasts packet same
-      link.supervised taking
+      link.supervised taking opened unmixed
   begun_taken (inr parting) =
       absurd (none_there taking.earlier taking.later peripheral.link.handle taking.number 3 taking.body
       (ap (filter is_took_note) (sym taking.notes)
-      ∙ (hears_its_end whole central peripheral ends.one_link.fields ends.peripheral_max.to c p parting slot channel octets packet same room).takes_none))
+      ∙ (hears_its_end whole central peripheral ends.one_link.fields ends.peripheral_max.to c p parting slot channel octets packet same room opened unmixed
+      genuine_down).takes_none))
 
   -- the link lasts there
   begun_lasts : AreBegunEnds central peripheral slot true true c p → is_lasting p ≡ true
@@ -137,17 +161,19 @@ module _ (whole : IsHeardWhole) (central peripheral : EndSetup) (ends : AreEnds 
   begun_lasts (inr parting) =
       absurd (none_there taking.earlier taking.later peripheral.link.handle taking.number 3 taking.body
       (ap (filter is_took_note) (sym taking.notes)
-      ∙ (hears_its_end whole central peripheral ends.one_link.fields ends.peripheral_max.to c p parting slot channel octets packet same room).takes_none))
+      ∙ (hears_its_end whole central peripheral ends.one_link.fields ends.peripheral_max.to c p parting slot channel octets packet same room opened unmixed
+      genuine_down).takes_none))
 
 -- ---- in a run
 
-module _ (whole : IsHeardWhole) (understood : IsUnderstood) (taken : AreTaken) (given : Given) (six : HaveAddresses given)
+module _ (whole : IsHeardWhole) (opens_there : IsOpenedThere) (understood : IsUnderstood) (taken : AreTaken) (given : Given) (six : HaveAddresses given)
     (distinct : AreDistinct given.stations)
     (asks : AsksMayCome given) (before rest : List Event) (octets : List ℕ) (central peripheral : OpenEnd)
     (at : history_of (run_of given) ≡ before ++ Called central.station (PacketHeard octets) ∷ rest)
     (in_it : is_in central.station given.stations ≡ true) (in_too : is_in peripheral.station given.stations ≡ true)
     (of_one : AreEndsIn before central peripheral) (is_open : IsOpen given before central) (is_open_too : IsOpen given before peripheral)
     (hear : HearEachInTurn given before central peripheral)
+    (none_mixed : HearNoMixed given (before ++ Called central.station (PacketHeard octets) ∷ []) central peripheral)
     (listens : link_listened (facts_at given central.station before).turn.doing ≡ Some central.handle)
     (sent : HasSentNow given before central peripheral (facts_in central.link).event.channel octets) where
   abbrev c_here : EndSetup
@@ -160,12 +186,14 @@ module _ (whole : IsHeardWhole) (understood : IsUnderstood) (taken : AreTaken) (
   call = Called central.station (PacketHeard octets) ∷ rest
 
   ends : AreEnds c_here p_here
-  ends = pair_ends whole understood taken given six distinct asks before call at central peripheral in_it in_too of_one is_open is_open_too hear
+  ends = pair_ends whole opens_there understood taken given six distinct asks before call at central peripheral in_it in_too of_one is_open is_open_too hear
+      (front_unmixed given before (Called central.station (PacketHeard octets) ∷ []) central peripheral none_mixed)
 
   kept_here : ByStanding c_here p_here peripheral.handle (standing (past_of central.station before)) (standing (past_of peripheral.station before))
       (facts_at given peripheral.station before).turn.doing central.link peripheral.link
   kept_here =
-      kept_to whole taken given distinct central peripheral ends in_it in_too asks (apart_ends before central peripheral of_one) before call at hear before []
+      kept_to whole opens_there taken given distinct central peripheral ends in_it in_too asks (apart_ends before central peripheral of_one) before call at hear
+      (front_unmixed given before (Called central.station (PacketHeard octets) ∷ []) central peripheral none_mixed) before []
       (sym (append-nil before)) central.link peripheral.link is_open refl is_open_too refl
 
   abbrev facts_c : Facts
@@ -178,57 +206,40 @@ module _ (whole : IsHeardWhole) (understood : IsUnderstood) (taken : AreTaken) (
   stands = stands_called given before rest central.station (PacketHeard octets) distinct at
 
   side : StationAt (setup_at given central.station) (Within stands.phases) stands.turns facts_c
-  side =
-      let setup = setup_at given central.station in
-      turned setup (StationAt setup) (station_kept taken setup) (past_of central.station before) (at_stage (Within stands.phases) stands.turns)
-      (station_first setup)
-      stands.stand.own
+  side = side_at taken given before central.station (at_stage (Within stands.phases) stands.turns) stands.stand.own
 
-  second : stands.phases ≡ 1
-  second = central_takes_in facts_c.links central.handle central.link is_open stands.phases facts_c.turn.doing
-      (in_phase (setup_at given central.station) (past_of central.station before) stands.phases stands.turns stands.stand.own)
-      (listens_by central.handle facts_c.turn.doing listens) of_one.is_central
+  -- the packet is the answer of the turn
+  packet : IsPacketNow p_here slot (facts_in central.link) peripheral.link octets
+  packet = packet_now given before call central peripheral (facts_in central.link) octets peripheral.link distinct in_too at is_open_too refl sent
 
-  done_by : (n : ℕ) (b : Bool) (doing : Doing) → n ≡ 1
-      → NewOr c_here p_here peripheral.handle stands.turns
-      (λ slot. InTurn c_here p_here peripheral.handle (if b then suc n else n) n slot doing central.link peripheral.link)
-      → IsPeripheralDone c_here p_here peripheral.handle slot central.link peripheral.link
-  done_by zero b doing is place = absurd (omega (arith, is))
-  done_by (suc zero) true doing is (inr place) = place slot (sym side.holds.phased.uses.in_turn.slot_is)
-  done_by (suc zero) false doing is (inr place) = place slot (sym side.holds.phased.uses.in_turn.slot_is)
-  done_by (suc zero) b doing is (inl new) =
-      let old = open_has (OpenedBefore slot) 0 central.handle facts_c.links central.link
-      (side.station.old (on_link central.handle facts_c.turn.doing listens)) is_open in
-      not_new _ c_here.opened slot stands.turns old side.holds.phased.uses.in_turn.slot_is new
-  done_by (suc (suc n)) b doing is place = absurd (omega (arith, is))
+  answered : AreAnsweredEnds c_here p_here slot true (facts_in central.link) (facts_in peripheral.link)
+  answered =
+      answered_now taken given distinct before rest octets central peripheral ends in_it in_too central.link peripheral.link is_open refl is_open_too refl kept_here at
+      listens packet
 
-  done : IsPeripheralDone c_here p_here peripheral.handle slot central.link peripheral.link
-  done =
-      let b = stands.stand.was_called peripheral.station in
-      let j = if b then suc stands.phases else stands.phases in
-      let place = at_standing c_here p_here peripheral.handle (at_stage (Within stands.phases) stands.turns)
-      (at_stage (Within j) stands.turns) _ _ _ central.link peripheral.link
-      stands.stand.own (phase_of b stands.phases stands.turns (past_of peripheral.station before) (stands.stand.others peripheral.station in_too)) kept_here in
-      done_by stands.phases b _ second place.1
+  unmixed_up : verdict_of c_here (facts_in central.link) octets ≡ Good → is_mixed_packet c_here (facts_in central.link) (facts_in peripheral.link) octets ≡ false
+  unmixed_up good =
+      next_unmixed given before octets central peripheral none_mixed.one_hears
+      (record { handle = central.handle; listens = listens; is_open = is_open; is_good = good }) is_open_too
 
   pub prevails_in_run : (room : Bool) (own other : Exclusive) → TakesColliding c_here (facts_in central.link) slot octets room own other
       → Prevails (seen c_here slot octets (facts_in central.link)) (received c_here slot octets room (facts_in central.link)) own other
   prevails_in_run room own other colliding =
-      let packet = packet_now given before call central peripheral (facts_in central.link) octets peripheral.link distinct in_too at is_open_too refl sent in
       let c = facts_in central.link in
       let p = facts_in peripheral.link in
-      answered_prevails whole c_here p_here ends slot c p packet.channel octets room packet.packet packet.same own other colliding
-      (subst (λ b. AreAnsweredEnds c_here p_here slot b c p) (done.sends packet.front packet.last) done.answered_so)
+      answered_prevails whole c_here p_here ends slot c p packet.channel octets room packet.packet packet.same own other colliding opens_there
+      (unmixed_up (good_taken c_here c octets slot room colliding.earlier colliding.later _ colliding.notes))
+      answered
 
   alone_in_run : (room : Bool) (taking : TakesControl c_here (facts_in central.link) slot octets room)
-      → let packet = packet_now given before call central peripheral (facts_in central.link) octets peripheral.link distinct in_too at is_open_too refl sent in
-      IsTakenAlone whole c_here p_here ends slot (facts_in central.link) (facts_in peripheral.link) packet.channel octets room packet.packet packet.same taking
+      → IsTakenAlone whole c_here p_here ends slot (facts_in central.link) (facts_in peripheral.link) packet.channel octets room packet.packet packet.same taking opens_there
+      (unmixed_up (good_taken c_here (facts_in central.link) octets slot room taking.earlier taking.later _ taking.notes))
   alone_in_run room taking =
-      let packet = packet_now given before call central peripheral (facts_in central.link) octets peripheral.link distinct in_too at is_open_too refl sent in
       let c = facts_in central.link in
       let p = facts_in peripheral.link in
-      answered_alone whole c_here p_here ends slot c p packet.channel octets room packet.packet packet.same taking
-      (subst (λ b. AreAnsweredEnds c_here p_here slot b c p) (done.sends packet.front packet.last) done.answered_so)
+      answered_alone whole c_here p_here ends slot c p packet.channel octets room packet.packet packet.same taking opens_there
+      (unmixed_up (good_taken c_here c octets slot room taking.earlier taking.later _ taking.notes))
+      answered
 
   pub refuses_none_in_run : (room : Bool) (taking : TakesControl c_here (facts_in central.link) slot octets room) → is_refusing taking.ctrl ≡ false
   refuses_none_in_run room taking = (alone_in_run room taking).refuses_none
@@ -257,13 +268,14 @@ module _ (whole : IsHeardWhole) (understood : IsUnderstood) (taken : AreTaken) (
 
 -- ---- the peripheral of a run
 
-module _ (whole : IsHeardWhole) (understood : IsUnderstood) (taken : AreTaken) (given : Given) (six : HaveAddresses given)
+module _ (whole : IsHeardWhole) (opens_there : IsOpenedThere) (understood : IsUnderstood) (taken : AreTaken) (given : Given) (six : HaveAddresses given)
     (distinct : AreDistinct given.stations)
     (asks : AsksMayCome given) (before rest : List Event) (octets : List ℕ) (central peripheral : OpenEnd)
     (at : history_of (run_of given) ≡ before ++ Called peripheral.station (PacketHeard octets) ∷ rest)
     (in_it : is_in central.station given.stations ≡ true) (in_too : is_in peripheral.station given.stations ≡ true)
     (of_one : AreEndsIn before central peripheral) (is_open : IsOpen given before central) (is_open_too : IsOpen given before peripheral)
     (hear : HearEachInTurn given before central peripheral)
+    (none_mixed : HearNoMixed given (before ++ Called peripheral.station (PacketHeard octets) ∷ []) central peripheral)
     (listens : link_listened (facts_at given peripheral.station before).turn.doing ≡ Some peripheral.handle)
     (sent : HasSentNow given before peripheral central (facts_in peripheral.link).event.channel octets) where
   abbrev c_there : EndSetup
@@ -276,7 +288,8 @@ module _ (whole : IsHeardWhole) (understood : IsUnderstood) (taken : AreTaken) (
   call_there = Called peripheral.station (PacketHeard octets) ∷ rest
 
   ends_there : AreEnds c_there p_there
-  ends_there = pair_ends whole understood taken given six distinct asks before call_there at central peripheral in_it in_too of_one is_open is_open_too hear
+  ends_there = pair_ends whole opens_there understood taken given six distinct asks before call_there at central peripheral in_it in_too of_one is_open is_open_too hear
+      (front_unmixed given before (Called peripheral.station (PacketHeard octets) ∷ []) central peripheral none_mixed)
 
   abbrev facts_p : Facts
   facts_p = facts_at given peripheral.station before
@@ -287,80 +300,55 @@ module _ (whole : IsHeardWhole) (understood : IsUnderstood) (taken : AreTaken) (
   kept_there : ByStanding c_there p_there peripheral.handle (standing (past_of central.station before)) (standing (past_of peripheral.station before))
       facts_p.turn.doing central.link peripheral.link
   kept_there =
-      kept_to whole taken given distinct central peripheral ends_there in_it in_too asks
-      (apart_ends before central peripheral of_one) before call_there at hear before []
+      kept_to whole opens_there taken given distinct central peripheral ends_there in_it in_too asks
+      (apart_ends before central peripheral of_one) before call_there at hear
+      (front_unmixed given before (Called peripheral.station (PacketHeard octets) ∷ []) central peripheral none_mixed) before []
       (sym (append-nil before)) central.link peripheral.link is_open refl is_open_too refl
 
-  p_stands : StandsInPhase given before peripheral.station
-  p_stands = stands_called given before rest peripheral.station (PacketHeard octets) distinct at
+  -- the packet is the first of the turn
+  sent_packet : IsPacketNow c_there slot_there (facts_in peripheral.link) central.link octets
+  sent_packet = packet_now given before call_there peripheral central (facts_in peripheral.link) octets central.link distinct in_it at is_open refl sent
 
-  p_side : StationAt (setup_at given peripheral.station) (Within p_stands.phases) p_stands.turns facts_p
-  p_side =
-      let setup = setup_at given peripheral.station in
-      turned setup (StationAt setup) (station_kept taken setup) (past_of peripheral.station before) (at_stage (Within p_stands.phases) p_stands.turns)
-      (station_first setup) p_stands.stand.own
+  begun : AreBegunEnds c_there p_there slot_there true true (facts_in central.link) (facts_in peripheral.link)
+  begun =
+      begun_now taken given distinct before rest octets central peripheral ends_there in_it in_too central.link peripheral.link is_open refl is_open_too refl kept_there
+      at listens sent_packet
 
-  p_first : p_stands.phases ≡ 0
-  p_first = peripheral_takes_in facts_p.links peripheral.handle peripheral.link is_open_too p_stands.phases facts_p.turn.doing
-      (in_phase (setup_at given peripheral.station) (past_of peripheral.station before) p_stands.phases p_stands.turns p_stands.stand.own)
-      (listens_by peripheral.handle facts_p.turn.doing listens) of_one.is_peripheral
-
-  begun_by : (n i : ℕ) → n ≡ 0
-      → NewOr c_there p_there peripheral.handle p_stands.turns
-      (λ slot. InTurn c_there p_there peripheral.handle n i slot facts_p.turn.doing central.link peripheral.link)
-      → AreBothBegun c_there p_there peripheral.handle slot_there facts_p.turn.doing central.link peripheral.link
-  begun_by zero i is (inr place) = place slot_there (sym p_side.holds.phased.uses.in_turn.slot_is)
-  begun_by zero i is (inl new) =
-      let old = open_has (OpenedBefore slot_there) 0 peripheral.handle facts_p.links peripheral.link
-      (p_side.station.old (on_link peripheral.handle facts_p.turn.doing
-      listens)) is_open_too in
-      not_new _ p_there.opened slot_there p_stands.turns old p_side.holds.phased.uses.in_turn.slot_is
-      (ap (λ n. n + 1) (sym ends_there.one_link.opened) ∙ new)
-  begun_by (suc n) i is place = absurd (omega (arith, is))
-
-  both : AreBothBegun c_there p_there peripheral.handle slot_there facts_p.turn.doing central.link peripheral.link
-  both =
-      let b = p_stands.stand.was_called central.station in
-      let i = if b then suc p_stands.phases else p_stands.phases in
-      let place = at_standing c_there p_there peripheral.handle (at_stage (Within i) p_stands.turns)
-      (at_stage (Within p_stands.phases) p_stands.turns) _ _ _ central.link
-      peripheral.link (phase_of b p_stands.phases p_stands.turns (past_of central.station before) (p_stands.stand.others central.station in_it))
-      p_stands.stand.own
-      kept_there in
-      begun_by p_stands.phases i p_first place.1
+  unmixed_down : verdict_of p_there (facts_in peripheral.link) octets ≡ Good
+      → is_mixed_packet p_there (facts_in peripheral.link) (facts_in central.link) octets ≡ false
+  unmixed_down good =
+      next_unmixed given before octets peripheral central none_mixed.other_hears
+      (record { handle = peripheral.handle; listens = listens; is_open = is_open_too; is_good = good }) is_open
 
   pub refused_in_run : (room : Bool) (q : Exclusive) (code : ErrCode) (taking : TakesRejection p_there (facts_in peripheral.link) slot_there octets room q code)
       → IsRefused p_there (seen p_there slot_there octets (facts_in peripheral.link))
       (received p_there slot_there octets room (facts_in peripheral.link)) taking.later
       q code
   refused_in_run room q code taking =
-      let packet = packet_now given before call_there peripheral central (facts_in peripheral.link) octets central.link distinct in_it at is_open refl sent in
+      let packet = sent_packet in
       let c = facts_in central.link in
       let p = facts_in peripheral.link in
-      begun_refuses whole c_there p_there ends_there slot_there c p packet.channel octets room packet.packet packet.same q code taking
-      (subst (λ b. AreBegunEnds c_there p_there slot_there b true c p) (both.sends packet.front packet.last)
-      (subst (λ b. AreBegunEnds c_there p_there slot_there both.transmits b c p) (both.hears (listens_by peripheral.handle facts_p.turn.doing listens))
-      both.begun))
+      begun_refuses whole c_there p_there ends_there slot_there c p packet.channel octets room packet.packet packet.same q code taking opens_there
+      (unmixed_down (good_taken p_there p octets slot_there room taking.earlier taking.later _ taking.notes))
+      begun
 
   pub peripheral_taken_in_run : (room : Bool) (taking : TakesControl p_there (facts_in peripheral.link) slot_there octets room)
       → is_procedure_pdu (facts_in peripheral.link).acknowledgement.last ≡ true
       → length (facts_in central.link).acknowledgement.accepted ≡ length (facts_in peripheral.link).acknowledgement.sent
   peripheral_taken_in_run room taking =
-      let packet = packet_now given before call_there peripheral central (facts_in peripheral.link) octets central.link distinct in_it at is_open refl sent in
+      let packet = sent_packet in
       let c = facts_in central.link in
       let p = facts_in peripheral.link in
-      begun_taken whole c_there p_there ends_there slot_there c p packet.channel octets room packet.packet packet.same taking
-      (subst (λ b. AreBegunEnds c_there p_there slot_there b true c p) (both.sends packet.front packet.last)
-      (subst (λ b. AreBegunEnds c_there p_there slot_there both.transmits b c p) (both.hears (listens_by peripheral.handle facts_p.turn.doing listens))
-      both.begun))
+      begun_taken whole c_there p_there ends_there slot_there c p packet.channel octets room packet.packet packet.same taking opens_there
+      (unmixed_down (good_taken p_there p octets slot_there room taking.earlier taking.later _ taking.notes))
+      begun
 
   pub peripheral_lasts_in_run : (room : Bool) (taking : TakesControl p_there (facts_in peripheral.link) slot_there octets room)
       → is_lasting (facts_in peripheral.link) ≡ true
   peripheral_lasts_in_run room taking =
-      let packet = packet_now given before call_there peripheral central (facts_in peripheral.link) octets central.link distinct in_it at is_open refl sent in
+      let packet = sent_packet in
       let c = facts_in central.link in
       let p = facts_in peripheral.link in
-      begun_lasts whole c_there p_there ends_there slot_there c p packet.channel octets room packet.packet packet.same taking
-      (subst (λ b. AreBegunEnds c_there p_there slot_there b true c p) (both.sends packet.front packet.last)
-      (subst (λ b. AreBegunEnds c_there p_there slot_there both.transmits b c p) (both.hears (listens_by peripheral.handle facts_p.turn.doing listens))
-      both.begun))
+      begun_lasts whole c_there p_there ends_there slot_there c p packet.channel octets room packet.packet packet.same taking opens_there
+      (unmixed_down (good_taken p_there p octets slot_there room taking.earlier taking.later _ taking.notes))
+      begun

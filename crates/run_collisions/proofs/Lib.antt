@@ -11,9 +11,12 @@ pub mod Refusing
 pub mod PeripheralTakes
 pub mod AfterCalls
 pub mod InRuns
+pub mod NoKey
 pub mod OfPairs
 pub mod Crossing
 pub mod RefusalsUp
 pub mod OwedPlaces
 pub mod OwedStates
 pub mod Taken
+pub mod TakingRejections
+pub mod BeforeTaking

@@ -1,7 +1,8 @@
 -- A peripheral that takes the rejection of its procedure.
-use Rattle.std.proofs.Common.{◌≡◌, ℕ, ◌+◌, ◌≤◌, ◌&&◌, ◌||◌, not, Bool, true, false, List, [], ◌∷◌, ◌++◌, length, Option, None, Some, refl, ap, sym, ◌∙◌, subst, if◌then◌else◌}
+use Rattle.std.proofs.Common.{◌≡◌, ◌⊎◌, inl, inr, ℕ, ◌+◌, ◌≤◌, ◌==◌, ◌&&◌, ◌||◌, not, Bool, true, false, List, [], ◌∷◌, ◌++◌, length, Option, None, Some, is_none, arith, refl, ap, sym, ◌∙◌, subst, if◌then◌else◌}
 use Rattle.std.proofs.lemmas.Bool.{and_from, and_parts, eq-eqb, or_right}
 use Rattle.ack_bit.specs.AckBits.{is_odd}
+use Rattle.ble_base.specs.ErrorCodes.{mic_failure}
 use Rattle.ble_base.specs.declared.error_codes.ErrCode.{ErrCode}
 use Rattle.ble_base.specs.declared.notes.Note.{Note}
 use Rattle.ble_base.specs.declared.notes.Note.TheVariants.{Refused, Took}
@@ -33,15 +34,19 @@ use Rattle.joint_laws.proofs.joint_controls.Running.{goes_on}
 use Rattle.joint_laws.proofs.joint_parameters.Hearing.{range_before}
 use Rattle.joint_laws.proofs.joint_parameters.Runs.{after_joined}
 use Rattle.link_pairs.specs.control_end.declared.answers.Taken.{Taken}
-use Rattle.link_pairs.specs.control_end.Answers.{nothing_taken, taken_of}
-use Rattle.link_pairs.specs.control_end.Held.{held_of}
-use Rattle.link_pairs.specs.control_model.Control.{Control, Takes, after}
+use Rattle.link_pairs.specs.control_end.Answers.{nothing_taken}
+use Rattle.link_pairs.specs.control_model.Control.{Control}
 use Rattle.link_pairs.specs.procedures.Table.{TableFacts}
+use Rattle.link_pairs.specs.procedure_stages.declared.steps.Effect.TheVariants.{Nothing}
 use Rattle.link_pairs.specs.procedure_stages.Opcodes.{opcode_of_kind}
 use Rattle.link_pairs.specs.procedure_values.declared.drafts.Outgoing.{Outgoing}
 use Rattle.link_pairs.specs.procedure_values.declared.drafts.Outgoing.TheVariants.{Rejection}
 use Rattle.link_pairs.specs.procedure_values.declared.drafts.Rejection.{Rejection as TheRejection}
-use Rattle.link_pairs.specs.link_model.phased_control.Phased.{Phased}
+use Rattle.link_pairs.specs.link_model.enc_phase.Phases.{is_quiet}
+use Rattle.link_pairs.specs.link_model.phased_control.Phased.{Phased, is_quiet_now}
+use Rattle.link_pairs.specs.link_model.phased_control.Taken.{Response as Drawn, Takes as phased_takes, phased_after, took as phased_took}
+use Rattle.link_pairs.specs.link_model.phased_end.Held.{held_of as keyed_held}
+use Rattle.link_pairs.specs.link_model.phased_end.Taking.{drawn, taken_keyed}
 use Rattle.link_pairs.specs.link_model.Acknowledgement.{Acknowledgement, Pdu, is_acked}
 use Rattle.link_pairs.specs.link_model.Controls.{is_procedure_pdu, read_of}
 use Rattle.link_pairs.specs.link_model.Data.{is_control, is_data, is_empty, numbered}
@@ -49,34 +54,35 @@ use Rattle.link_pairs.specs.link_model.End.{notes_after}
 use Rattle.link_pairs.specs.link_model.Entering.{done_notes}
 use Rattle.link_pairs.specs.link_model.Facts.{Facts, keyed_of}
 use Rattle.link_pairs.specs.link_model.Hearing.{IsUnderstood, pdu_octets}
-use Rattle.link_pairs.specs.link_model.Packets.{good_pdu, header_sent, pdu_sent}
-use Rattle.link_pairs.specs.link_model.Plain.{IsPlain, plain_accepted_if, plain_before_taking, plain_hearing, plain_taken_notes, plain_takes_if}
-use Rattle.link_pairs.specs.link_model.Receiving.{accepts, acked_kind, acks_control, facts_before_taking, facts_hearing, given_notes, has_acknowledged, notes_hearing, took_notes_if}
+use Rattle.link_pairs.specs.link_model.Packets.{good_pdu, header_sent, is_forged, pdu_sent}
+use Rattle.link_pairs.specs.link_model.Receiving.{accepted_if, accepts, acked_kind, acks_control, data_taken_if, facts_before_taking, facts_hearing, given_notes, has_acknowledged, notes_hearing, procedures_answer, procedures_take, procedures_take_if, taken_notes, took_notes_if}
 use Rattle.link_pairs.specs.link_model.Setup.{Setup, first_anchor, first_params}
 use Rattle.link_pairs.specs.link_model.Step.{PacketReceived}
 use Rattle.link_pairs.specs.Ends.{AreEnds, heard_turns, is_lasting, phased_of}
-use Rattle.link_pairs.specs.Hearing.{IsPacketOf, received}
+use Rattle.link_pairs.specs.Hearing.{IsPacketOf, answered, is_mixed, is_mixed_packet, received}
 use Rattle.link_pairs.specs.Shown.{Shows}
-use Rattle.link_pairs.specs.Sound.{first_joint}
+use Rattle.link_pairs.specs.Sound.{EndsForInstant, EndsForged, first_joint}
 use Rattle.link_pairs.specs.Turns.{AreReady, HaveBegun}
 use Rattle.link_pairs.proofs.link_model.Hearing.{IsHeardWhole}
-use Rattle.link_pairs.proofs.link_model.Plain.{before_taking_plain, hearing_plain, notes_hearing_plain}
 use Rattle.link_pairs.proofs.link_model.Received.{facts_heard, header_read, heard_good, notes_heard}
 use Rattle.link_pairs.proofs.Answering.{gone, seen as seen_end}
 use Rattle.link_pairs.proofs.Counts.{Says, acknowledged_by, is_fresh, says_right, turned}
-use Rattle.link_pairs.proofs.Ending.{run_on}
+use Rattle.link_pairs.proofs.Ending.{answered_ends, peripheral_lasts, run_on}
 use Rattle.link_pairs.proofs.FixingNext.{FixesNext, fixing_of, may_fix_after}
 use Rattle.link_pairs.proofs.HasSent.{HasSent, sent_packet}
 use Rattle.link_pairs.proofs.JointRuns.{HasRun, has_run}
 use Rattle.link_pairs.proofs.LastPdus.{last_reached}
 use Rattle.link_pairs.proofs.PeripheralHears.{Meets, fixes, reaches}
 use Rattle.link_pairs.proofs.PeripheralSteps.{may_parts, one_step, seen_after, with_end}
-use Rattle.link_pairs.proofs.PhasedEnds.{acked_phased}
+use Rattle.link_pairs.proofs.PhasedEnds.{acked_phased, takes_phased}
 use Rattle.link_pairs.proofs.Reaching.{IsReached, comes}
 use Rattle.link_pairs.proofs.SeenAcknowledged.{cleared, control_seen}
 use Rattle.link_pairs.proofs.Sounding.{link_now, reached_now, runs}
 use Rattle.link_pairs.proofs.Ways.{arrives}
-use Rattle.link_runs.proofs.AsSent.{understood_down}
+use Rattle.link_pairs.proofs.OtherKeys.{mixed_at_peripheral}
+use Rattle.link_pairs.proofs.Understanding.{IsOpenedThere, understood_at_peripheral}
+use Rattle.run_pairs.proofs.EndCalls.{good_genuine}
+use Rattle.run_collisions.proofs.OfPairs.{good_taken}
 use Rattle.run_collisions.specs.Prevailing.{seen, seen_by}
 use Rattle.run_collisions.specs.Refused.{IsRefused}
 use Rattle.run_collisions.specs.Taking.{TakesControl}
@@ -84,13 +90,15 @@ use Rattle.run_collisions.proofs.Crossing.{crosses_none_back, none_on_way, other
 use Rattle.run_collisions.proofs.OnWay.{IsOnWay, came}
 use Rattle.run_collisions.proofs.Refusing.{Refuses, control_after, given, phy_refused, refused_after, rejection_read, request_refused}
 use Rattle.run_collisions.proofs.RejectionsOut.{IsRejection, found, is_rejection}
+use Rattle.run_collisions.proofs.BeforeTaking.{in_phase, keeps_none}
 use Rattle.run_collisions.proofs.TakingNotes.{IsTaken, is_noted, taken_at}
+use Rattle.run_collisions.proofs.TakingRejections.{gives, quiet, taken_so}
 
 module _ (whole : IsHeardWhole) (central peripheral : Setup) (slot : ℕ) (c p : Facts) (channel : ℕ) (octets : List ℕ) (room : Bool)
     (ends : AreEnds central peripheral) (begun : HaveBegun central peripheral slot true true c p) (c_lasts : is_lasting c ≡ true)
     (p_lasts : is_lasting p ≡ true)
     (packet : IsPacketOf central slot c channel octets) (same : channel ≡ p.event.channel) (supervised : slot + 1 ≤ heard_turns peripheral p + 32768)
-    (taking : TakesControl peripheral p slot octets room) where
+    (taking : TakesControl peripheral p slot octets room) (opened : IsOpenedThere) (unmixed : is_mixed_packet peripheral p c octets ≡ false) where
   abbrev l : Link
   l = link_now central peripheral ends (slot + 1) false c p begun.linked c_lasts p_lasts
 
@@ -117,12 +125,18 @@ module _ (whole : IsHeardWhole) (central peripheral : Setup) (slot : ℕ) (c p :
   abbrev has_room : Bool
   has_room = room || not (is_data last)
 
-  -- it encrypts nothing
-  plain : IsPlain peripheral.link.role p
-  plain = begun.linked.plain.1.plain
+  -- it is good, so not forged
+  genuine : is_forged peripheral p octets ≡ false
+  genuine = good_genuine peripheral octets p (good_taken peripheral p octets slot room taking.earlier taking.later _ taking.notes)
+
+  pure : is_mixed peripheral p octets c.acknowledgement.last ≡ false
+  pure =
+      mixed_at_peripheral whole opened central peripheral (slot + 1) slot false c p channel octets ends begun.linked c_lasts p_lasts packet same unmixed
 
   und : IsUnderstood central packet.before peripheral p
-  und = understood_down whole central peripheral ends (slot + 1) slot false c p channel octets begun.linked c_lasts p_lasts packet same
+  und =
+      understood_at_peripheral whole central peripheral (slot + 1) slot false c p channel octets ends begun.linked c_lasts p_lasts packet same
+      (record { genuine = genuine; pure = pure })
 
   sent : HasSent packet.before c
   sent = sent_packet central slot c channel octets packet
@@ -133,11 +147,10 @@ module _ (whole : IsHeardWhole) (central peripheral : Setup) (slot : ℕ) (c p :
   good_is : good_pdu peripheral p octets ≡ Some (pdu_octets packet.before p)
   good_is = ap (good_pdu peripheral p) packet.packet ∙ heard_good whole central peripheral packet.before p und
 
-  facts_are : received peripheral slot octets room p ≡ plain_hearing peripheral.link.role slot room header last p
+  facts_are : received peripheral slot octets room p ≡ facts_hearing peripheral.link.role slot room header last p
   facts_are =
       ap (λ (o : List ℕ). received peripheral slot o room p) packet.packet ∙ facts_heard whole central peripheral packet.before p und slot room
       ∙ ap (λ (pdu : Pdu). facts_hearing peripheral.link.role slot room header pdu p) pdu_is
-      ∙ hearing_plain peripheral.link.role peripheral.link.role slot room header last p plain
 
   notes_are : notes_after peripheral p (PacketReceived slot octets room) ≡ notes_hearing peripheral slot room header last p
   notes_are =
@@ -153,7 +166,6 @@ module _ (whole : IsHeardWhole) (central peripheral : Setup) (slot : ℕ) (c p :
         running = running;
         shows = s;
         keys = begun.linked.keys running;
-        plain = plain;
         out_last = ap (λ (x : Phased). x.control.table.out) (sym s.peripheral_part) ∙ (last_reached central peripheral ends l reached).peripheral;
         bits = (ap is_odd (sym sent.acked), ap (λ (pdus : List Pdu). is_odd (length pdus)) (sym sent.accepted));
         out = sent.out;
@@ -176,20 +188,12 @@ module _ (whole : IsHeardWhole) (central peripheral : Setup) (slot : ℕ) (c p :
   abbrev acked_facts : Facts
   acked_facts = seen_end slot header.md acks p
 
-  abbrev gone_facts : Facts
-  gone_facts = facts_before_taking Peripheral slot header p
-
-  -- it encrypts nothing
   abbrev now : Facts
-  now = plain_before_taking Peripheral slot header p
-
-  before_is : gone_facts ≡ now
-  before_is = before_taking_plain peripheral.link.role Peripheral slot header p plain
+  now = facts_before_taking Peripheral slot header p
 
   seen_is : seen peripheral slot octets p ≡ now
   seen_is =
       (λ i. seen_by peripheral slot (good_is i) p) ∙ (λ i. facts_before_taking (ends.is_peripheral i) slot (header_read packet.before p und.llid i) p)
-      ∙ before_is
 
   took : IsTaken (is_noted peripheral slot room header last p) last 3 taking.body
   took =
@@ -201,8 +205,7 @@ module _ (whole : IsHeardWhole) (central peripheral : Setup) (slot : ℕ) (c p :
 
   accepted_now : accepts room header last now ≡ true
   accepted_now =
-      ap (accepts room header last) (sym before_is)
-      ∙ ap (λ (role : Role). accepts room header last (facts_before_taking role slot header p)) (sym ends.is_peripheral) ∙ accepted_parts.0
+      ap (λ (role : Role). accepts room header last (facts_before_taking role slot header p)) (sym ends.is_peripheral) ∙ accepted_parts.0
 
   procedure : is_procedure_pdu last ≡ true
   procedure = and_from (is_control last) (not (is_empty last)) (eq-eqb last.llid 3 took.llid_is) accepted_parts.1
@@ -268,7 +271,7 @@ module _ (whole : IsHeardWhole) (central peripheral : Setup) (slot : ℕ) (c p :
   parts : (may_all first l.joint ≡ true) × (may_all (step_if takes (PeripheralTakes slot no_response)) s2 ≡ true)
   parts = may_parts first (step_if takes (PeripheralTakes slot no_response)) l.joint (comes central peripheral ends heard l reached running may_hear)
 
-  s2_is : s2 ≡ with_end (phased_of c) l.joint.down fixes_it.next_way false (phased_of gone_facts)
+  s2_is : s2 ≡ with_end (phased_of c) l.joint.down fixes_it.next_way false (phased_of now)
   s2_is =
       after_joined acked_steps (fixing_steps fixing slot) l.joint
       ∙ ap (after_all (fixing_steps fixing slot)) seen_joint
@@ -283,7 +286,7 @@ module _ (whole : IsHeardWhole) (central peripheral : Setup) (slot : ℕ) (c p :
   accepted : (fresh && has_room) ≡ true
   accepted =
       ap (λ (a : Acknowledgement). is_fresh a header && has_room) (sym (gone slot header.md acks p).acknowledgement)
-      ∙ ap (λ (f : Facts). is_fresh f.acknowledgement header && has_room) before_is ∙ accepted_gone
+      ∙ accepted_gone
 
   way : IsOnWay l.joint.down takes last ctrl
   way =
@@ -305,7 +308,7 @@ module _ (whole : IsHeardWhole) (central peripheral : Setup) (slot : ℕ) (c p :
   s2_down = ap (λ (j : Joint). j.down) s2_is ∙ way.on_air
 
   s2_control : s2.peripheral.control ≡ now.control
-  s2_control = ap (λ (j : Joint). j.peripheral.control) s2_is ∙ ap (λ (f : Facts). f.control) before_is
+  s2_control = ap (λ (j : Joint). j.peripheral.control) s2_is
 
   run2 : HasRun central peripheral s2
   run2 = run_on central peripheral first l.joint (range_before l.joint fixing slot) (has_run central peripheral ends l reached)
@@ -381,35 +384,89 @@ module _ (whole : IsHeardWhole) (central peripheral : Setup) (slot : ℕ) (c p :
     abbrev number : ℕ
     number = numbered now.acknowledgement.accepted + 1
 
-    taken_are : (is_taken_now empty procedure_one : Bool) (read : CtrlRead) → is_taken_now ≡ true → not empty ≡ true → procedure_one ≡ true
-        → read ≡ rejection_read q code
-        → took_notes_if (is_taken_now && not empty) handle last now
-        ++ given_notes handle (if is_taken_now && procedure_one then taken_of read slot true (held_of now.control) else nothing_taken)
+    -- it takes the rejection in Clear or Secure
+
+    abbrev response : Drawn
+    response = drawn now.encryption.response
+
+    read_is : read_of last ≡ rejection_read q code
+    read_is = way.read_as ∙ ap (λ (x : Ctrl). Known x) rejects
+
+    no_data : is_data last ≡ false
+    no_data = ap (λ (llid : ℕ). ((llid == 1) || (llid == 2)) && not (length last.body == 0)) took.llid_is
+
+    now_is : received peripheral slot octets room p ≡ procedures_take last slot (accepted_if true last now)
+    now_is =
+        facts_are ∙ ap (λ (role : Role). facts_hearing role slot room header last p) ends.is_peripheral
+        ∙ λ i. data_taken_if (accepted_now i && no_data i)
+        (procedures_take_if (accepted_now i && procedure i) last slot (accepted_if (accepted_now i) last now))
+
+    took_control : (received peripheral slot octets room p).control ≡ (phased_took slot response (rejection_read q code) (phased_of now)).control
+    took_control =
+        ap (λ (f : Facts). (phased_of f).control) now_is ∙ ap (λ (x : Phased). x.control) (takes_phased last slot (accepted_if true last now))
+        ∙ ap (λ (read : CtrlRead). (phased_after (phased_takes read slot response) (phased_of now)).control) read_is
+        ∙ ap (λ (o : Option ErrCode). (if is_none o then phased_took slot response (rejection_read q code) (phased_of now) else phased_of now).control) lasts
+
+    abbrev IsOver : Option ErrCode → Type 0
+    IsOver ends = (ends ≡ None) ⊎ (EndsForInstant c p ends ⊎ EndsForged peripheral p octets ends)
+
+    goes_on_or_late : IsOver (answered peripheral slot octets room p).control.ends
+    goes_on_or_late =
+        peripheral_lasts whole central peripheral slot c p channel octets room ends begun c_lasts p_lasts packet same supervised pure
+
+    ends_are : (answered peripheral slot octets room p).control.ends ≡ (phased_took slot response (rejection_read q code) (phased_of now)).control.ends
+    ends_are = answered_ends peripheral slot octets room p ∙ ap (λ (k : Control). k.ends) took_control
+
+    stays : (phased_took slot response (rejection_read q code) (phased_of now)).control.ends ≡ Some (record { 0 = mic_failure }) → ⊥
+    stays is = by goes_on_or_late
+      where
+        number_of : Option ErrCode → ℕ
+        number_of None = 0
+        number_of (Some code) = code.0
+
+        by : IsOver (answered peripheral slot octets room p).control.ends → ⊥
+        by (inl none) = absurd (let no = sym none ∙ ends_are ∙ is in cc)
+        by (inr (inl late)) =
+            let n : 0x28 ≡ 0x3D = ap number_of (sym late.0 ∙ ends_are ∙ is) in absurd (omega (arith, n))
+        by (inr (inr forged)) = absurd (let no = sym forged.0 ∙ genuine in cc)
+
+    quiet_then : is_quiet_now (phased_of now) ≡ true
+    quiet_then = quiet q code slot response (phased_of now) stays
+
+    none_kept : now.encryption.kept ≡ None
+    none_kept = keeps_none central peripheral ends (slot + 1) false l reached running c p s (begun.linked.keys running) slot header
+
+    quiet_end : is_quiet now.encryption.end.phase ≡ true
+    quiet_end =
+        ap is_quiet (in_phase central peripheral ends (slot + 1) false l reached running c p s (begun.linked.keys running) slot header) ∙ quiet_then
+
+    answer : procedures_answer last slot now
+        ≡ record { taken = record { effect = Nothing; refused = Some (kind_of q, code); done = None }; kept = nothing_taken }
+    answer =
+        ap (λ (read : CtrlRead). taken_keyed slot now.encryption.response read (keyed_held (keyed_of now))) read_is
+        ∙ gives q code slot now.encryption.response (keyed_held (keyed_of now)) (ap (λ (o : Option ErrCode). is_none o) lasts) quiet_end none_kept
+        ∙ ap (λ (taken : Taken). record { taken = taken; kept = nothing_taken }) (given q code slot now.control lasts refuses)
+
+    notes_taken : taken_notes handle (accepts room header last now) last slot now
         ≡ Took handle number last.llid (record { items = last.body }) ∷ Refused handle (kind_of q) code ∷ []
-    taken_are is_taken_now empty procedure_one read takes_it some is_one same_read =
-        (λ i. took_notes_if (takes_it i && some i) handle last now
-        ++ given_notes handle (if takes_it i && is_one i then taken_of (same_read i) slot true (held_of now.control) else nothing_taken))
-        ∙ ap (λ (taken : Taken). Took handle number last.llid (record { items = last.body }) ∷ given_notes handle taken)
-        (given q code slot now.control lasts refuses)
+    notes_taken =
+        λ i. took_notes_if (accepted_now i && accepted_parts.1 i) handle last now
+        ++ (given_notes handle (if accepted_now i && procedure i then (answer i).taken else nothing_taken)
+        ++ given_notes handle (if accepted_now i && procedure i then (answer i).kept else nothing_taken))
 
     notes_now : notes_after peripheral p (PacketReceived slot octets room)
         ≡ done_notes handle done ++ Took handle number last.llid (record { items = last.body }) ∷ Refused handle (kind_of q) code ∷ []
     notes_now =
         notes_are
-        ∙ notes_hearing_plain peripheral slot room header last p plain
         ∙ (λ i. done_notes handle done
-        ++ plain_taken_notes handle (accepts room header last (plain_before_taking (ends.is_peripheral i) slot header p)) last slot
-        (plain_before_taking (ends.is_peripheral i) slot header p))
-        ∙ ap (λ (notes : List Note). done_notes handle done ++ notes)
-        (taken_are (accepts room header last now) (is_empty last) (is_procedure_pdu last) (read_of last) accepted_now accepted_parts.1 procedure (way.read_as ∙ ap (λ (x : Ctrl). Known x) rejects))
+        ++ taken_notes handle (accepts room header last (facts_before_taking (ends.is_peripheral i) slot header p)) last slot
+        (facts_before_taking (ends.is_peripheral i) slot header p))
+        ∙ ap (λ (notes : List Note). done_notes handle done ++ notes) notes_taken
 
     table_now : (received peripheral slot octets room p).control.table ≡ refuses.table
     table_now =
-        ap (λ (f : Facts). f.control.table) facts_are
-        ∙ ap (λ (role : Role). (plain_hearing role slot room header last p).control.table) ends.is_peripheral
-        ∙ (λ i. (plain_takes_if (accepted_now i && procedure i) last slot (plain_accepted_if (accepts room header last now) last now)).control.table)
-        ∙ ap (λ (read : CtrlRead). (after (Takes read slot true) now.control).table) (way.read_as ∙ ap (λ (x : Ctrl). Known x) rejects)
-        ∙ ap (λ (k : Control). k.table) (control_after q code slot now.control lasts refuses)
+        ap (λ (k : Control). k.table)
+        (took_control ∙ taken_so q code slot response (phased_of now) quiet_then none_kept ∙ control_after q code slot now.control lasts refuses)
 
     pub is_refused : IsRefused peripheral (seen peripheral slot octets p) (received peripheral slot octets room p) taking.later q code
     is_refused =

@@ -1,5 +1,5 @@
 -- The first PDU of a procedure of the peripheral, and the rejection of one, as control PDUs that are taken.
-use Rattle.std.proofs.Common.{ℕ, Bool, List, refl}
+use Rattle.std.proofs.Common.{ℕ, Bool, List}
 use Rattle.ble_base.specs.declared.error_codes.ErrCode.{ErrCode}
 use Rattle.data_pdu.specs.declared.ctrl.Ctrl.TheVariants.{RejectExtInd}
 use Rattle.exclusive_stages.specs.declared.pdus.Exclusive.{Exclusive}
@@ -8,7 +8,6 @@ use Rattle.link_pairs.specs.link_model.Setup.{Setup}
 use Rattle.link_pairs.specs.procedure_stages.Opcodes.{opcode_of_kind}
 use Rattle.run_collisions.specs.Prevailing.{TakesColliding}
 use Rattle.run_collisions.specs.Refused.{TakesRejection}
-use Rattle.run_collisions.proofs.FirstPdus.{begins_none}
 use Rattle.run_collisions.specs.Taking.{TakesControl}
 
 abbrev pub taken_first : (setup : Setup) (facts : Facts) (slot : ℕ) (octets : List ℕ) (room : Bool) (own other : Exclusive)
@@ -22,7 +21,6 @@ taken_first setup facts slot octets room own other colliding =
       notes = colliding.notes;
       ctrl = colliding.ctrl;
       is = colliding.is;
-      plain = begins_none other colliding.ctrl colliding.first;
     }
 
 abbrev pub taken_rejection : (setup : Setup) (facts : Facts) (slot : ℕ) (octets : List ℕ) (room : Bool) (q : Exclusive) (code : ErrCode)
@@ -36,5 +34,4 @@ taken_rejection setup facts slot octets room q code taking =
       notes = taking.notes;
       ctrl = RejectExtInd (opcode_of_kind q) code.0;
       is = taking.is;
-      plain = refl;
     }

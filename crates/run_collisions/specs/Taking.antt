@@ -1,11 +1,10 @@
 -- An end takes a control PDU (Core 5.2, volume 6 part B, section 2.4.2).
-use Rattle.std.specs.Prelude.{◌≡◌, ℕ, Bool, false, List, ◌∷◌, ◌++◌}
+use Rattle.std.specs.Prelude.{◌≡◌, ℕ, Bool, List, ◌∷◌, ◌++◌}
 use Rattle.ble_base.specs.declared.notes.Note.{Note}
 use Rattle.ble_base.specs.declared.notes.Note.TheVariants.{Took}
 use Rattle.data_pdu.specs.Reading.{ctrl_of}
 use Rattle.data_pdu.specs.declared.ctrl.Ctrl.{Ctrl}
 use Rattle.data_pdu.specs.declared.ctrl.CtrlRead.TheVariants.{Known}
-use Rattle.link_pairs.specs.control_model.Supported.{begins_encryption}
 use Rattle.link_pairs.specs.link_model.End.{notes_after}
 use Rattle.link_pairs.specs.link_model.Facts.{Facts}
 use Rattle.link_pairs.specs.link_model.Setup.{Setup}
@@ -22,5 +21,3 @@ pub record TakesControl (setup : Setup) (facts : Facts) (slot : ℕ) (octets : L
       ≡ earlier ++ Took setup.link.handle number 3 (record { items = body }) ∷ later
   pub ctrl : Ctrl
   pub is : ctrl_of body ≡ Known ctrl
-  -- it begins no encryption
-  pub plain : begins_encryption ctrl ≡ false

@@ -19,7 +19,7 @@ ghost use Rattle.link_pairs.specs.link_model.Sending.{takes_leave};
 ghost use Rattle.link_pairs.specs.link_model.Setup.{Setup};
 ghost use Rattle.link_pairs.specs.link_model.Step.{PacketReceived, PacketSent, Step};
 ghost use Rattle.link_pairs.specs.Ends.{AreEnds, heard_turns, is_lasting};
-ghost use Rattle.link_pairs.specs.Hearing.{IsPacketOf, received};
+ghost use Rattle.link_pairs.specs.Hearing.{IsPacketOf, is_mixed_packet, received};
 ghost use Rattle.link_pairs.specs.Shown.{AreLinked};
 ghost use Rattle.link_pairs.specs.Turns.{HaveBegun};
 ghost use Rattle.run_collisions.specs.Prevailing.{Prevails, TakesColliding, next_outgoing, seen};
@@ -33,7 +33,8 @@ ghost use Rattle.run_collisions.specs.Waiting.{facts_from, sends_control, sends_
 /// one kind and 0x2A where they are not. A central that is to end the link rejects nothing any
 /// more: LL_TERMINATE_IND comes next, or nothing. Its own procedure is looked at after it has seen
 /// its last PDU acknowledged by the same packet. Where it notes nothing before the PDU that it
-/// takes, that is as before the packet (Core 5.2, volume 6 part B, sections 5.1.6 and 5.3).
+/// takes, that is as before the packet. A packet that is mixed is not followed (Core 5.2, volume 6
+/// part B, sections 5.1.6 and 5.3).
 pub fn the_central_prevails_as_it_hears()
     ensures prevails { (central peripheral : Setup) (slot : ℕ) (c p : Facts) (channel : ℕ)
         (octets : List ℕ) (room : Bool) (own other : Exclusive) → AreEnds central peripheral
@@ -41,6 +42,7 @@ pub fn the_central_prevails_as_it_hears()
         → is_lasting p ≡ true → heard_turns central c ≤ slot → 1 ≤ c.control.track.entered
         → IsPacketOf peripheral slot p channel octets → channel ≡ c.event.channel
         → TakesColliding central c slot octets room own other
+        → is_mixed_packet central c p octets ≡ false
         → Prevails (seen central slot octets c) (received central slot octets room c) own other }
     ensures stage { (central : Setup) (slot : ℕ) (c : Facts) (octets : List ℕ) (room : Bool)
         (number llid : ℕ) (body : List ℕ) (later : List Note) → central.link.role ≡ Central
@@ -50,6 +52,7 @@ pub fn the_central_prevails_as_it_hears()
         ≡ (central_of c.control.table).own }
 {
     air_frame::laws::packet_tells_its_pdu();
+    link_runs::a_sealed_packet_is_opened();
 }
 
 /// A rejection that is the next control PDU of a central stays that until the central sends a new
@@ -80,7 +83,8 @@ pub fn a_rejection_that_waits_goes_next()
 /// with the opcode of the first PDU of a procedure. Then that procedure is the own one of the
 /// peripheral that is in progress, and the peripheral notes right after that the procedure is
 /// refused with the error of the rejection, and notes nothing else. So the procedure is over, and
-/// is not reported as done (Core 5.2, volume 6 part B, sections 2.4.2.18 and 5.3).
+/// is not reported as done. A packet that is mixed is not followed (Core 5.2, volume 6 part B,
+/// sections 2.4.2.18 and 5.3).
 pub fn a_rejected_procedure_is_refused()
     ensures { (central peripheral : Setup) (slot : ℕ) (c p : Facts) (channel : ℕ)
         (octets : List ℕ) (room : Bool) (q : Exclusive) (code : ErrCode)
@@ -88,8 +92,10 @@ pub fn a_rejected_procedure_is_refused()
         → is_lasting c ≡ true → is_lasting p ≡ true → IsPacketOf central slot c channel octets
         → channel ≡ p.event.channel → slot + 1 ≤ heard_turns peripheral p + 32768
         → (taking : TakesRejection peripheral p slot octets room q code)
+        → is_mixed_packet peripheral p c octets ≡ false
         → IsRefused peripheral (seen peripheral slot octets p)
         (received peripheral slot octets room p) taking.later q code }
 {
     air_frame::laws::packet_tells_its_pdu();
+    link_runs::a_sealed_packet_is_opened();
 }

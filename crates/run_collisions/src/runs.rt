@@ -17,7 +17,7 @@ ghost use Rattle.run_pairs.specs.link_calls.run_model.LinkEnds.{HaveAddresses};
 ghost use Rattle.run_pairs.specs.link_calls.run_model.Pair.{given_of};
 ghost use Rattle.run_pairs.specs.link_calls.run_model.Run.{Given, facts_at, history_of, run_of, setup_at};
 ghost use Rattle.run_pairs.specs.link_calls.run_laws.Ends.{AreEnds, IsOpen, OpenEnd, link_listened};
-ghost use Rattle.run_pairs.specs.InTurns.{HasSentNow, HearEachInTurn};
+ghost use Rattle.run_pairs.specs.InTurns.{HasSentNow, HearEachInTurn, HearNoMixed};
 ghost use Rattle.run_collisions.specs.Prevailing.{Prevails, TakesColliding, seen};
 ghost use Rattle.run_collisions.specs.Refused.{IsRefused, TakesRejection, is_refusing};
 ghost use Rattle.run_collisions.specs.Taking.{TakesControl};
@@ -36,6 +36,8 @@ pub fn the_central_prevails_in_each_run()
         → Contains given.stations central.station → Contains given.stations peripheral.station
         → history_of (run_of given) ≡ before ++ Called central.station (PacketHeard octets) ∷ rest
         → AreEnds before central peripheral → HearEachInTurn given before central peripheral
+        → HearNoMixed given (before ++ Called central.station (PacketHeard octets) ∷ [])
+        central peripheral
         → IsOpen given before central → IsOpen given before peripheral
         → link_listened (facts_at given central.station before).turn.doing ≡ Some central.handle
         → HasSentNow given before central peripheral (facts_in central.link).event.channel octets
@@ -50,6 +52,8 @@ pub fn the_central_prevails_in_each_run()
         → Contains given.stations central.station → Contains given.stations peripheral.station
         → history_of (run_of given) ≡ before ++ Called central.station (PacketHeard octets) ∷ rest
         → AreEnds before central peripheral → HearEachInTurn given before central peripheral
+        → HearNoMixed given (before ++ Called central.station (PacketHeard octets) ∷ [])
+        central peripheral
         → IsOpen given before central → IsOpen given before peripheral
         → link_listened (facts_at given central.station before).turn.doing ≡ Some central.handle
         → HasSentNow given before central peripheral (facts_in central.link).event.channel octets
@@ -63,6 +67,7 @@ pub fn the_central_prevails_in_each_run()
         other }
 {
     air_frame::laws::packet_tells_its_pdu();
+    link_runs::a_sealed_packet_is_opened();
     controller_model::a_pdu_is_understood();
     advertise::laws::connections_are_taken();
     run_pairs::what_hosts_ask_may_come();
@@ -79,7 +84,10 @@ pub fn the_central_prevails_in_a_run_of_a_pair()
         → Contains (given_of a b script).stations peripheral.station
         → history_of (run_of (given_of a b script))
         ≡ before ++ Called central.station (PacketHeard octets) ∷ rest
-        → AreEnds before central peripheral → IsOpen (given_of a b script) before central
+        → AreEnds before central peripheral
+        → HearNoMixed (given_of a b script)
+        (before ++ Called central.station (PacketHeard octets) ∷ []) central peripheral
+        → IsOpen (given_of a b script) before central
         → IsOpen (given_of a b script) before peripheral
         → let facts = facts_at (given_of a b script) central.station before in
         link_listened facts.turn.doing ≡ Some central.handle
@@ -95,7 +103,10 @@ pub fn the_central_prevails_in_a_run_of_a_pair()
         → Contains (given_of a b script).stations peripheral.station
         → history_of (run_of (given_of a b script))
         ≡ before ++ Called central.station (PacketHeard octets) ∷ rest
-        → AreEnds before central peripheral → IsOpen (given_of a b script) before central
+        → AreEnds before central peripheral
+        → HearNoMixed (given_of a b script)
+        (before ++ Called central.station (PacketHeard octets) ∷ []) central peripheral
+        → IsOpen (given_of a b script) before central
         → IsOpen (given_of a b script) before peripheral
         → let facts = facts_at (given_of a b script) central.station before in
         link_listened facts.turn.doing ≡ Some central.handle
@@ -126,6 +137,8 @@ pub fn rejected_procedures_are_refused_in_each_run()
         → history_of (run_of given)
         ≡ before ++ Called peripheral.station (PacketHeard octets) ∷ rest
         → AreEnds before central peripheral → HearEachInTurn given before central peripheral
+        → HearNoMixed given (before ++ Called peripheral.station (PacketHeard octets) ∷ [])
+        central peripheral
         → IsOpen given before central → IsOpen given before peripheral
         → link_listened (facts_at given peripheral.station before).turn.doing
         ≡ Some peripheral.handle
@@ -137,6 +150,7 @@ pub fn rejected_procedures_are_refused_in_each_run()
         (received setup slot octets room (facts_in peripheral.link)) taking.later q code }
 {
     air_frame::laws::packet_tells_its_pdu();
+    link_runs::a_sealed_packet_is_opened();
     controller_model::a_pdu_is_understood();
     advertise::laws::connections_are_taken();
     run_pairs::what_hosts_ask_may_come();
@@ -153,7 +167,10 @@ pub fn rejected_procedures_are_refused_in_a_run_of_a_pair()
         → Contains (given_of a b script).stations peripheral.station
         → history_of (run_of (given_of a b script))
         ≡ before ++ Called peripheral.station (PacketHeard octets) ∷ rest
-        → AreEnds before central peripheral → IsOpen (given_of a b script) before central
+        → AreEnds before central peripheral
+        → HearNoMixed (given_of a b script)
+        (before ++ Called peripheral.station (PacketHeard octets) ∷ []) central peripheral
+        → IsOpen (given_of a b script) before central
         → IsOpen (given_of a b script) before peripheral
         → let facts = facts_at (given_of a b script) peripheral.station before in
         link_listened facts.turn.doing ≡ Some peripheral.handle
@@ -183,6 +200,8 @@ pub fn control_pdus_do_not_cross_in_each_run()
         → Contains given.stations central.station → Contains given.stations peripheral.station
         → history_of (run_of given) ≡ before ++ Called central.station (PacketHeard octets) ∷ rest
         → AreEnds before central peripheral → HearEachInTurn given before central peripheral
+        → HearNoMixed given (before ++ Called central.station (PacketHeard octets) ∷ [])
+        central peripheral
         → IsOpen given before central → IsOpen given before peripheral
         → link_listened (facts_at given central.station before).turn.doing ≡ Some central.handle
         → HasSentNow given before central peripheral (facts_in central.link).event.channel octets
@@ -198,6 +217,8 @@ pub fn control_pdus_do_not_cross_in_each_run()
         → history_of (run_of given)
         ≡ before ++ Called peripheral.station (PacketHeard octets) ∷ rest
         → AreEnds before central peripheral → HearEachInTurn given before central peripheral
+        → HearNoMixed given (before ++ Called peripheral.station (PacketHeard octets) ∷ [])
+        central peripheral
         → IsOpen given before central → IsOpen given before peripheral
         → link_listened (facts_at given peripheral.station before).turn.doing
         ≡ Some peripheral.handle
@@ -213,6 +234,8 @@ pub fn control_pdus_do_not_cross_in_each_run()
         → Contains given.stations central.station → Contains given.stations peripheral.station
         → history_of (run_of given) ≡ before ++ Called central.station (PacketHeard octets) ∷ rest
         → AreEnds before central peripheral → HearEachInTurn given before central peripheral
+        → HearNoMixed given (before ++ Called central.station (PacketHeard octets) ∷ [])
+        central peripheral
         → IsOpen given before central → IsOpen given before peripheral
         → link_listened (facts_at given central.station before).turn.doing ≡ Some central.handle
         → HasSentNow given before central peripheral (facts_in central.link).event.channel octets
@@ -226,6 +249,8 @@ pub fn control_pdus_do_not_cross_in_each_run()
         → history_of (run_of given)
         ≡ before ++ Called peripheral.station (PacketHeard octets) ∷ rest
         → AreEnds before central peripheral → HearEachInTurn given before central peripheral
+        → HearNoMixed given (before ++ Called peripheral.station (PacketHeard octets) ∷ [])
+        central peripheral
         → IsOpen given before central → IsOpen given before peripheral
         → link_listened (facts_at given peripheral.station before).turn.doing
         ≡ Some peripheral.handle
@@ -235,6 +260,7 @@ pub fn control_pdus_do_not_cross_in_each_run()
         → is_lasting (facts_in peripheral.link) ≡ true }
 {
     air_frame::laws::packet_tells_its_pdu();
+    link_runs::a_sealed_packet_is_opened();
     controller_model::a_pdu_is_understood();
     advertise::laws::connections_are_taken();
     run_pairs::what_hosts_ask_may_come();

@@ -1,6 +1,5 @@
 -- A peripheral that is called with a packet in a run takes the indication that the central sent last.
-use Rattle.std.proofs.Common.{◌≡◌, inl, inr, ℕ, zero, suc, ◌+◌, ◌<◌, Bool, true, List, [], ◌∷◌, ◌++◌, append-nil, Some, refl, sym, ap, subst, ◌∙◌, arith}
-use Rattle.std.specs.Prelude.{if◌then◌else◌}
+use Rattle.std.proofs.Common.{◌≡◌, inl, inr, ℕ, ◌<◌, Bool, true, false, List, [], ◌∷◌, ◌++◌, append-nil, Some, refl, sym, ap, ◌∙◌}
 use Rattle.std.specs.List.{filter}
 use Rattle.std.proofs.lemmas.List.{append_assoc}
 use Rattle.std.proofs.lemmas.List.Elements.{filter-append}
@@ -21,32 +20,31 @@ use Rattle.run_pairs.specs.link_calls.link_model.Packets.{verdict_of}
 use Rattle.run_pairs.specs.link_calls.link_model.Setup.{Setup as EndSetup}
 use Rattle.run_pairs.specs.link_calls.link_model.Step.{PacketReceived}
 use Rattle.run_pairs.specs.link_calls.open_links.OpenLinks.{facts_in}
-use Rattle.run_pairs.specs.link_calls.run_laws.Ends.{AreEnds as AreEndsIn, IsOpen, OpenEnd, link_listened}
+use Rattle.run_pairs.specs.link_calls.run_laws.Ends.{AreEnds as AreEndsIn, IsOpen, OpenEnd, ReceivesGood, link_listened}
 use Rattle.run_pairs.specs.link_calls.run_model.Feeding.{AreDistinct}
 use Rattle.run_pairs.specs.link_calls.run_model.History.{Called, Event, past_of}
 use Rattle.run_pairs.specs.link_calls.run_model.LinkEnds.{HaveAddresses}
-use Rattle.run_pairs.specs.link_calls.run_model.Run.{Given, facts_at, history_of, run_of, setup_at}
+use Rattle.run_pairs.specs.link_calls.run_model.Run.{Given, facts_at, history_of, run_of}
 use Rattle.run_pairs.proofs.link_calls.link_model.Hearing.{IsHeardWhole}
-use Rattle.run_pairs.proofs.link_calls.run_laws.InAgreement.{OpenedBefore}
-use Rattle.run_pairs.proofs.link_calls.run_laws.LinkPhases.{in_phase}
-use Rattle.run_pairs.proofs.link_calls.run_laws.OpenSteps.{open_has}
 use Rattle.run_pairs.proofs.link_calls.run_laws.SameEvent.{apart_ends}
-use Rattle.run_pairs.proofs.link_calls.run_laws.TurnPlaces.{Within, at_stage, turned}
+use Rattle.run_pairs.proofs.link_calls.run_laws.TurnPlaces.{standing}
 use Rattle.run_pairs.proofs.link_calls.run_model.LinkEnds.{AreTaken, IsUnderstood}
 use Rattle.run_pairs.proofs.link_calls.run_model.Stations.{is_in}
 use Rattle.link_runs.specs.joint_controls.Joint.{last_change}
 use Rattle.link_runs.specs.link_pairs.Ends.{AreEnds}
-use Rattle.link_runs.specs.link_pairs.Hearing.{IsPacketOf}
-use Rattle.run_pairs.specs.InTurns.{HasSentNow, HearEachInTurn, HearsInTurn}
+use Rattle.link_runs.specs.link_pairs.Hearing.{IsPacketOf, is_mixed_packet}
+use Rattle.link_runs.proofs.link_pairs.Understanding.{IsOpenedThere}
+use Rattle.run_pairs.specs.InTurns.{HasSentNow, HearEachInTurn, HearNoMixed, HearsInTurn}
 use Rattle.run_pairs.specs.Stages.{AreBegunEnds}
-use Rattle.run_pairs.proofs.BothEnds.{at_standing, kept_to, packet_now}
-use Rattle.run_pairs.proofs.CallPlaces.{StandsInPhase, stands_called}
-use Rattle.run_pairs.proofs.Conclusions.{listens_by, not_new, on_link, pair_ends, phase_of}
-use Rattle.run_pairs.proofs.EndCalls.{peripheral_takes_in}
+use Rattle.run_pairs.proofs.BothEnds.{ByStanding, kept_to}
+use Rattle.run_pairs.proofs.FarPackets.{packet_now}
+use Rattle.run_pairs.proofs.Conclusions.{pair_ends}
+use Rattle.run_pairs.proofs.HeardNow.{begun_now}
+use Rattle.run_pairs.proofs.EndCalls.{good_genuine}
 use Rattle.run_pairs.proofs.LinkSteps.{AsksMayCome}
-use Rattle.run_pairs.proofs.OneSide.{StationAt, station_first, station_kept}
-use Rattle.run_pairs.proofs.PairSteps.{AreBothBegun, InTurn, IsPacketNow, NewOr}
+use Rattle.run_pairs.proofs.PairSteps.{IsPacketNow}
 use Rattle.run_pairs.proofs.Stages.{hears_its_end}
+use Rattle.run_pairs.proofs.Unmixed.{front_unmixed, next_unmixed}
 use Rattle.run_indications.proofs.LastSent.{last_read}
 use Rattle.run_indications.proofs.TookNotes.{none_in, took_good}
 
@@ -56,14 +54,18 @@ module _ (whole : IsHeardWhole) (central peripheral : EndSetup) (ends : AreEnds 
     (octets : List ℕ) (room : Bool) (packet : IsPacketOf central slot c channel octets) (on_channel : channel ≡ p.event.channel)
     (before later : List Note) (handle number llid : ℕ) (body : ArrayVec ℕ) (indication : Indication)
     (noted : notes_after peripheral p (PacketReceived slot octets room) ≡ before ++ Took handle number llid body ∷ later)
-    (says : indication_in llid body.items ≡ Some indication) (in_time : gap_ahead (event_of p.control.track) indication < 32767) where
+    (says : indication_in llid body.items ≡ Some indication) (in_time : gap_ahead (event_of p.control.track) indication < 32767)
+    (opened : IsOpenedThere) (unmixed : is_mixed_packet peripheral p c octets ≡ false) where
   -- a peripheral whose LL_TERMINATE_IND the central took takes nothing
   pub begun_reads : AreBegunEnds central peripheral slot true true c p → last_change c.control.sent ≡ Some (change_of (event_of p.control.track) indication)
   begun_reads (inl link) =
       last_read whole central peripheral slot c p channel octets room ends link.begun link.central_lasts link.peripheral_lasts packet on_channel
-      link.supervised before later handle number llid body indication noted says in_time
+      link.supervised before later handle number llid body indication noted says in_time opened unmixed
   begun_reads (inr parting) =
-      let over = hears_its_end whole central peripheral ends.one_link.fields ends.peripheral_max.to c p parting slot channel octets packet on_channel room in
+      let fields = ends.one_link.fields in
+      let most = ends.peripheral_max.to in
+      let genuine = good_genuine peripheral octets p (took_good peripheral slot octets room p before later (Took handle number llid body) noted) in
+      let over = hears_its_end whole central peripheral fields most c p parting slot channel octets packet on_channel room opened unmixed genuine in
       none_in (last_change c.control.sent ≡ Some (change_of (event_of p.control.track) indication)) (filter is_took_note before) (filter is_took_note later)
       (Took handle number llid body)
       (sym over.takes_none ∙ ap (filter is_took_note) noted ∙ filter-append is_took_note before (Took handle number llid body ∷ later))
@@ -85,12 +87,13 @@ front_hear given before more one other hear =
 
 -- ---- the place of a call of the peripheral
 
-module _ (whole : IsHeardWhole) (understood : IsUnderstood) (taken : AreTaken) (given : Given) (six : HaveAddresses given)
+module _ (whole : IsHeardWhole) (opens_there : IsOpenedThere) (understood : IsUnderstood) (taken : AreTaken) (given : Given) (six : HaveAddresses given)
     (distinct : AreDistinct given.stations) (asks : AsksMayCome given) (before rest : List Event) (octets : List ℕ) (central peripheral : OpenEnd)
     (at : history_of (run_of given) ≡ before ++ Called peripheral.station (PacketHeard octets) ∷ rest)
     (in_it : is_in central.station given.stations ≡ true) (in_too : is_in peripheral.station given.stations ≡ true)
     (of_one : AreEndsIn before central peripheral) (is_open : IsOpen given before central) (is_open_too : IsOpen given before peripheral)
     (hear : HearEachInTurn given (before ++ Called peripheral.station (PacketHeard octets) ∷ []) central peripheral)
+    (none_mixed : HearNoMixed given (before ++ Called peripheral.station (PacketHeard octets) ∷ []) central peripheral)
     (listens : link_listened (facts_at given peripheral.station before).turn.doing ≡ Some peripheral.handle) where
   abbrev c_here : EndSetup
   c_here = central.link.setup
@@ -107,69 +110,38 @@ module _ (whole : IsHeardWhole) (understood : IsUnderstood) (taken : AreTaken) (
   hear_before : HearEachInTurn given before central peripheral
   hear_before = front_hear given before (Called peripheral.station (PacketHeard octets) ∷ []) central peripheral hear
 
+  pure_before : HearNoMixed given before central peripheral
+  pure_before = front_unmixed given before (Called peripheral.station (PacketHeard octets) ∷ []) central peripheral none_mixed
+
   ends : AreEnds c_here p_here
-  ends = pair_ends whole understood taken given six distinct asks before called at central peripheral in_it in_too of_one is_open is_open_too hear_before
+  ends =
+      pair_ends whole opens_there understood taken given six distinct asks before called at central peripheral in_it in_too of_one is_open is_open_too hear_before
+      pure_before
 
-  stands : StandsInPhase given before peripheral.station
-  stands = stands_called given before rest peripheral.station (PacketHeard octets) distinct at
-
-  side : StationAt (setup_at given peripheral.station) (Within stands.phases) stands.turns facts
-  side =
-      let setup = setup_at given peripheral.station in
-      turned setup (StationAt setup) (station_kept taken setup) (past_of peripheral.station before) (at_stage (Within stands.phases) stands.turns)
-      (station_first setup) stands.stand.own
-
-  -- it is the first phase of the turn
-  is_first : stands.phases ≡ 0
-  is_first =
-      peripheral_takes_in facts.links peripheral.handle peripheral.link is_open_too stands.phases facts.turn.doing
-      (in_phase (setup_at given peripheral.station) (past_of peripheral.station before) stands.phases stands.turns stands.stand.own)
-      (listens_by peripheral.handle facts.turn.doing listens) of_one.is_peripheral
-
-  begun_by : (n i : ℕ) → n ≡ 0
-      → NewOr c_here p_here peripheral.handle stands.turns
-      (λ slot. InTurn c_here p_here peripheral.handle n i slot facts.turn.doing central.link peripheral.link)
-      → AreBothBegun c_here p_here peripheral.handle facts.turn.slot facts.turn.doing central.link peripheral.link
-  begun_by zero i is (inr both) = both facts.turn.slot (sym side.holds.phased.uses.in_turn.slot_is)
-  begun_by zero i is (inl new) =
-      let old =
-      open_has (OpenedBefore facts.turn.slot) 0 peripheral.handle facts.links peripheral.link
-      (side.station.old (on_link peripheral.handle facts.turn.doing listens)) is_open_too in
-      not_new _ p_here.opened facts.turn.slot stands.turns old side.holds.phased.uses.in_turn.slot_is (ap (λ n. n + 1) (sym ends.one_link.opened) ∙ new)
-  begun_by (suc n) i is both = absurd (omega (arith, is))
-
-  both_begun : AreBothBegun c_here p_here peripheral.handle facts.turn.slot facts.turn.doing central.link peripheral.link
-  both_begun =
-      let b = stands.stand.was_called central.station in
-      let i = if b then suc stands.phases else stands.phases in
-      let kept =
-      kept_to whole taken given distinct central peripheral ends in_it in_too asks
-      (apart_ends before central peripheral of_one) before called at hear_before before [] (sym (append-nil before))
-      central.link peripheral.link is_open refl is_open_too refl in
-      let place =
-      at_standing c_here p_here peripheral.handle (at_stage (Within i) stands.turns) (at_stage (Within stands.phases) stands.turns) _ _ _
-      central.link peripheral.link (phase_of b stands.phases stands.turns (past_of central.station before) (stands.stand.others central.station in_it))
-      stands.stand.own kept in
-      begun_by stands.phases i is_first place.1
+  kept_here : ByStanding c_here p_here peripheral.handle (standing (past_of central.station before)) (standing (past_of peripheral.station before)) facts.turn.doing
+      central.link peripheral.link
+  kept_here =
+      kept_to whole opens_there taken given distinct central peripheral ends in_it in_too asks (apart_ends before central peripheral of_one) before called at hear_before
+      pure_before before [] (sym (append-nil before)) central.link peripheral.link is_open refl is_open_too refl
 
   -- the packet was sent in this turn
   module _ (good : verdict_of p_here (facts_in peripheral.link) octets ≡ Good) where
+    receives : ReceivesGood facts octets peripheral.link
+    receives = record { handle = peripheral.handle; listens = listens; is_open = is_open_too; is_good = good }
+
     sent : HasSentNow given before peripheral central (facts_in peripheral.link).event.channel octets
-    sent =
-        hear.other_hears before [] octets peripheral.link refl
-        (record { handle = peripheral.handle; listens = listens; is_open = is_open_too; is_good = good })
-        (record { fields = refl; opened = refl })
+    sent = hear.other_hears before [] octets peripheral.link refl receives (record { fields = refl; opened = refl })
+
+    unmixed : is_mixed_packet p_here (facts_in peripheral.link) (facts_in central.link) octets ≡ false
+    unmixed = next_unmixed given before octets peripheral central none_mixed.other_hears receives is_open
 
     packet : IsPacketNow c_here facts.turn.slot (facts_in peripheral.link) central.link octets
     packet = packet_now given before called peripheral central (facts_in peripheral.link) octets central.link distinct in_it at is_open refl sent
 
     begun : AreBegunEnds c_here p_here facts.turn.slot true true (facts_in central.link) (facts_in peripheral.link)
     begun =
-        let c = facts_in central.link in
-        let p = facts_in peripheral.link in
-        subst (λ b. AreBegunEnds c_here p_here facts.turn.slot b true c p) (both_begun.sends packet.front packet.last)
-        (subst (λ b. AreBegunEnds c_here p_here facts.turn.slot both_begun.transmits b c p)
-        (both_begun.hears (listens_by peripheral.handle facts.turn.doing listens)) both_begun.begun)
+        begun_now taken given distinct before rest octets central peripheral ends in_it in_too central.link peripheral.link is_open refl is_open_too refl kept_here at
+        listens packet
 
   module _ (room : Bool) (first later : List Note) (handle number llid : ℕ) (body : ArrayVec ℕ) (indication : Indication)
       (noted : notes_after p_here (facts_in peripheral.link) (PacketReceived facts.turn.slot octets room) ≡ first ++ Took handle number llid body ∷ later)
@@ -180,4 +152,5 @@ module _ (whole : IsHeardWhole) (understood : IsUnderstood) (taken : AreTaken) (
         let good = took_good p_here facts.turn.slot octets room (facts_in peripheral.link) first later (Took handle number llid body) noted in
         let now = packet good in
         begun_reads whole c_here p_here ends facts.turn.slot (facts_in central.link)
-        (facts_in peripheral.link) now.channel octets room now.packet now.same first later handle number llid body indication noted says in_time (begun good)
+        (facts_in peripheral.link) now.channel octets room now.packet now.same first later handle number llid body indication noted says in_time opens_there
+        (unmixed good) (begun good)

@@ -1,14 +1,12 @@
 -- The indication that a peripheral takes in time is the last that the central sent, with the event that its Instant names.
-use Rattle.std.proofs.Common.{◌≡◌, ℕ, ◌+◌, ◌-◌, ◌<◌, ◌≤◌, nat_lt, ◌||◌, not, Bool, true, false, List, ◌∷◌, ◌++◌, length, Option, Some, None, option_map, refl, ap, sym, subst, ◌∙◌, if◌then◌else◌}
+use Rattle.std.proofs.Common.{◌≡◌, ℕ, ◌+◌, ◌-◌, ◌<◌, ◌≤◌, nat_lt, ◌||◌, not, Bool, true, false, List, ◌∷◌, ◌++◌, Option, Some, None, option_map, refl, ap, sym, subst, ◌∙◌, if◌then◌else◌}
 use Rattle.std.proofs.lemmas.Bool.{lt-ltb}
-use Rattle.ack_bit.specs.AckBits.{is_odd}
 use Rattle.arrayvec.specs.ArrayVec.{ArrayVec}
 use Rattle.ble_base.specs.declared.notes.Note.{Note}
 use Rattle.ble_base.specs.declared.notes.Note.TheVariants.{Took}
 use Rattle.data_pdu.specs.declared.ctrl.Ctrl.{Ctrl}
 use Rattle.data_pdu.specs.declared.ctrl.Ctrl.TheVariants.{ChannelMapInd, ConnectionUpdateInd}
 use Rattle.data_pdu.specs.declared.ctrl.CtrlRead.TheVariants.{Known}
-use Rattle.data_pdu.specs.declared.header.DataHeader.{DataHeader}
 use Rattle.data_pdu.specs.Reading.{ctrl_of}
 use Rattle.data_pdu.proofs.Rows.{written_is_known}
 use Rattle.instants.specs.Track.{event_of, gap_ahead}
@@ -24,9 +22,7 @@ use Rattle.run_pairs.specs.link_calls.link_model.Acknowledgement.{Acknowledgemen
 use Rattle.run_pairs.specs.link_calls.link_model.Data.{is_data, is_empty}
 use Rattle.run_pairs.specs.link_calls.link_model.End.{notes_after}
 use Rattle.run_pairs.specs.link_calls.link_model.Facts.{Facts}
-use Rattle.run_pairs.specs.link_calls.link_model.Hearing.{IsUnderstood}
-use Rattle.run_pairs.specs.link_calls.link_model.Packets.{header_sent}
-use Rattle.run_pairs.specs.link_calls.link_model.Receiving.{notes_hearing}
+use Rattle.run_pairs.specs.link_calls.link_model.Packets.{is_forged}
 use Rattle.run_pairs.specs.link_calls.link_model.Setup.{Setup, first_anchor, first_params}
 use Rattle.run_pairs.specs.link_calls.link_model.phased_control.Taken.{Response}
 use Rattle.run_pairs.specs.link_calls.link_model.phased_end.Taking.{drawn}
@@ -35,23 +31,24 @@ use Rattle.run_pairs.proofs.link_calls.link_model.Hearing.{IsHeardWhole}
 use Rattle.link_runs.specs.control_model.Control.{Control}
 use Rattle.link_runs.specs.procedure_values.declared.drafts.Outgoing.{Outgoing}
 use Rattle.link_runs.specs.link_pairs.Ends.{AreEnds, heard_turns, is_lasting}
-use Rattle.link_runs.specs.link_pairs.Hearing.{IsPacketOf, received}
+use Rattle.link_runs.specs.link_pairs.Hearing.{IsPacketOf, is_mixed, is_mixed_packet, received}
 use Rattle.link_runs.specs.link_pairs.Shown.{Shows}
 use Rattle.link_runs.specs.link_pairs.Turns.{HaveBegun}
 use Rattle.link_runs.specs.link_pairs.Ways.{IsControlPdu, IsUntaken, ShowsWay}
-use Rattle.link_runs.proofs.link_pairs.link_model.Received.{notes_heard}
-use Rattle.link_runs.proofs.link_pairs.Counts.{HasBitsOf, says_right, turned, unseen_is_taken}
+use Rattle.link_runs.proofs.link_pairs.Counts.{says_right, turned, unseen_is_taken}
 use Rattle.link_runs.proofs.link_pairs.Ending.{run_at}
-use Rattle.link_runs.proofs.link_pairs.HasSent.{HasSent, sent_packet}
 use Rattle.link_runs.proofs.link_pairs.Items.{data_is_no_control}
 use Rattle.link_runs.proofs.link_pairs.JointRuns.{HasRun, has_run}
+use Rattle.link_runs.proofs.link_pairs.OtherKeys.{mixed_at_peripheral}
+use Rattle.link_runs.proofs.link_pairs.PacketsRead.{AreRead}
 use Rattle.link_runs.proofs.link_pairs.PeripheralHeard.{takes_now}
 use Rattle.link_runs.proofs.link_pairs.PeripheralHears.{TakesAt}
 use Rattle.link_runs.proofs.link_pairs.PeripheralSteps.{one_step}
 use Rattle.link_runs.proofs.link_pairs.Reaching.{IsReached}
 use Rattle.link_runs.proofs.link_pairs.Sounding.{link_now, reached_now, runs}
-use Rattle.link_runs.proofs.AsSent.{IsAsSent, as_sent_down, understood_down}
-use Rattle.run_indications.proofs.TookNotes.{took_new}
+use Rattle.link_runs.proofs.link_pairs.Understanding.{IsOpenedThere, whole_at_peripheral}
+use Rattle.run_pairs.proofs.EndCalls.{good_genuine}
+use Rattle.run_indications.proofs.TookNotes.{took_good, took_new}
 
 -- ---- a control PDU, as notes and joint runs have its indication
 
@@ -193,7 +190,8 @@ module _ (whole : IsHeardWhole) (central peripheral : Setup) (slot : ℕ) (c p :
     (packet : IsPacketOf central slot c channel octets) (on_channel : channel ≡ p.event.channel) (supervised : slot + 1 ≤ heard_turns peripheral p + 32768)
     (before later : List Note) (handle number llid : ℕ) (body : ArrayVec ℕ) (indication : Indication)
     (noted : notes_after peripheral p (PacketReceived slot octets room) ≡ before ++ Took handle number llid body ∷ later)
-    (says : indication_in llid body.items ≡ Some indication) (in_time : gap_ahead (event_of p.control.track) indication < 32767) where
+    (says : indication_in llid body.items ≡ Some indication) (in_time : gap_ahead (event_of p.control.track) indication < 32767)
+    (opened : IsOpenedThere) (unmixed : is_mixed_packet peripheral p c octets ≡ false) where
   running : is_running (link_now central peripheral ends (slot + 1) false c p begun.linked c_lasts p_lasts).joint ≡ true
   running = runs central peripheral ends (slot + 1) false c p begun.linked c_lasts p_lasts
 
@@ -209,37 +207,32 @@ module _ (whole : IsHeardWhole) (central peripheral : Setup) (slot : ℕ) (c p :
   abbrev last : Pdu
   last = c.acknowledgement.last
 
-  abbrev header : DataHeader
-  header = header_sent packet.before
+  -- what is noted of it is good, so it is not forged
+  genuine : is_forged peripheral p octets ≡ false
+  genuine = good_genuine peripheral octets p (took_good peripheral slot octets room p before later (Took handle number llid body) noted)
 
-  sent : HasSent packet.before c
-  sent = sent_packet central slot c channel octets packet
+  pure : is_mixed peripheral p octets c.acknowledgement.last ≡ false
+  pure =
+      mixed_at_peripheral whole opened central peripheral (slot + 1) slot false c p channel octets ends begun.linked c_lasts p_lasts packet on_channel unmixed
 
-  und : IsUnderstood central packet.before peripheral p
-  und = understood_down whole central peripheral ends (slot + 1) slot false c p channel octets begun.linked c_lasts p_lasts packet on_channel
-
-  as_sent : IsAsSent peripheral p slot octets c.acknowledgement
-  as_sent = as_sent_down whole central peripheral ends (slot + 1) slot false c p channel octets begun.linked c_lasts p_lasts packet on_channel
-
-  notes_are : notes_after peripheral p (PacketReceived slot octets room) ≡ notes_hearing peripheral slot room header last p
-  notes_are =
-      ap (λ (o : List ℕ). notes_after peripheral p (PacketReceived slot o room)) packet.packet
-      ∙ notes_heard whole central peripheral packet.before p und slot room
-      ∙ ap (λ (pdu : Pdu). notes_hearing peripheral slot room header pdu p) (sym sent.last)
+  read : AreRead peripheral p slot octets c.acknowledgement
+  read =
+      whole_at_peripheral whole central peripheral (slot + 1) slot false c p channel octets ends begun.linked c_lasts p_lasts packet on_channel
+      (record { genuine = genuine; pure = pure })
 
   coming : IsComing l.joint.down indication
   coming =
-      let new = took_new peripheral slot room header last p before later handle number llid body (sym notes_are ∙ noted) in
+      let new = took_new peripheral slot room read.header last p before later handle number llid body (sym (read.notes room) ∙ noted) in
       let agreed = turned c.acknowledgement p.acknowledgement shows.agreement in
-      let bits : HasBitsOf c.acknowledgement header = (ap is_odd (sym sent.acked), ap (λ (pdus : List Pdu). is_odd (length pdus)) (sym sent.accepted)) in
-      let untaken = (says_right p.acknowledgement c.acknowledgement agreed header bits sent.out).untaken new.fresh in
-      comes l.joint.down c.acknowledgement p.acknowledgement indication shows.down sent.out new.has_octets untaken
+      let untaken = (says_right p.acknowledgement c.acknowledgement agreed read.header read.bits read.out).untaken new.fresh in
+      comes l.joint.down c.acknowledgement p.acknowledgement indication shows.down read.out new.has_octets untaken
       (ap (λ (pdu : Pdu). indication_in pdu.llid pdu.body) new.is ∙ says)
 
   pub last_read : last_change c.control.sent ≡ Some (change_of (event_of p.control.track) indication)
   last_read =
       last_taken central peripheral ends (slot + 1) slot (drawn p.encryption.response) false (takes_item (room || not (is_data c.acknowledgement.last)) (item_on_air l.joint.down)) c p
       (received peripheral slot octets room p).control l reached running shows
-      (takes_now whole central peripheral slot c p channel octets room ends begun packet on_channel supervised as_sent.so.pure (begun.ready running) l
-      reached running shows (begun.linked.keys running) as_sent.read)
+      (takes_now whole central peripheral slot c p channel octets room ends begun packet on_channel supervised pure (begun.ready running) l
+      reached running shows (begun.linked.keys running)
+      (record { header = read.header; bits = read.bits; out = read.out; good = read.good; facts = read.facts }))
       (ap (λ (way : Way). takes_item (room || not (is_data c.acknowledgement.last)) (item_on_air way)) coming.on_air) indication coming in_time

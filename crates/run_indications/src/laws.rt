@@ -19,13 +19,13 @@ ghost use Rattle.run_pairs.specs.link_calls.run_model.History.{Called, Event};
 ghost use Rattle.run_pairs.specs.link_calls.run_model.LinkEnds.{HaveAddresses};
 ghost use Rattle.run_pairs.specs.link_calls.run_model.Run.{Given, facts_at, history_of, run_of};
 ghost use Rattle.link_runs.specs.joint_controls.Joint.{last_change};
-ghost use Rattle.run_pairs.specs.InTurns.{HearEachInTurn};
+ghost use Rattle.run_pairs.specs.InTurns.{HearEachInTurn, HearNoMixed};
 
 /// A station is called with a packet and listens on its end of a link, a peripheral, which notes
 /// that it takes an indication whose Instant has not passed by its own count. Where both ends hear
 /// each other in turns, this indication is the last that the central sent, and its Instant is one
-/// event at both ends. So it is with any number of stations and of links, and whatever is lost
-/// (Core 5.2, volume 6 part B, sections 5.1.1, 5.1.2 and 5.5.1).
+/// event at both ends. So it is with any number of stations and of links, and whatever is lost, as
+/// long as no packet is mixed (Core 5.2, volume 6 part B, sections 5.1.1, 5.1.2 and 5.5.1).
 pub fn a_peripheral_takes_what_the_central_sent_last()
     ensures { (given : Given) (before rest : List Event) (octets : List ℕ)
         (central peripheral : OpenEnd) (room : Bool) (first later : List Note)
@@ -36,6 +36,8 @@ pub fn a_peripheral_takes_what_the_central_sent_last()
         ≡ before ++ Called peripheral.station (PacketHeard octets) ∷ rest
         → AreEnds before central peripheral
         → HearEachInTurn given (before ++ Called peripheral.station (PacketHeard octets) ∷ [])
+        central peripheral
+        → HearNoMixed given (before ++ Called peripheral.station (PacketHeard octets) ∷ [])
         central peripheral
         → IsOpen given before central → IsOpen given before peripheral
         → link_listened (facts_at given peripheral.station before).turn.doing
@@ -49,6 +51,7 @@ pub fn a_peripheral_takes_what_the_central_sent_last()
         ≡ Some (change_of (event_of (facts_in peripheral.link).control.track) indication) }
 {
     air_frame::laws::packet_tells_its_pdu();
+    link_runs::a_sealed_packet_is_opened();
     controller_model::a_pdu_is_understood();
     advertise::laws::connections_are_taken();
     run_pairs::what_hosts_ask_may_come();

@@ -20,12 +20,14 @@ ghost use Rattle.run_pairs.specs.link_calls.run_model.History.{Called, Event};
 ghost use Rattle.run_pairs.specs.link_calls.run_model.LinkEnds.{HaveAddresses};
 ghost use Rattle.run_pairs.specs.link_calls.run_model.Pair.{given_of};
 ghost use Rattle.run_pairs.specs.link_calls.run_model.Run.{Given, facts_at, history_of, run_of};
+ghost use Rattle.run_pairs.specs.InTurns.{HearNoMixed};
 ghost use Rattle.link_runs.specs.joint_controls.Joint.{last_change};
 
 /// In a run of two stations, each with any number of links: where a peripheral is called with a
 /// packet while it listens on its link, and notes that it takes an indication whose Instant has not
 /// passed by its own count, this indication is the last that the central sent, and its Instant is
-/// one event at both ends (Core 5.2, volume 6 part B, sections 5.1.1, 5.1.2 and 5.5.1).
+/// one event at both ends. That is so as long as no packet is mixed (Core 5.2, volume 6 part B,
+/// sections 5.1.1, 5.1.2 and 5.5.1).
 pub fn a_peripheral_of_two_takes_what_the_central_sent_last()
     ensures two { (given : Given) (one other : ℕ) (before rest : List Event) (octets : List ℕ)
         (central peripheral : OpenEnd) (room : Bool) (first later : List Note)
@@ -36,6 +38,8 @@ pub fn a_peripheral_of_two_takes_what_the_central_sent_last()
         → history_of (run_of given)
         ≡ before ++ Called peripheral.station (PacketHeard octets) ∷ rest
         → AreEnds before central peripheral
+        → HearNoMixed given (before ++ Called peripheral.station (PacketHeard octets) ∷ [])
+        central peripheral
         → IsOpen given before central → IsOpen given before peripheral
         → link_listened (facts_at given peripheral.station before).turn.doing
         ≡ Some peripheral.handle
@@ -55,6 +59,8 @@ pub fn a_peripheral_of_two_takes_what_the_central_sent_last()
         → history_of (run_of (given_of a b script))
         ≡ before ++ Called peripheral.station (PacketHeard octets) ∷ rest
         → AreEnds before central peripheral
+        → HearNoMixed (given_of a b script)
+        (before ++ Called peripheral.station (PacketHeard octets) ∷ []) central peripheral
         → IsOpen (given_of a b script) before central
         → IsOpen (given_of a b script) before peripheral
         → link_listened (facts_at (given_of a b script) peripheral.station before).turn.doing

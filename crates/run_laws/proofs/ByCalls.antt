@@ -11,6 +11,7 @@ use Rattle.run_model.specs.Feeding.{AreDistinct}
 use Rattle.run_model.specs.History.{Event, TurnBegan, HostFed, Called, Noted, Transmitted, past_of, packet_received, steps_in, turns_begun}
 use Rattle.run_model.specs.LinkEnds.{HaveAddresses}
 use Rattle.run_model.specs.Run.{Given, setup_at, facts_at, octets_left, after_call, after_octets, after_feed, hearings_of, step_of, run_of, history_of}
+use Rattle.run_model.proofs.Handing.{IsUnforged}
 use Rattle.run_model.proofs.Places.{each_at, each_event}
 use Rattle.run_model.proofs.Stations.{is_in, among, not_before}
 use Rattle.run_model.proofs.Walk.{Place, AtBegins, AtListening, IsKept, IsWhole, IsStopped, ends_with, run_kept}
@@ -32,7 +33,8 @@ pub record WasSent (given : Given) (phases : ℕ) (before : ℕ → Facts) (stat
   pub is_one : is_in sender given.stations ≡ true
   pub differs : (station == sender) ≡ false
   pub listens : (before station).wanted ≡ Listens channel
-  pub sent : IsOnAir phases (before sender) channel octets
+  -- one that is forged to the station may be damaged
+  pub sent : IsUnforged (before station) octets → IsOnAir phases (before sender) channel octets
 
 pub record IsKeptByCalls (given : Given) (M : (ℕ → Facts) → Type 0) : Type 0 where
   pub feeds : (station octet : ℕ) (before after : ℕ → Facts) → IsCalled given station (HostOctet octet) before after → M before → M after
@@ -144,7 +146,7 @@ was_sent given six phases done left station history distinct are hearing octets 
       is_one = heard.is_one;
       differs = heard.differs;
       listens = wanted_is given station history ∙ heard.listens;
-      sent = by (is_in heard.sender done) heard.sender heard.channel heard.is_one refl heard.sent;
+      sent = λ unforged. by (is_in heard.sender done) heard.sender heard.channel heard.is_one refl (heard.sent unforged);
     }
   where
     by : (called : Bool) (sender channel : ℕ) → is_in sender given.stations ≡ true → is_in sender done ≡ called → OnAirIf called phases given history sender channel octets

@@ -23,6 +23,7 @@ use Rattle.run_model.specs.controller_model.Facts.{Setup, Facts, Listens}
 use Rattle.run_model.specs.controller_model.Heard.{answers_by_connecting, connects, fields_sent, heard, if_pdu, initiator_heard, is_new_between, link_if, link_made, link_to, link_under, link_wanted, link_with, next_access_of, unheard}
 use Rattle.run_model.specs.controller_model.Packets.{pdu_heard}
 use Rattle.run_model.specs.controller_model.Side.{facts_after}
+use Rattle.run_model.proofs.Handing.{IsUnforged, initiator_unforged, request_unforged}
 use Rattle.run_model.proofs.controller_model.Always.{IsAdvertisingChannel, MayBegin}
 use Rattle.run_model.proofs.controller_model.DataChannels.{link_channel}
 use Rattle.run_model.specs.Feeding.{AreDistinct}
@@ -85,10 +86,10 @@ sent_well understood phases facts channel octets on_channel (inr sent) = λ pdu 
     let from = on_channel.0 in absurd (omega (arith, below, from))
 
 heard_well : IsUnderstood → (given : Given) (phases : ℕ) (before : ℕ → Facts) (station channel : ℕ) (octets : List ℕ) → WasSent given phases before station octets
-    → (before station).wanted ≡ Listens channel → IsAdvertisingChannel channel → IsWell channel octets
-heard_well understood given phases before station channel octets sent wanted on_channel =
+    → IsUnforged (before station) octets → (before station).wanted ≡ Listens channel → IsAdvertisingChannel channel → IsWell channel octets
+heard_well understood given phases before station channel octets sent unforged wanted on_channel =
     let same = one_channel sent.channel channel (sym sent.listens ∙ wanted) in
-    sent_well understood phases (before sent.sender) channel octets on_channel (subst (λ n. IsOnAir phases (before sent.sender) n octets) same sent.sent)
+    sent_well understood phases (before sent.sender) channel octets on_channel (subst (λ n. IsOnAir phases (before sent.sender) n octets) same (sent.sent unforged))
 
 -- ---- an initiator
 
@@ -181,7 +182,7 @@ phase_makes_two : IsUnderstood → (given : Given) (station phases turns : ℕ) 
 phase_makes_two understood given station phases turns None before in_turn sent = unheard_two (before station).turn.doing (before station)
 phase_makes_two understood given station phases turns (Some octets) before in_turn sent =
     heard_two (setup_at given station) (before station) octets (before station).turn.doing refl
-    (λ channel doing. heard_well understood given phases before station channel octets (sent octets refl)
+    (λ channel doing. heard_well understood given phases before station channel octets (sent octets refl) (initiator_unforged (before station) channel octets doing)
     (subst (IsListening (before station)) doing in_turn.listens) (subst FitsChannel doing in_turn.fits))
 
 phase_opens_two : IsUnderstood → (given : Given) (station phases turns : ℕ) (received : Option (List ℕ)) (before : ℕ → Facts)
@@ -192,6 +193,7 @@ phase_opens_two understood given station phases turns received before in_turn se
   taken = λ channel octets on pdu fields handle is doing found takes.
       takes_two on.params (before station).view.accepted pdu fields takes
       (heard_well understood given phases before station channel octets (sent octets (heard_octets received octets is))
+      (request_unforged (before station) channel octets doing)
       (subst (IsListening (before station)) doing in_turn.listens) (subst FitsChannel doing in_turn.fits) pdu found);
 }
 

@@ -1,5 +1,5 @@
 -- Where its host asks only for values in range, the lengths of an end are in their ranges, in all phases of encryption.
-use Rattle.std.proofs.Common.{◌≡◌, ◌&&◌, Bool, true, false, List, [], ◌∷◌, ◌++◌, IfSome, is_none, refl, sym, subst, if◌then◌else◌}
+use Rattle.std.proofs.Common.{◌≡◌, Bool, true, false, List, [], ◌∷◌, IfSome, is_none, refl, sym, subst, if◌then◌else◌}
 use Rattle.ble_base.specs.ErrorCodes.{mic_failure}
 use Rattle.data_pdu.specs.Ranges.{IsInRange}
 use Rattle.run_model.specs.control_model.Control.{Control, ended}
@@ -9,7 +9,7 @@ use Rattle.run_model.proofs.link_model.phased_end.Lengths.{lengths_after}
 use Rattle.run_model.proofs.link_model.phased_end.Sized.{sized_after}
 use Rattle.run_model.specs.link_model.keyed_control.Keyed.{Keyed}
 use Rattle.run_model.specs.link_model.keyed_control.KeyedSteps.{KeyedStep, keyed_after, keyed_after_all}
-use Rattle.run_model.specs.link_model.ControlSteps.{IsAskInRange}
+use Rattle.run_model.specs.link_model.AskRanges.{IsAskInRange}
 use Rattle.run_model.specs.link_model.End.{facts_after}
 use Rattle.run_model.specs.link_model.Facts.{Facts, keyed_of}
 use Rattle.run_model.specs.link_model.KeyedSteps.{is_forged_in_step, keyed_steps_in}

@@ -13,18 +13,19 @@ use Rattle.run_model.specs.controller_model.Step.{Step, HostOctet, TurnBegins, N
 use Rattle.run_model.specs.controller_model.Facts.{Setup, Facts, Sends, Listens}
 use Rattle.run_model.specs.controller_model.Heard.{unheard}
 use Rattle.run_model.specs.controller_model.Outcome.{facts_passed}
-use Rattle.run_model.specs.controller_model.Packets.{advertising_packet, use_of}
+use Rattle.run_model.specs.controller_model.Packets.{advertising_packet, use_of, verdict_of}
 use Rattle.run_model.specs.controller_model.Sent.{SendsOn}
 use Rattle.run_model.specs.controller_model.Side.{facts_after, facts_of, notes_after}
 use Rattle.run_model.proofs.controller_model.Always.{IsAdvertisingChannel}
 use Rattle.run_model.proofs.controller_model.Pasts.{facts_more}
 use Rattle.radio_replay.specs.declared.fates.Fate.{Fate}
 use Rattle.run_model.specs.Feeding.{AreDistinct}
-use Rattle.run_model.specs.History.{Event, TurnBegan, HostFed, Transmitted, has_received, past_of, packet_received, turns_begun}
+use Rattle.run_model.specs.History.{Event, TurnBegan, HostFed, Transmitted, Hearing, handed_or, has_received, past_of, packet_received, turns_begun}
 use Rattle.run_model.specs.LinkEnds.{HaveAddresses}
 use Rattle.run_model.specs.Run.{Given, setup_at, facts_at, use_at, octets_left, after_call, after_octets, after_feed, hearings_of, step_of, unseen_in}
 use Rattle.run_model.proofs.Calls.{past_other, past_own}
-use Rattle.run_model.proofs.LinkEnds.{is_listener, received_by, received_event, received_packet}
+use Rattle.run_model.proofs.Handing.{IsHanded, IsUnforged, WasForged, WasNot, WasReceived, handing}
+use Rattle.run_model.proofs.LinkEnds.{is_listener, received_by, received_event}
 use Rattle.run_model.proofs.Stations.{is_in, among, in_more_other, in_more_same, not_before}
 use Rattle.run_model.proofs.Walk.{Place, AtPackets, AtListening, IsKept}
 use Rattle.run_laws.proofs.LinkPhases.{IsInPhase, SendsAs, in_phase, sends_as}
@@ -80,7 +81,7 @@ on_air phases facts channel octets uses = by uses.wants
     })
 
 -- as the sender takes that it heard nothing, its links stay as they are
-sender_links : (facts : Facts) (handle : ℕ) (doing : Doing) → SendsOn handle doing → (facts_passed (unheard doing facts)).links ≡ facts.links
+pub sender_links : (facts : Facts) (handle : ℕ) (doing : Doing) → SendsOn handle doing → (facts_passed (unheard doing facts)).links ≡ facts.links
 sender_links facts handle (CentralSends other) sends = refl
 sender_links facts handle (PeripheralSends other) sends = refl
 sender_links facts handle (Advertises channel) sends = absurd sends
@@ -115,7 +116,8 @@ pub record IsHeard (given : Given) (phases : ℕ) (called : List ℕ) (history :
   pub is_one : is_in sender given.stations ≡ true
   pub differs : (station == sender) ≡ false
   pub listens : use_at given station history ≡ Listens channel
-  pub sent : OnAirIf (is_in sender called) phases given history sender channel octets
+  -- one that is forged to the station may be damaged
+  pub sent : IsUnforged (facts_at given station history) octets → OnAirIf (is_in sender called) phases given history sender channel octets
 
 abbrev pub Hears : Given → ℕ → List ℕ → List Event → ℕ → Type 0
 Hears given phases called history station =
@@ -168,6 +170,11 @@ use_same given station history after same = ap (λ past. use_of (facts_of (setup
 facts_same : (given : Given) (station : ℕ) (history after : List Event) → past_of station after ≡ past_of station history → facts_at given station after ≡ facts_at given station history
 facts_same given station history after same = ap (facts_of (setup_at given station)) same
 
+pub unforged_same : (given : Given) (station : ℕ) (history after : List Event) (octets : List ℕ) → past_of station after ≡ past_of station history
+    → IsUnforged (facts_at given station after) octets → IsUnforged (facts_at given station history) octets
+unforged_same given station history after octets same unforged =
+    subst (λ (facts : Facts). IsUnforged facts octets) (facts_same given station history after same) unforged
+
 on_air_same : (called : Bool) (phases : ℕ) (given : Given) (history after : List Event) (sender channel : ℕ) (octets : List ℕ)
     → past_of sender after ≡ past_of sender history → OnAirIf called phases given history sender channel octets → OnAirIf called phases given after sender channel octets
 on_air_same true phases given history after sender channel octets same sent =
@@ -177,34 +184,58 @@ on_air_same false phases given history after sender channel octets same sent = u
 -- a packet on the air
 packet_heard : (given : Given) (phases : ℕ) (fates : List Fate) (station channel : ℕ) (octets : List ℕ) (history : List Event) (other : ℕ) → is_in station given.stations ≡ true
     → use_at given station history ≡ Sends channel octets → unseen_in octets (hearings_of given fates station channel octets history) ≡ None
-    → (received : Bool) → has_received other (hearings_of given fates station channel octets history) ≡ received
     → Hears given phases [] history other → Hears given phases [] (history ++ Transmitted station channel octets (hearings_of given fates station channel octets history) ∷ []) other
-packet_heard given phases fates station channel octets history other is_one wanted seen true is hears = λ sent same.
-    let hearings = hearings_of given fates station channel octets history in
-    let event = Transmitted station channel octets hearings in
-    let after = history ++ event ∷ [] in
-    let listener = is_listener given fates channel octets history station other is in
-    let told : Some octets ≡ Some sent = sym (received_packet given fates other station channel octets history seen ∙ ap (λ b. if b then Some octets else packet_received other history) is) ∙ same in
-    let equal : octets ≡ sent = cc in record {
-      sender = station;
-      channel = channel;
-      is_one = is_one;
-      differs = listener.differs;
-      listens = use_same given other history after (event_past other history event refl) ∙ listener.listens;
-      sent = use_same given station history after (event_past station history event refl) ∙ wanted ∙ ap (Sends channel) equal;
-    }
-packet_heard given phases fates station channel octets history other is_one wanted seen false is hears = λ sent same.
-    let hearings = hearings_of given fates station channel octets history in
-    let event = Transmitted station channel octets hearings in
-    let after = history ++ event ∷ [] in
-    let heard = hears sent (sym (received_packet given fates other station channel octets history seen ∙ ap (λ b. if b then Some octets else packet_received other history) is) ∙ same) in record {
-      sender = heard.sender;
-      channel = heard.channel;
-      is_one = heard.is_one;
-      differs = heard.differs;
-      listens = use_same given other history after (event_past other history event refl) ∙ heard.listens;
-      sent = use_same given heard.sender history after (event_past heard.sender history event refl) ∙ heard.sent;
-    }
+packet_heard given phases fates station channel octets history other is_one wanted seen hears =
+    by (handing given fates station channel octets history other (packet_received other history) seen)
+  where
+    hearings : List Hearing
+    hearings = hearings_of given fates station channel octets history
+
+    event : Event
+    event = Transmitted station channel octets hearings
+
+    after : List Event
+    after = history ++ event ∷ []
+
+    handed : Option (List ℕ)
+    handed = handed_or (packet_received other history) other octets hearings
+
+    past : (one : ℕ) → past_of one after ≡ past_of one history
+    past one = event_past one history event refl
+
+    by : IsHanded (has_received other hearings) octets (packet_received other history) handed (facts_at given other history) (use_at given other history) channel (other == station)
+        → Hears given phases [] after other
+    by (WasReceived is as_sent) = λ sent same.
+        let listener = is_listener given fates channel octets history station other is in
+        let told : Some octets ≡ Some sent = sym (received_event other history event ∙ as_sent) ∙ same in
+        let equal : octets ≡ sent = cc in record {
+          sender = station;
+          channel = channel;
+          is_one = is_one;
+          differs = listener.differs;
+          listens = use_same given other history after (past other) ∙ listener.listens;
+          sent = λ unforged. use_same given station history after (past station) ∙ wanted ∙ ap (Sends channel) equal;
+        }
+    by (WasForged left as_left forged listens differs) = λ sent same.
+        let told : Some left ≡ Some sent = sym (received_event other history event ∙ as_left) ∙ same in
+        let equal : left ≡ sent = cc in record {
+          sender = station;
+          channel = channel;
+          is_one = is_one;
+          differs = differs;
+          listens = use_same given other history after (past other) ∙ listens;
+          sent = λ unforged. absurd (unforged_same given other history after sent (past other) unforged
+              (ap (verdict_of (facts_at given other history)) (sym equal) ∙ forged));
+        }
+    by (WasNot is as_before) = λ sent same.
+        let heard = hears sent (sym (received_event other history event ∙ as_before) ∙ same) in record {
+          sender = heard.sender;
+          channel = heard.channel;
+          is_one = heard.is_one;
+          differs = heard.differs;
+          listens = use_same given other history after (past other) ∙ heard.listens;
+          sent = λ unforged. use_same given heard.sender history after (past heard.sender) ∙ heard.sent (unforged_same given other history after sent (past other) unforged);
+        }
 
 pub wanted_is : (given : Given) (station : ℕ) (history : List Event) → (facts_at given station history).wanted ≡ use_at given station history
 unfolding use_of
@@ -284,7 +315,9 @@ listener_if given phases done station history other out uses hears differs false
       is_one = heard.is_one;
       differs = heard.differs;
       listens = use_same given other history after (past_other other station step (notes_after (setup_at given station) (facts_at given station history) step) history differs) ∙ heard.listens;
-      sent = sender_by given phases done station history heard.sender heard.channel octets out (uses heard.channel octets) hears (heard.sender == station) refl heard.sent;
+      sent = λ unforged. sender_by given phases done station history heard.sender heard.channel octets out (uses heard.channel octets) hears (heard.sender == station) refl
+          (heard.sent (unforged_same given other history after octets
+          (past_other other station step (notes_after (setup_at given station) (facts_at given station history) step) history differs) unforged));
     }
 
 listener_by : (given : Given) (phases : ℕ) (done : List ℕ) (station : ℕ) (history : List Event) (other : ℕ) → is_in station done ≡ false
@@ -332,7 +365,7 @@ hearing_kept given six distinct = let kept = stands_kept given distinct in recor
   on_packet = λ phases plan done left station channel octets history are some due hearing. record {
     stand = kept.on_packet phases plan done left station channel octets history are some due hearing.stand;
     hears = λ other is. packet_heard given phases plan.fates station channel octets history other (among given.stations done left station are) due.is_wanted due.is_seen
-        (has_received other (hearings_of given plan.fates station channel octets history)) refl (hearing.hears other is);
+        (hearing.hears other is);
   };
   on_air = λ phases history hearing. record { stand = kept.on_air phases history hearing.stand; hears = hearing.hears };
   on_hearing = λ phases done left station history are some hearing. record {

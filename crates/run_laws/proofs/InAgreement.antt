@@ -4,7 +4,9 @@ use Rattle.std.specs.Prelude.{IfSome}
 use Rattle.std.specs.Option.{option_map}
 use Rattle.std.proofs.lemmas.Bool.{eqb-true}
 use Rattle.run_model.specs.link_model.Setup.{Setup as EndSetup}
-use Rattle.run_model.specs.link_model.Acknowledgement.{first_acknowledgement}
+use Rattle.run_model.specs.link_model.Acknowledgement.{Acknowledgement, first_acknowledgement}
+use Rattle.run_model.specs.link_model.Facts.{Facts as EndFacts}
+use Rattle.run_model.specs.link_model.OneLink.{AreInAgreement}
 use Rattle.run_model.specs.link_model.Step.{Step as EndStep, DataGiven, PduFixed, PacketSent, PacketReceived, DataReported, WordsGiven}
 use Rattle.run_model.specs.open_links.OpenLinks.{Links, OpenLink, link_after, link_at, link_served, new_link, with_change}
 use Rattle.run_model.specs.open_links.Turns.{link_entered}
@@ -21,7 +23,7 @@ use Rattle.run_model.proofs.controller_model.Handles.{HaveOwnHandles, handles_ke
 use Rattle.run_model.specs.Run.{Given, setup_at, step_of}
 use Rattle.run_model.proofs.Stations.{is_in}
 use Rattle.run_laws.specs.Ends.{link_listened}
-use Rattle.run_laws.proofs.Agreed.{Agree, ack_asked, ack_given, ack_of, ack_reported, agree_asked, agree_entered, agree_fixed, agree_given, agree_new, agree_reported, agree_sent, agree_served, agree_worded, first_ack}
+use Rattle.run_laws.proofs.Agreed.{AgreeIn, IsAgreement, ack_asked, ack_given, ack_of, ack_reported, agree_asked, agree_entered, agree_fixed, agree_given, agree_new, agree_reported, agree_sent, agree_served, agree_worded, first_ack}
 use Rattle.run_laws.proofs.ByCalls.{IsCalled, IsKeptByCalls}
 use Rattle.run_laws.proofs.Entering.{IsInTurn}
 use Rattle.run_laws.proofs.LinkPasses.{IsPassingOn, LeavesAll, OpensOne, ReceivesOn, is_on_link, links_receiving, links_worded, phase_passes_on}
@@ -217,8 +219,11 @@ station_passes setup facts phases turns received in_turn is =
 abbrev pub AllPairs : (OpenLink → OpenLink → Type 0) → Links → Links → Type 0
 AllPairs R ones others = EachOpen (λ one. EachOpen (R one) others) ones
 
+abbrev pub AllAgreeIn : (Acknowledgement → Acknowledgement → Type 0) → Links → Links → Type 0
+AllAgreeIn R ones others = EachOpen (λ one. EachOpen (λ other. AgreeIn R one other) others) ones
+
 abbrev pub AllAgree : Links → Links → Type 0
-AllAgree ones others = EachOpen (λ one. EachOpen (λ other. Agree one other) others) ones
+AllAgree ones others = AllAgreeIn AreInAgreement ones others
 
 pub pairs_back : (R S : OpenLink → OpenLink → Type 0) → ((one other : OpenLink) → R one other → S other one) → (ones others : Links) → AllPairs R ones others
     → AllPairs S others ones
@@ -229,8 +234,11 @@ pairs_back R S back ones (Some other ∷ others) all = (
   pairs_back R S back ones others (open_more _ _ ones (λ one each. each.1) all),
 )
 
+abbrev pub WithAllIn : (Acknowledgement → Acknowledgement → Type 0) → Links → OpenLink → Type 0
+WithAllIn R others one = EachOpen (λ other. AgreeIn R one other) others
+
 abbrev pub WithAll : Links → OpenLink → Type 0
-WithAll others one = EachOpen (λ other. Agree one other) others
+WithAll others one = WithAllIn AreInAgreement others one
 
 -- a relation that no step of the first link ends, but that it receives
 pub record IsKeptByFirst (R : OpenLink → OpenLink → Type 0) : Type 0 where
@@ -243,17 +251,18 @@ pub record IsKeptByFirst (R : OpenLink → OpenLink → Type 0) : Type 0 where
   pub worded : (skd_s iv_s : ℕ) (one other : OpenLink) → R one other → R (link_after (WordsGiven skd_s iv_s) one) other
   pub asked : (step : EndStep) (one other : OpenLink) → IsAskedWell step → R one other → R (link_after step one) other
 
-pub agree_kept : IsKeptByFirst Agree
-agree_kept = record {
-  given = agree_given;
-  reported = agree_reported;
-  fixed = agree_fixed;
-  served = agree_served;
-  sent = agree_sent;
-  entered = agree_entered;
-  worded = agree_worded;
-  asked = λ step one other well agree. agree_asked step one other well.by_host agree;
-}
+module _ (R : Acknowledgement → Acknowledgement → Type 0) (Reads : EndSetup → EndFacts → EndFacts → List ℕ → Type 0) (is : IsAgreement R Reads) where
+  pub agree_kept : IsKeptByFirst (AgreeIn R)
+  agree_kept = record {
+    given = agree_given R Reads is;
+    reported = agree_reported R Reads is;
+    fixed = agree_fixed R Reads is;
+    served = agree_served R Reads is;
+    sent = agree_sent R Reads is;
+    entered = agree_entered R Reads is;
+    worded = agree_worded R Reads is;
+    asked = λ step one other well agree. agree_asked R Reads is step one other well.by_host agree;
+  }
 
 module _ (R : OpenLink → OpenLink → Type 0) (kept : IsKeptByFirst R) (others : Links) where
   pub all_entered : (slot : ℕ) (one : OpenLink) → EachOpen (R one) others → EachOpen (R (link_entered slot one)) others
@@ -328,10 +337,11 @@ passing_keeps R kept others facts after received new heard (ReceivesOn handle oc
         (changed (λ one. EachOpen (R one) others) handle given facts.links
         (λ one each. open_more (R one) (R (given one)) others (λ other is. kept.worded skd_s iv_s one other is) each) all)
 
--- a link that opens while those of the other station that have its slot are fresh
-pub new_agree : (slot : ℕ) (others : Links) → EachOpen (IsFresh slot) others → (end : EndSetup) → end.opened ≡ slot → WithAll others (new_link end)
-new_agree slot others fresh end now =
-    open_more (IsFresh slot) (λ other. Agree (new_link end) other) others (λ other new. agree_new end other (λ same. new (sym same ∙ now))) fresh
+module _ (R : Acknowledgement → Acknowledgement → Type 0) (Reads : EndSetup → EndFacts → EndFacts → List ℕ → Type 0) (is : IsAgreement R Reads) where
+  -- a link that opens while those of the other station that have its slot are fresh
+  pub new_agree : (slot : ℕ) (others : Links) → EachOpen (IsFresh slot) others → (end : EndSetup) → end.opened ≡ slot → WithAllIn R others (new_link end)
+  new_agree slot others fresh end now =
+      open_more (IsFresh slot) (λ other. AgreeIn R (new_link end) other) others (λ other new. agree_new R Reads is end other (λ same. new (sym same ∙ now))) fresh
 
 -- ---- each call
 

@@ -6,7 +6,7 @@ use Rattle.std.specs.List.{Contains}
 use Rattle.ble_base.specs.Limits.{payload_octets}
 use Rattle.adv_pdu.specs.declared.pdu.AdvPdu.{AdvPdu}
 use Rattle.scan_init.specs.Reports.{does_ask, scan_answer}
-use Rattle.run_model.specs.link_model.ControlSteps.{AreAsksInRange, IsAskInRange}
+use Rattle.run_model.specs.link_model.AskRanges.{AreAsksInRange, IsAskInRange}
 use Rattle.run_model.specs.link_model.Step.{Step as EndStep, DataGiven, DataReported, EventEntered, PacketReceived, PacketSent, PduFixed, WordsGiven}
 use Rattle.run_model.specs.open_links.OpenLinks.{OpenLink, link_after, link_at}
 use Rattle.run_model.specs.open_links.Turns.{entered_if, enters_in, link_entered}

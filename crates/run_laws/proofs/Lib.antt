@@ -15,12 +15,16 @@ pub mod ChSel
 pub mod LinkPasses
 pub mod InRange
 pub mod EndLengths
+pub mod Payloads
 pub mod Pieces
+pub mod ReadPackets
+pub mod AgreeingShapes
 pub mod Agreed
 pub mod TwoStations
 pub mod InAgreement
 pub mod EachCall
 pub mod OpenedOnce
+pub mod EarlierLinks
 pub mod OwnLinks
 pub mod TwoEnds
 -- what the crates above use of those below

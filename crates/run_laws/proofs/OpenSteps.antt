@@ -1,5 +1,5 @@
 -- The open links of a controller after each call on it.
-use Rattle.std.proofs.Common.{◌≡◌, ℕ, zero, suc, ◌+◌, ◌%◌, ◌≤◌, ◌==◌, Bool, true, false, Option, Some, None, List, [], ◌∷◌, replicate, reverse, refl, sym, subst, ◌∙◌, arith}
+use Rattle.std.proofs.Common.{◌≡◌, ℕ, zero, suc, ◌+◌, ◌%◌, ◌^◌, ◌≤◌, ◌==◌, Bool, true, false, Option, Some, None, List, [], ◌∷◌, replicate, reverse, refl, sym, subst, ◌∙◌, arith}
 use Rattle.std.proofs.lemmas.Bool.{eqb-true}
 use Rattle.std.specs.Prelude.{IfSome, ⊤, nat_lt, if◌then◌else◌, ◌&&◌, Ok, Err, is_some}
 use Rattle.std.specs.Option.{option_map}
@@ -28,7 +28,7 @@ use Rattle.data_pdu.specs.declared.ctrl.Ctrl.TheVariants.{EncReq}
 use Rattle.run_model.specs.procedure_stages.declared.steps.Effect.{Effect}
 use Rattle.run_model.specs.procedure_stages.declared.steps.Effect.TheVariants.{AskHost, Cipher}
 use Rattle.run_model.specs.link_model.Setup.{Setup as EndSetup}
-use Rattle.run_model.specs.link_model.ControlSteps.{IsAskInRange}
+use Rattle.run_model.specs.link_model.AskRanges.{IsAskInRange}
 use Rattle.run_model.specs.link_model.Step.{Step as EndStep, DataGiven, DataReported, Disconnected, KeyAnswered, PacketReceived, PacketSent, PduFixed, ProcedureAsked, RequestAnswered, WordsGiven}
 use Rattle.run_model.specs.link_model.declared.state.PeerFacts.{PeerFacts}
 use Rattle.run_model.specs.procedure_values.declared.asks.Ask.{Ask}
@@ -204,7 +204,7 @@ step_is_well (LeParamReply handle min max latency timeout lengths) moment role p
 step_is_well (LeParamNegative handle reason) moment role peer step ranged is =
     one_well (RequestAnswered (Err (record { 0 = reason % 256 }))) step (record { by_host = tt; in_range = tt; map = tt }) is
 step_is_well (LeEnableEncryption handle rand ediv key) moment role peer step ranged is =
-    asked_well (Encrypt rand ediv (reverse key) moment.skd_m moment.iv_m) step tt tt is
+    asked_well (Encrypt (rand % 2 ^ 64) (ediv % 2 ^ 16) (reverse key) moment.skd_m moment.iv_m) step tt tt is
 step_is_well (LeKeyReply handle key) moment role peer step ranged is =
     one_well (KeyAnswered (Some (reverse key)) moment.slot) step (record { by_host = tt; in_range = tt; map = tt }) is
 step_is_well (LeKeyNegative handle) moment role peer step ranged is =

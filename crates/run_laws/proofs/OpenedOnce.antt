@@ -147,7 +147,7 @@ own_step : (setup : Setup) (facts : Facts) (step : Step) → HaveOwnHandles setu
 own_step setup facts step own = holds_step setup (HaveOwnHandles setup) (HaveOwnHandles setup) (handles_kept setup) facts step own
 
 -- a call that ends no phase opens none
-quiet : (P : EndSetup → Type 0) (setup : Setup) (facts : Facts) (step : Step) → ends_phase step ≡ false → EachLink P facts.links
+pub quiet : (P : EndSetup → Type 0) (setup : Setup) (facts : Facts) (step : Step) → ends_phase step ≡ false → EachLink P facts.links
     → EachLink P (facts_after setup facts step).links
 quiet P setup facts step none each = step_linked P setup facts step (opens_none P facts step none) each
 

@@ -1,6 +1,6 @@
 -- What a station of two hears on a link was sent by the other one, at the far end of that link.
 use Rattle.std.proofs.Common.{◌≡◌, ◌≢◌, ℕ, zero, suc, ◌+◌, ◌-◌, ◌^◌, ◌<◌, ◌==◌, inl, inr, Bool, true, false, Some, List, [], ◌∷◌, ◌++◌, length, take, refl, sym, ap, subst, ◌∙◌, append_assoc, arith}
-use Rattle.std.specs.Prelude.{IfSome, if◌then◌else◌}
+use Rattle.std.specs.Prelude.{IfSome, Option, if◌then◌else◌}
 use Rattle.std.specs.Int.{from_le_bytes, w32}
 use Rattle.std.specs.Str.{bytes_eq}
 use Rattle.std.proofs.lemmas.Bool.{eqb-true, false_from_ne_true}
@@ -8,7 +8,8 @@ use Rattle.std.proofs.lemmas.Nat.{from_le_bytes-to_le_bytes_4}
 use Rattle.std.proofs.lemmas.Slice.Eq.{bytes_eq-Decides}
 use Rattle.ble_base.specs.declared.roles.Role.{Role}
 use Rattle.ble_base.specs.declared.roles.Role.TheVariants.{Central, Peripheral}
-use Rattle.ble_base.specs.declared.verdicts.Verdict.TheVariants.{Good}
+use Rattle.ble_base.specs.declared.verdicts.Verdict.{Verdict}
+use Rattle.ble_base.specs.declared.verdicts.Verdict.TheVariants.{Forged, Good}
 use Rattle.adv_pdu.specs.declared.pdu.ConnectFields.{ConnectFields}
 use Rattle.air_frame.specs.declared.Heard.TheVariants.{NotOurs, Broken, Whole}
 use Rattle.air_frame.specs.Hearing.{heard_in}
@@ -26,13 +27,14 @@ use Rattle.run_model.specs.controller_model.declared.doing.Doing.{Doing}
 use Rattle.run_model.specs.controller_model.declared.doing.Doing.TheVariants.{Advertises, CentralListens, PeripheralListens}
 use Rattle.run_model.specs.controller_model.Facts.{Facts, Listens}
 use Rattle.run_model.specs.controller_model.Heard.{access_found}
-use Rattle.run_model.specs.controller_model.Packets.{listens_on}
+use Rattle.run_model.specs.controller_model.Packets.{listens_on, verdict_doing, verdict_of as verdict_of_side, verdict_of_link}
 use Rattle.run_model.specs.controller_model.Step.{PacketHeard}
 use Rattle.run_model.proofs.controller_model.DataChannels.{link_channel}
 use Rattle.run_model.specs.Feeding.{AreDistinct}
 use Rattle.run_model.specs.History.{Event, Called, Transmitted, turns_begun}
 use Rattle.run_model.specs.LinkEnds.{ConnectInd, HasConnectInd, HaveAddresses, IsAtEnd}
 use Rattle.run_model.specs.Run.{Given, facts_at, history_of, run_of, setup_at}
+use Rattle.run_model.proofs.Handing.{IsUnforged}
 use Rattle.run_model.proofs.LinkEnds.{AreTaken, IsUnderstood, has_connect_ind}
 use Rattle.run_model.proofs.OfStations.{OfStations, run_of_stations}
 use Rattle.run_model.proofs.Places.{each_at}
@@ -70,6 +72,34 @@ pub is_addressed : (setup : EndSetup) (facts : EndFacts) (octets : List ℕ) →
 unfolding verdict_of
 is_addressed setup facts octets good =
     good_begins setup.link.max_rx (opens_now facts.encryption.end) (is_forged_pdu facts) facts.event.channel setup.link.fields.access setup.link.fields.crc_init octets good
+
+-- a good packet is not forged
+not_forged : (verdict : Verdict) → verdict ≡ Good → verdict ≡ Forged → ⊥
+not_forged verdict good forged = let h : Good ≡ Forged = sym good ∙ forged in absurd cc
+
+verdict_listening : (facts : Facts) (handle : ℕ) (doing : Doing) (link : OpenLink) (octets : List ℕ) → facts.turn.doing ≡ doing → link_listened doing ≡ Some handle
+    → link_at handle facts.links ≡ Some link → verdict_of_side facts octets ≡ verdict_of link.setup (facts_in link) octets
+unfolding verdict_of_side
+verdict_listening facts handle (CentralListens other) link octets does listens at =
+    let same : other ≡ handle = cc in
+    ap (λ (d : Doing). verdict_doing facts.links d octets) does ∙ ap (λ n. verdict_of_link (link_at n facts.links) octets) same
+    ∙ ap (λ (place : Option OpenLink). verdict_of_link place octets) at
+verdict_listening facts handle (PeripheralListens other) link octets does listens at =
+    let same : other ≡ handle = cc in
+    ap (λ (d : Doing). verdict_doing facts.links d octets) does ∙ ap (λ n. verdict_of_link (link_at n facts.links) octets) same
+    ∙ ap (λ (place : Option OpenLink). verdict_of_link place octets) at
+verdict_listening facts handle (Advertises channel) link octets does listens at = absurd cc
+verdict_listening facts handle other link octets does listens at = absurd cc
+
+pub unforged_there : (facts : Facts) (handle : ℕ) (link : OpenLink) (octets : List ℕ) → link_listened facts.turn.doing ≡ Some handle
+    → link_at handle facts.links ≡ Some link → (verdict_of link.setup (facts_in link) octets ≡ Forged → ⊥) → IsUnforged facts octets
+unforged_there facts handle link octets listens at unforged = λ forged.
+    unforged (sym (verdict_listening facts handle facts.turn.doing link octets refl listens at) ∙ forged)
+
+pub good_unforged : (facts : Facts) (handle : ℕ) (link : OpenLink) (octets : List ℕ) → link_listened facts.turn.doing ≡ Some handle
+    → link_at handle facts.links ≡ Some link → verdict_of link.setup (facts_in link) octets ≡ Good → IsUnforged facts octets
+good_unforged facts handle link octets listens at good =
+    unforged_there facts handle link octets listens at (not_forged (verdict_of link.setup (facts_in link) octets) good)
 
 -- each address that a station takes has 32 bits
 in_32_bits : (cursor travel : ℕ) → access_at cursor travel < 2 ^ 32
@@ -159,7 +189,7 @@ module _ (understood : IsUnderstood) (taken : AreTaken) (apart : AreApart) (give
         says = has.says;
       }
 
-  sender_in : (station : ℕ) (end : EndSetup) (has : HasConnectInd before station end) → is_in has.sent.sender given.stations ≡ true
+  pub sender_in : (station : ℕ) (end : EndSetup) (has : HasConnectInd before station end) → is_in has.sent.sender given.stations ≡ true
   unfolding connect_sent
   sender_in station end has =
       let sent = connect_sent station end has in
@@ -188,7 +218,7 @@ module _ (understood : IsUnderstood) (taken : AreTaken) (apart : AreApart) (give
         (λ less. absurd (sent_distinct understood apart given has.before too.before has.sent.sender has.sent.fields too.sent.fields distinct six sent sent_too less one_address))
         (λ less. absurd (sent_distinct understood apart given too.before has.before has.sent.sender too.sent.fields has.sent.fields distinct six sent_too sent less (sym one_address)))
 
-    one_before : has.before ≡ too.before
+    pub one_before : has.before ≡ too.before
     one_before = same_front has.before too.before _ _ has.after too.after (sym has.is_at ∙ too.is_at) as_long
 
     one_link : HaveOneConnectInd end far
@@ -261,7 +291,7 @@ module _ (understood : IsUnderstood) (taken : AreTaken) (apart : AreApart) (give
       record { fields = sym one.fields; opened = sym one.opened }
 
   of_far_end : IsOfFarEnd
-  of_far_end = by sent.sent
+  of_far_end = by (sent.sent (good_unforged facts takes.handle link octets takes.listens takes.is_open takes.is_good))
     where
       by : IsOnAir call.phases (facts_at given sent.sender before) sent.channel octets → IsOfFarEnd
       by (inl air) =

@@ -1,6 +1,6 @@
 -- What an end sends whose host asks only for values in range: a PDU that counts as empty is the empty one, and no
 -- payload is too long, so each open end understands each packet.
-use Rattle.std.proofs.Common.{◌≡◌, ℕ, ◌≤◌, ◌<◌, ◌==◌, ◌&&◌, ◌||◌, Bool, true, false, Option, Some, None, List, [], ◌∷◌, IfSome, length, refl, sym, subst, ◌∙◌, arith, ap}
+use Rattle.std.proofs.Common.{◌≡◌, ℕ, ◌≤◌, ◌<◌, ◌==◌, ◌&&◌, ◌||◌, Bool, true, false, Option, Some, None, List, [], ◌∷◌, IfSome, length, refl, sym, subst, ◌∙◌, arith}
 use Rattle.std.specs.Prelude.{fold, if◌then◌else◌}
 use Rattle.std.specs.List.{find}
 use Rattle.std.specs.Option.{option_map}
@@ -21,7 +21,7 @@ use Rattle.run_model.specs.link_model.phased_end.Lengths.{HasLengths}
 use Rattle.run_model.specs.procedure_values.declared.asks.Ask.{Ask}
 use Rattle.run_model.specs.procedure_values.Limits.{tx_of}
 use Rattle.run_model.specs.link_model.Acknowledgement.{Acknowledgement, Pdu, empty_pdu, is_acked}
-use Rattle.run_model.specs.link_model.ControlSteps.{AreAsksInRange, IsAskInRange}
+use Rattle.run_model.specs.link_model.AskRanges.{AreAsksInRange, IsAskInRange}
 use Rattle.run_model.specs.link_model.Controls.{goes_on, is_procedure_pdu, next_control, pdu_fixed, pdu_of_control}
 use Rattle.run_model.specs.link_model.Data.{Data, data_acked_if, data_given, is_control, is_data, is_empty, is_unsent, llid_of, pdu_with}
 use Rattle.run_model.specs.link_model.End.{facts_after, facts_of}
@@ -35,16 +35,17 @@ use Rattle.run_model.specs.link_model.Sending.{control_gone_if, data_sent_as, fa
 use Rattle.run_model.specs.link_model.Setup.{Setup}
 use Rattle.run_model.specs.link_model.Step.{Step, DataGiven, EventEntered, PacketReceived, PacketSent, PduFixed, ProcedureAsked}
 use Rattle.run_model.specs.link_model.Verdicts.{pdu_of}
-use Rattle.run_model.specs.link_model.Hearing.{IsUnderstood}
-use Rattle.run_model.specs.link_model.Packets.{pdu_sent}
-use Rattle.run_model.specs.link_model.Payload.{payload_made}
+use Rattle.run_model.specs.link_model.Hearing.{IsOpened, IsUnderstood}
+use Rattle.run_model.specs.link_model.Packets.{FitsReceiver, payload_sent, pdu_sent}
+use Rattle.run_model.specs.link_model.Payload.{CanOpen, payload_made}
+use Rattle.run_model.specs.link_model.enc_phase.Sealing.{EncEnd}
 use Rattle.run_model.proofs.link_model.KnownEnds.{IsPast, first_past, step_past}
 use Rattle.run_model.proofs.link_model.Llids.{past_llid}
-use Rattle.run_model.proofs.link_model.Plain.{opened_plain, past_payload, past_plain}
 use Rattle.run_model.proofs.link_model.Moves.{EachMoveKeeps, past_keeps}
 use Rattle.run_model.specs.open_links.OpenLinks.{OpenLink, facts_in}
 use Rattle.run_laws.specs.Ranges.{HasRanges, IsReadable}
 use Rattle.run_laws.proofs.EndLengths.{sized_step}
+use Rattle.run_laws.proofs.Payloads.{payload_is, payload_short}
 
 -- ---- the most octets of a piece
 
@@ -377,19 +378,29 @@ sent_short link ranges =
 
 -- so each packet is in form
 pub sent_readable : (link : OpenLink) → HasRanges link → IsReadable (facts_in link)
-sent_readable link ranges =
-    let payload = past_payload link.setup link.past in
-    let fits = sent_short link ranges in
-    record {
-      llid = (past_llid link.setup link.past).1;
-      short = omega (arith, fits, ap length payload);
-      opened = payload;
-    }
+sent_readable link ranges = record {
+  llid = (past_llid link.setup link.past).1;
+  short = sent_short link ranges;
+  payload = payload_is link.setup link.past;
+}
 
--- and each open end understands it
-pub ranged_understand : (from to : OpenLink) → HasRanges from → HasRanges to → from.setup.link.fields ≡ to.setup.link.fields
-    → (facts_in from).event.channel ≡ (facts_in to).event.channel → IsUnderstood from.setup (facts_in from) to.setup (facts_in to)
-ranged_understand from to ranges ranges_too fields channel =
+-- what is made of a packet that was sealed as this end
+abbrev pub IsOpenedThere : Type 0
+IsOpenedThere =
+    (made : EncEnd) (sender listener : Facts) → (pdu_sent sender).llid < 4 → payload_sent sender ≡ payload_made made (pdu_sent sender)
+    → CanOpen made listener.encryption.end → IsOpened sender listener
+
+abbrev pub FitsThere : Type 0
+FitsThere =
+    (made : EncEnd) (sender listener : Facts) (to : Setup) → payload_sent sender ≡ payload_made made (pdu_sent sender)
+    → CanOpen made listener.encryption.end → length (pdu_sent sender).body ≤ to.link.max_rx → FitsReceiver sender to listener
+
+-- and an open end that can open what the far end made understands it
+pub ranged_understand : IsOpenedThere → FitsThere → (from to : OpenLink) (made : EncEnd) → HasRanges from → HasRanges to
+    → from.setup.link.fields ≡ to.setup.link.fields → (facts_in from).event.channel ≡ (facts_in to).event.channel
+    → payload_sent (facts_in from) ≡ payload_made made (pdu_sent (facts_in from)) → CanOpen made (facts_in to).encryption.end
+    → IsUnderstood from.setup (facts_in from) to.setup (facts_in to)
+ranged_understand opened fits from to made ranges ranges_too fields channel is can =
     let sent = sent_readable from ranges in
     let short = sent.short in
     let most = ranges_too.max_rx in
@@ -397,7 +408,7 @@ ranged_understand from to ranges ranges_too fields channel =
       fields = fields;
       channel = channel;
       llid = sent.llid;
-      octets = omega (arith, short);
-      fits = omega (arith, short, most);
-      opens = opened_plain to.setup.link.role (facts_in from) (facts_in to) (past_plain to.setup to.past) sent.opened;
+      octets = payload_short (facts_in from) sent;
+      fits = fits made (facts_in from) (facts_in to) to.setup is can (omega (arith, short, most));
+      opens = opened made (facts_in from) (facts_in to) sent.llid is can;
     }

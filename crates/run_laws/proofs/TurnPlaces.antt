@@ -96,6 +96,17 @@ module _ (setup : Setup) (Q : Stage → ℕ → Facts → Type 0) (kept : IsTurn
   turned past at first is =
       subst (IsAt Q (fold (facts_after setup) (first_facts setup) past)) is (steps_at past (Some (at_stage Between 0)) (first_facts setup) first)
 
+  -- and from one place on to a later one
+  pub turned_on : (past more : List Step) (at later : Standing) → standing past ≡ Some at → standing (past ++ more) ≡ Some later
+      → Q at.stage at.begun (facts_of setup past) → Q later.stage later.begun (facts_of setup (past ++ more))
+  unfolding facts_of
+  turned_on past more at later is is_later holds =
+      let facts = fold (facts_after setup) (first_facts setup) past in
+      subst (λ after. Q later.stage later.begun after) (sym (fold-append (facts_after setup) (first_facts setup) past more))
+      (subst (IsAt Q (fold (facts_after setup) facts more))
+      (ap (λ may. fold stands_after may more) (sym is) ∙ sym (fold-append stands_after (Some (at_stage Between 0)) past more) ∙ is_later)
+      (steps_at more (Some at) facts holds))
+
 -- ---- one more call
 
 more_stands : (past : List Step) (step : Step) (at : Standing) → standing past ≡ Some at → standing (past ++ step ∷ []) ≡ stage_after at.stage at.begun step

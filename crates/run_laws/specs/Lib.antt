@@ -2,6 +2,7 @@
 pub mod Ends
 pub mod Access
 pub mod Ranges
+pub mod Shapes
 pub mod Rows
 -- what the crates above use of those below
 pub use Rattle.run_model.specs.control_end as control_end

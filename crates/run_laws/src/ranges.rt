@@ -1,11 +1,14 @@
 //! The ranges of what happens to the open ends of a run, and what follows for the PDUs that they
-//! send. The bodies are empty: the contracts are the laws.
+//! send. The bodies only call the laws that they rest on: the contracts are the laws.
 ghost use Rattle.std.specs.Prelude.{◌≡◌, ◌++◌, ℕ, true, List, Some};
 ghost use Rattle.std.specs.List.{Contains};
 ghost use Rattle.run_model.specs.link_model.Acknowledgement.{empty_pdu};
 ghost use Rattle.run_model.specs.link_model.Controls.{pdu_fixed};
 ghost use Rattle.run_model.specs.link_model.Data.{is_empty};
 ghost use Rattle.run_model.specs.link_model.Hearing.{IsUnderstood};
+ghost use Rattle.run_model.specs.link_model.Packets.{payload_sent, pdu_sent};
+ghost use Rattle.run_model.specs.link_model.Payload.{CanOpen, payload_made};
+ghost use Rattle.run_model.specs.link_model.enc_phase.Sealing.{EncEnd};
 ghost use Rattle.run_model.specs.open_links.OpenLinks.{OpenLink, facts_in, link_at};
 ghost use Rattle.run_model.specs.Feeding.{AreDistinct};
 ghost use Rattle.run_model.specs.History.{Event};
@@ -29,13 +32,19 @@ pub fn what_is_sent_is_empty_or_has_octets()
         → pdu_fixed (facts_in link) ≡ empty_pdu }
 {}
 
-/// An open end understands each packet of the far end on its channel: no end sends a payload of
-/// more than 251 octets, and each receives one of 251 (Core 5.2, volume 6 part B, sections 2.4 and
-/// 4.5.10).
+/// The packet that an end sends is in form in all phases of encryption: its PDU has at most 251
+/// octets, and its payload on the air is the body of the PDU or has four octets more. An open end
+/// understands each packet of the far end on its channel, if it can open what the far end made:
+/// both are clear in that direction, or both have one session and one counter (Core 5.2, volume 6
+/// part B, sections 2.4, 4.5.10 and 5.1.3).
 pub fn packets_are_understood_on_their_channel()
     ensures readable { (link : OpenLink) → HasRanges link → IsReadable (facts_in link) }
-    ensures understood { (from to : OpenLink) → HasRanges from → HasRanges to
+    ensures understood { (from to : OpenLink) (made : EncEnd) → HasRanges from → HasRanges to
         → from.setup.link.fields ≡ to.setup.link.fields
         → (facts_in from).event.channel ≡ (facts_in to).event.channel
+        → payload_sent (facts_in from) ≡ payload_made made (pdu_sent (facts_in from))
+        → CanOpen made (facts_in to).encryption.end
         → IsUnderstood from.setup (facts_in from) to.setup (facts_in to) }
-{}
+{
+    link_model::a_sealed_packet_is_opened();
+}

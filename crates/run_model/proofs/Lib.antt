@@ -25,7 +25,7 @@ pub mod Doings
 pub mod OpenedNotes
 pub mod LinksKnown
 pub mod Linked
-pub mod Handed
+pub mod Handing
 pub mod LinkEnds
 pub mod OpenedLinks
 pub mod Numbers

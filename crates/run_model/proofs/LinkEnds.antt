@@ -1,8 +1,8 @@
 -- Each end of an open link comes from a CONNECT_IND on the air.
-use Rattle.std.proofs.Common.{◌≡◌, ◌≢◌, ℕ, zero, suc, ◌+◌, ◌==◌, ◌&&◌, ◌||◌, Bool, true, false, not, List, [], ◌∷◌, ◌++◌, length, refl, sym, ap, subst, ◌∙◌, append-nil, append_assoc, arith}
+use Rattle.std.proofs.Common.{◌≡◌, ◌≢◌, ℕ, zero, suc, ◌+◌, ◌==◌, ◌&&◌, ◌||◌, Bool, true, false, List, [], ◌∷◌, ◌++◌, length, refl, sym, ap, subst, ◌∙◌, append-nil, append_assoc, arith}
 use Rattle.std.specs.Prelude.{map, take, Option, Some, None, if◌then◌else◌}
 use Rattle.std.specs.List.{AllByRecursion}
-use Rattle.std.proofs.lemmas.Bool.{and_parts, eqb-true, eqb-false, le-leb, lt-ltb}
+use Rattle.std.proofs.lemmas.Bool.{eqb-true, eqb-false, le-leb, lt-ltb}
 use Rattle.ble_base.specs.declared.addresses.Address.{Address}
 use Rattle.ble_base.specs.declared.notes.Note.{Note}
 use Rattle.adv_pdu.specs.declared.pdu.AdvPdu.{AdvPdu}
@@ -21,22 +21,22 @@ use Rattle.radio_replay.specs.Script.{Script}
 use Rattle.controller_model.specs.declared.doing.Doing.{Doing}
 use Rattle.controller_model.specs.declared.doing.Doing.TheVariants.{AwaitsRequest, Connects}
 use Rattle.controller_model.specs.Step.{Step, TurnBegins, PacketHeard, TurnEnds}
-use Rattle.controller_model.specs.Facts.{Facts, Use, Sends, Listens, Idle}
+use Rattle.controller_model.specs.Facts.{Facts, Use, Sends, Listens}
 use Rattle.controller_model.specs.Heard.{link_taken}
-use Rattle.controller_model.specs.Packets.{advertising_packet, channel_listened, pdu_heard, use_of}
+use Rattle.controller_model.specs.Packets.{advertising_packet, channel_listened, pdu_heard, use_of, verdict_of}
 use Rattle.controller_model.specs.Side.{facts_of, notes_after}
 use Rattle.controller_model.proofs.Always.{IsAdvertisingChannel}
 use Rattle.controller_model.proofs.Pasts.{facts_more}
 use Rattle.controller_model.proofs.Sent.{DoingFits, can_be_done}
-use Rattle.run_model.specs.History.{Event, TurnBegan, Called, Noted, Transmitted, Hearing as Heard, fates_used, has_received, is_good, noted_by, notes_in, packet_received, past_of, received_after, steps_in, turns_begun}
+use Rattle.run_model.specs.History.{Event, TurnBegan, Called, Noted, Transmitted, Hearing as Heard, fates_used, handed_or, has_received, is_good, noted_by, notes_in, packet_received, past_of, received_after, steps_in, turns_begun}
 use Rattle.run_model.specs.Links.{Links, begins_link, is_advertising, is_connect_ind, links_of, with_link}
-use Rattle.run_model.specs.Run.{Given, setup_at, facts_at, use_at, octets_left, after_call, fate_at, hearing_at, hearings_from, hearings_of, others_than, reaches, is_lost, step_of, unseen_in, verdict_where, run_of, history_of}
+use Rattle.run_model.specs.Run.{Given, setup_at, facts_at, use_at, octets_left, after_call, fate_at, hearing_at, hearings_from, hearings_of, others_than, reaches, step_of, unseen_in, verdict_where, run_of, history_of}
 use Rattle.run_model.specs.Pair.{given_of}
 use Rattle.run_model.specs.Due.{packet_in}
 use Rattle.run_model.specs.Feeding.{AreDistinct}
 use Rattle.run_model.specs.LinkEnds.{ConnectInd, HasConnectInd, HaveAddresses, IsAtEnd}
 use Rattle.run_model.proofs.Calls.{with_notes, flat_nothing, fold_called, fold_event, noted_called, past_other, past_own, same_station, turns_called, turns_same}
-use Rattle.run_model.proofs.Handed.{handed_received, handed_sender}
+use Rattle.run_model.proofs.Handing.{IsHanded, IsUnforged, WasForged, WasNot, WasReceived, handed_good, handed_sender, handing, listens_where, request_unforged}
 use Rattle.run_model.proofs.Linked.{AreLinked, AreLinkedSoFar, LinkedBefore, call_linked, event_linked, feed_linked, opens_none}
 use Rattle.run_model.proofs.LinksKnown.{last_by_call, links_event}
 use Rattle.run_model.proofs.Places.{each_at}
@@ -74,7 +74,8 @@ record WasAired (history : List Event) (station channel : ℕ) (octets : List �
 abbrev HasAired : Given → List Event → ℕ → Type 0
 HasAired given history station = (channel : ℕ) (octets : List ℕ) → use_at given station history ≡ Sends channel octets → WasAired history station channel octets
 
--- a packet of another station was on the air in the turn that is under way, on the channel on which this one listens
+-- a packet of another station was on the air in the turn that is under way, on the channel on which this one listens. One
+-- that is forged to it may be damaged
 record WasHeard (given : Given) (history : List Event) (station : ℕ) (octets : List ℕ) : Type 0 where
   sender : ℕ
   channel : ℕ
@@ -90,7 +91,14 @@ record WasHeard (given : Given) (history : List Event) (station : ℕ) (octets :
   unnoted : noted_by station history ≡ noted_by station before
 
 abbrev HasHeard : Given → List Event → ℕ → Type 0
-HasHeard given history station = (octets : List ℕ) → packet_received station history ≡ Some octets → WasHeard given history station octets
+HasHeard given history station =
+    (octets : List ℕ) → packet_received station history ≡ Some octets → IsUnforged (facts_at given station history) octets → WasHeard given history station octets
+
+-- what is not forged to a station is not as long as it takes no step
+unforged_same : (given : Given) (station : ℕ) (history after : List Event) (octets : List ℕ) → past_of station after ≡ past_of station history
+    → IsUnforged (facts_at given station after) octets → IsUnforged (facts_at given station history) octets
+unforged_same given station history after octets same unforged = λ forged.
+    unforged (ap (λ past. verdict_of (facts_of (setup_at given station) past) octets) same ∙ forged)
 
 -- an event, or a call on another controller, leaves that as it is
 record IsSame (station : ℕ) (history more : List Event) : Type 0 where
@@ -120,8 +128,8 @@ aired_same given station history more same last has = λ channel octets wants.
 heard_same : (given : Given) (station : ℕ) (history more : List Event) → IsSame station history more
     → packet_received station (history ++ more) ≡ packet_received station history → last_at (history ++ more) station ≡ last_at history station
     → HasHeard given history station → HasHeard given (history ++ more) station
-heard_same given station history more same received last has = λ octets is.
-    let heard = has octets (sym received ∙ is) in record {
+heard_same given station history more same received last has = λ octets is unforged.
+    let heard = has octets (sym received ∙ is) (unforged_same given station history (history ++ more) octets same.past unforged) in record {
       sender = heard.sender;
       channel = heard.channel;
       before = heard.before;
@@ -138,7 +146,7 @@ heard_same given station history more same received last has = λ octets is.
     }
 
 heard_none : (given : Given) (station : ℕ) (history : List Event) → packet_received station history ≡ None → HasHeard given history station
-heard_none given station history none = λ octets is. absurd (let h : None ≡ Some octets = sym none ∙ is in absurd cc)
+heard_none given station history none = λ octets is unforged. absurd (let h : None ≡ Some octets = sym none ∙ is in absurd cc)
 
 last_called : (given : Given) (station : ℕ) (step : Step) (history : List Event) (other : ℕ) → last_at (after_call given station step history) other ≡ last_at history other
 last_called given station step history other = last_by_call station step (notes_after (setup_at given station) (facts_at given station history) step) history other
@@ -156,14 +164,27 @@ pub received_event : (other : ℕ) (history : List Event) (event : Event) → pa
 unfolding packet_received
 received_event other history event = fold_event (received_after other) None history event
 
--- after a packet, as long as no link encrypts: who received it is handed what was sent
-pub received_packet : (given : Given) (fates : List Fate) (other station channel : ℕ) (octets : List ℕ) (history : List Event)
+-- what is handed on of a packet
+pub packet_handed : (given : Given) (fates : List Fate) (station channel : ℕ) (octets : List ℕ) (history : List Event) (other : ℕ)
     → unseen_in octets (hearings_of given fates station channel octets history) ≡ None
-    → packet_received other (history ++ Transmitted station channel octets (hearings_of given fates station channel octets history) ∷ [])
-    ≡ (if has_received other (hearings_of given fates station channel octets history) then Some octets else packet_received other history)
-received_packet given fates other station channel octets history seen =
+    → IsHanded (has_received other (hearings_of given fates station channel octets history)) octets (packet_received other history)
+    (packet_received other (history ++ Transmitted station channel octets (hearings_of given fates station channel octets history) ∷ []))
+    (facts_at given other history) (use_at given other history) channel (other == station)
+packet_handed given fates station channel octets history other seen =
+    let hearings = hearings_of given fates station channel octets history in
+    subst (λ handed. IsHanded (has_received other hearings) octets (packet_received other history) handed (facts_at given other history) (use_at given other history) channel
+    (other == station))
+    (sym (received_event other history (Transmitted station channel octets hearings)))
+    (handing given fates station channel octets history other (packet_received other history) seen)
+
+-- a station that receives it is handed what was sent, where no station has two places in the order
+pub received_good : (given : Given) (fates : List Fate) (station channel : ℕ) (octets : List ℕ) (history : List Event) (other : ℕ) → AreDistinct given.stations
+    → unseen_in octets (hearings_of given fates station channel octets history) ≡ None
+    → has_received other (hearings_of given fates station channel octets history) ≡ true
+    → packet_received other (history ++ Transmitted station channel octets (hearings_of given fates station channel octets history) ∷ []) ≡ Some octets
+received_good given fates station channel octets history other distinct seen received =
     received_event other history (Transmitted station channel octets (hearings_of given fates station channel octets history))
-    ∙ handed_received given fates station channel octets history (packet_received other history) other seen
+    ∙ handed_good given fates station channel octets history (packet_received other history) other distinct seen received
 
 -- its sender is handed nothing
 pub received_own : (given : Given) (fates : List Fate) (station channel : ℕ) (octets : List ℕ) (history : List Event)
@@ -185,11 +206,6 @@ received_by given other station step history same is =
     ∙ ap (λ b. if b then None else packet_received other history) is
 
 -- ---- who hears a packet
-
-listens_where : (fate : Fate) (channel : ℕ) (wanted : Use) → reaches fate channel (channel_listened wanted) ≡ true → wanted ≡ Listens channel
-listens_where fate channel (Sends other octets) is = absurd cc
-listens_where fate channel (Listens listened) is = ap Listens (eqb-true listened channel (and_parts (not (is_lost fate)) (listened == channel) is).1)
-listens_where fate channel Idle is = absurd cc
 
 reached_where : (reached : Bool) (facts : Facts) (octets : List ℕ) → is_good (verdict_where reached facts octets) ≡ true → reached ≡ true
 reached_where true facts octets is = refl
@@ -339,7 +355,7 @@ taken_by taken given six station channel octets on pdu fields handle history hea
     let past = past_of station history in
     let fits = subst DoingFits doing (can_be_done setup past (six station)) in
     let wants = subst (λ (does : Doing). IsWanted does (facts_at given station history).wanted) doing (always_wanted setup past) in
-    let sent = heard octets (heard_step (packet_received station history) octets is) in
+    let sent = heard octets (heard_step (packet_received station history) octets is) (request_unforged (facts_at given station history) channel octets doing) in
     let on_it : channel ≡ sent.channel = same_channel channel sent.channel (sym wants ∙ wanted_is given station history ∙ sent.listens) in
     let request = is_request taken on.params (facts_at given station history).view.accepted pdu fields takes in
     let on_air = subst (λ one. is_advertising one ≡ true) on_it (of_advertising channel fits) in
@@ -499,42 +515,61 @@ heard_more : (given : Given) (station channel : ℕ) (octets : List ℕ) (hearin
     → (other : ℕ) → HasHeard given history other → has_received other hearings ≡ false
     → packet_received other (history ++ Transmitted station channel octets hearings ∷ []) ≡ packet_received other history → (same : Bool) → (other == station) ≡ same
     → HasHeard given (history ++ Transmitted station channel octets hearings ∷ []) other
-heard_more given station channel octets hearings history wanted other heard none still true is = λ sent same.
-    let told = sym still ∙ same in
-    sends_or_listens (use_at given other history) channel (heard sent told).channel octets _
-    (ap (λ n. use_at given n history) (eqb-true other station is) ∙ wanted) (heard sent told).listens
+heard_more given station channel octets hearings history wanted other heard none still true is = λ sent same unforged.
+    let event = Transmitted station channel octets hearings in
+    let told = heard sent (sym still ∙ same)
+    (unforged_same given other history (history ++ event ∷ []) sent (packet_same other station channel octets hearings history).past unforged) in
+    sends_or_listens (use_at given other history) channel told.channel octets _
+    (ap (λ n. use_at given n history) (eqb-true other station is) ∙ wanted) told.listens
 heard_more given station channel octets hearings history wanted other heard none still false is =
     heard_same given other history (Transmitted station channel octets hearings ∷ []) (packet_same other station channel octets hearings history) still
     (last_other station channel octets hearings history other is none) heard
 
 hears_by : (given : Given) (fates : List Fate) (station channel : ℕ) (octets : List ℕ) (history : List Event) → use_at given station history ≡ Sends channel octets
-    → unseen_in octets (hearings_of given fates station channel octets history) ≡ None → (other : ℕ) → HasHeard given history other → (received : Bool) → has_received other (hearings_of given fates station channel octets history) ≡ received
+    → unseen_in octets (hearings_of given fates station channel octets history) ≡ None → (other : ℕ) → HasHeard given history other
     → HasHeard given (history ++ Transmitted station channel octets (hearings_of given fates station channel octets history) ∷ []) other
-hears_by given fates station channel octets history wanted seen other heard true is = λ sent same.
-    let hearings = hearings_of given fates station channel octets history in
-    let event = Transmitted station channel octets hearings in
-    let listener = is_listener given fates channel octets history station other is in
-    let told : Some octets ≡ Some sent =
-    sym (received_packet given fates other station channel octets history seen ∙ ap (λ b. if b then Some octets else packet_received other history) is) ∙ same in
-    let equal : octets ≡ sent = cc in
-    let unlike : (other ≡ station) → ⊥ = eqb-false other station listener.differs in record {
-      sender = station;
-      channel = channel;
-      before = history;
-      hearings = hearings;
-      after = [];
-      is_at = ap (λ xs. history ++ Transmitted station channel xs hearings ∷ []) equal;
-      in_turn = sym (turns_same history event refl);
-      differs = λ one. unlike (sym one);
-      received = is;
-      listens = use_same given other history (history ++ event ∷ []) (packet_same other station channel octets hearings history).past ∙ listener.listens;
-      number = λ begins. last_begun station channel octets hearings history other (ap (begins_link channel) equal ∙ begins) false true listener.differs is refl;
-      unnoted = (packet_same other station channel octets hearings history).noted;
-    }
-hears_by given fates station channel octets history wanted seen other heard false is =
-    heard_more given station channel octets (hearings_of given fates station channel octets history) history wanted other heard is
-    (received_packet given fates other station channel octets history seen ∙ ap (λ b. if b then Some octets else packet_received other history) is)
-    (other == station) refl
+hears_by given fates station channel octets history wanted seen other heard =
+    by (handing given fates station channel octets history other (packet_received other history) seen)
+  where
+    hearings : List Heard
+    hearings = hearings_of given fates station channel octets history
+
+    event : Event
+    event = Transmitted station channel octets hearings
+
+    handed : Option (List ℕ)
+    handed = handed_or (packet_received other history) other octets hearings
+
+    past : past_of other (history ++ event ∷ []) ≡ past_of other history
+    past = (packet_same other station channel octets hearings history).past
+
+    by : IsHanded (has_received other hearings) octets (packet_received other history) handed (facts_at given other history) (use_at given other history) channel (other == station)
+        → HasHeard given (history ++ event ∷ []) other
+    by (WasReceived is as_sent) = λ sent same unforged.
+        let listener = is_listener given fates channel octets history station other is in
+        let told : Some octets ≡ Some sent = sym (received_event other history event ∙ as_sent) ∙ same in
+        let equal : octets ≡ sent = cc in
+        let unlike : (other ≡ station) → ⊥ = eqb-false other station listener.differs in record {
+          sender = station;
+          channel = channel;
+          before = history;
+          hearings = hearings;
+          after = [];
+          is_at = ap (λ xs. history ++ Transmitted station channel xs hearings ∷ []) equal;
+          in_turn = sym (turns_same history event refl);
+          differs = λ one. unlike (sym one);
+          received = is;
+          listens = use_same given other history (history ++ event ∷ []) past ∙ listener.listens;
+          number = λ begins. last_begun station channel octets hearings history other (ap (begins_link channel) equal ∙ begins) false true listener.differs is refl;
+          unnoted = (packet_same other station channel octets hearings history).noted;
+        }
+    by (WasForged left as_left forged listens differs) = λ sent same unforged.
+        let told : Some left ≡ Some sent = sym (received_event other history event ∙ as_left) ∙ same in
+        let equal : left ≡ sent = cc in
+        absurd (unforged_same given other history (history ++ event ∷ []) sent past unforged
+        (ap (verdict_of (facts_at given other history)) (sym equal) ∙ forged))
+    by (WasNot is as_before) =
+        heard_more given station channel octets hearings history wanted other heard is (received_event other history event ∙ as_before) (other == station) refl
 
 -- the station that transmits
 airs : (given : Given) (station channel : ℕ) (octets : List ℕ) (hearings : List Heard) (history : List Event) → use_at given station history ≡ Sends channel octets
@@ -697,7 +732,7 @@ linked_kept understood taken given six distinct = record {
         so_far = event_linked given history event (λ other. refl) linked.so_far;
         at = λ other is. let has = linked.at other is in (
           slot_same given other history (event ∷ []) (packet_same other station channel octets hearings history) has.0,
-          hears_by given plan.fates station channel octets history due.is_wanted due.is_seen other has.1 (has_received other hearings) refl,
+          hears_by given plan.fates station channel octets history due.is_wanted due.is_seen other has.1,
           packet_by given plan.fates done station channel octets history due.is_wanted other has.2 (other == station) refl,
         );
       };

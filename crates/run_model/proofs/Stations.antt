@@ -64,6 +64,24 @@ pub others_differ : (station : ℕ) (stations : List ℕ) → AllByRecursion (λ
 others_differ station [] = tt
 others_differ station (first ∷ stations) = others_by station first (others_than station stations) (first == station) refl (others_differ station stations)
 
+others_all : (P : ℕ → Type 0) (station : ℕ) (stations : List ℕ) → AllByRecursion P stations → AllByRecursion P (others_than station stations)
+others_all P station [] all = tt
+others_all P station (first ∷ stations) all = by (first == station) (others_all P station stations all.1)
+  where
+    by : (same : Bool) → AllByRecursion P (others_than station stations) → AllByRecursion P (cond (not same) (first ∷ others_than station stations) (others_than station stations))
+    by true rest = rest
+    by false rest = (all.0, rest)
+
+-- and none of them has two places
+pub others_distinct : (station : ℕ) (stations : List ℕ) → AreDistinct stations → AreDistinct (others_than station stations)
+unfolding IsDistinct
+others_distinct station [] distinct = distinct
+others_distinct station (first ∷ stations) distinct = by (first == station) (others_distinct station stations distinct.1)
+  where
+    by : (same : Bool) → AreDistinct (others_than station stations) → AreDistinct (cond (not same) (first ∷ others_than station stations) (others_than station stations))
+    by true rest = rest
+    by false rest = (others_all (λ other. (first == other) ≡ false) station stations distinct.0, rest)
+
 -- ---- each of some stations
 
 pub all_in : (P : ℕ → Type 0) (stations : List ℕ) → ((station : ℕ) → is_in station stations ≡ true → P station) → AllByRecursion P stations

@@ -1,6 +1,6 @@
 -- What a controller answers at once in place of a host, since the mask withholds the event: a request for parameters, or
 -- one for a key (Core 5.2, volume 6 part B, sections 5.1.3.1 and 5.1.7).
-use Rattle.std.proofs.Common.{◌≡◌, ℕ, Bool, true, false, Option, Some, None, is_none, List, arith, if◌then◌else◌}
+use Rattle.std.proofs.Common.{Bool, true, false, Option, Some, None, is_none, List, ℕ, arith, if◌then◌else◌}
 use Rattle.data_pdu.specs.declared.ctrl.Ctrl.{Ctrl}
 use Rattle.link_runs.specs.control_model.Control.{Control, Owes, after}
 use Rattle.link_calls.specs.link_model.Facts.{Facts as EndFacts, keyed_of}
@@ -9,19 +9,9 @@ use Rattle.link_calls.specs.link_model.enc_phase.declared.facts.Transition.TheVa
 use Rattle.link_calls.specs.link_model.enc_phase.Phases.{may_follow}
 use Rattle.link_calls.specs.link_model.phased_control.Phased.{Phased, key_given, key_lacking, refused_if as refused_by}
 use Rattle.link_calls.specs.link_model.keyed_control.KeyedSteps.{GivesKey, LacksKey, keyed_after, keyed_moved}
-use Rattle.link_calls.specs.link_model.Step.{Step as EndStep, RequestAnswered}
-use Rattle.link_calls.specs.open_links.OpenLinks.{OpenLink}
-use Rattle.link_calls.specs.controller_model.Facts.{Facts}
-use Rattle.link_calls.specs.Phases.{refusal, refusal_at}
+use Rattle.link_calls.specs.link_model.Step.{RequestAnswered}
+use Rattle.link_calls.specs.Phases.{refusal}
 use Rattle.link_runs.specs.link_pairs.Hosts.{MayHost}
-
--- a request for parameters is refused
-abbrev pub is_request_refused : Option EndStep → Bool
-is_request_refused (Some (RequestAnswered answer)) = true
-is_request_refused step = false
-
-abbrev pub refuses_at : ℕ → Bool → List ℕ → Facts → OpenLink → Bool
-refuses_at handle room octets facts base = is_request_refused (refusal_at handle room octets facts base)
 
 pub may_refuse : (facts : EndFacts) → MayHost (RequestAnswered refusal) facts
 may_refuse facts = omega arith

@@ -8,22 +8,21 @@ use Rattle.ble_base.specs.declared.roles.Role.TheVariants.{Central, Peripheral}
 use Rattle.ble_base.specs.declared.verdicts.Verdict.TheVariants.{Good}
 use Rattle.link_calls.specs.link_model.End.{facts_after as end_after, facts_of as end_facts}
 use Rattle.link_calls.specs.link_model.Facts.{Facts as EndFacts, first_facts as first_end}
-use Rattle.link_calls.specs.link_model.Packets.{packet_sent, verdict_of}
+use Rattle.link_calls.specs.link_model.Packets.{verdict_of}
 use Rattle.link_calls.specs.link_model.Receiving.{replies_of}
 use Rattle.link_calls.specs.link_model.Setup.{Setup as EndSetup}
-use Rattle.link_calls.specs.link_model.Step.{DataReported, PacketSent}
+use Rattle.link_calls.specs.link_model.Step.{DataReported}
 use Rattle.link_calls.specs.link_model.Times.{due_of, ending_of}
 use Rattle.link_calls.proofs.link_model.Hearing.{IsHeardWhole}
 use Rattle.link_calls.specs.open_links.Data.{complete_in}
 use Rattle.link_calls.specs.open_links.OpenLinks.{OpenLink, facts_in, link_after, link_at}
 use Rattle.link_calls.specs.controller_model.declared.doing.Doing.{Doing}
-use Rattle.link_calls.specs.controller_model.declared.doing.Doing.TheVariants.{Advertises, CentralListens, PeripheralListens}
 use Rattle.link_calls.specs.controller_model.Facts.{Setup, Facts, first_facts}
 use Rattle.link_calls.specs.controller_model.Heard.{has_room}
 use Rattle.link_calls.specs.controller_model.Side.{facts_after, facts_of}
 use Rattle.link_calls.specs.controller_model.Step.{Step, HostOctet, TurnBegins, PacketHeard, NothingHeard, TurnEnds}
 use Rattle.link_calls.proofs.controller_model.Pasts.{facts_more}
-use Rattle.link_calls.specs.Phases.{HasPassed, IsNew, Stays, Takes, link_receiving, link_worded}
+use Rattle.link_calls.specs.Phases.{HasPassed, IsNew, Stays, Takes, link_receiving, link_worded, refusal_at}
 use Rattle.link_calls.specs.run_model.Feeding.{AreDistinct}
 use Rattle.link_calls.specs.run_model.History.{Event, Called, TurnBegan, HostFed, Noted, Transmitted, past_of, steps_in}
 use Rattle.link_calls.specs.run_model.Run.{Given, facts_at, history_of, run_of, setup_at, step_of}
@@ -31,8 +30,9 @@ use Rattle.link_calls.proofs.run_model.Calls.{past_other, past_own, same_station
 use Rattle.link_calls.proofs.run_model.LinkEnds.{AreTaken}
 use Rattle.link_calls.proofs.run_model.Stations.{is_in}
 use Rattle.link_runs.specs.link_pairs.Ends.{AreEnds}
-use Rattle.link_runs.specs.link_pairs.Hearing.{received as received_facts}
+use Rattle.link_runs.specs.link_pairs.Hearing.{is_mixed_packet, received as received_facts}
 use Rattle.link_runs.specs.link_pairs.Turns.{sent_if as sends_if}
+use Rattle.link_runs.proofs.link_pairs.Understanding.{IsOpenedThere}
 use Rattle.link_runs.specs.Open.{AreOpenEnds}
 use Rattle.link_runs.specs.Runs.{MayHostAll}
 use Rattle.link_runs.proofs.GoingOn.{lasting_goes}
@@ -41,18 +41,18 @@ use Rattle.link_calls.specs.run_laws.Ends.{HaveOneConnectInd, OpenEnd, ReceivesG
 use Rattle.link_calls.proofs.run_laws.Agreed.{step_facts}
 use Rattle.link_calls.proofs.run_laws.LinkPhases.{IsInPhase, in_phase}
 use Rattle.link_calls.proofs.run_laws.OpenSteps.{none_open, open_has}
-use Rattle.link_calls.proofs.run_laws.OpenedOnce.{opened_once}
 use Rattle.link_calls.proofs.run_laws.TurnPlaces.{Between, Standing, Within, at_stage, event_past, standing, turned}
 use Rattle.link_calls.proofs.run_laws.TwoStations.{differs_back}
-use Rattle.run_pairs.specs.InTurns.{HasSentNow, HearEachInTurn, HearsInTurn}
+use Rattle.run_pairs.specs.InTurns.{HearEachInTurn, HearNoMixed, HearsInTurn, HearsNoMixed}
 use Rattle.run_pairs.specs.Stages.{AreHeardEnds}
 use Rattle.run_pairs.proofs.CallPlaces.{more_of, StandsAt, StandsInPhase, stands_called}
 use Rattle.run_pairs.proofs.EndCalls.{IsEndBegun, central_sends, central_silent, central_takes_in, central_unworded, end_begun, peripheral_listens, peripheral_takes_in, peripheral_unsent, refused_facts, taking_facts}
-use Rattle.run_pairs.proofs.AtOnce.{refuses_at}
+use Rattle.link_calls.proofs.AtOnce.{refusal_is}
 use Rattle.link_calls.proofs.Worded.{worded_setup}
-use Rattle.run_pairs.proofs.Worded.{worded_verdict}
+use Rattle.run_pairs.proofs.Worded.{worded_mixed, worded_verdict}
 use Rattle.link_calls.proofs.LinkCalls.{begins_under, passes_under}
 use Rattle.run_pairs.proofs.OneSide.{LastBefore, StationAt, begun_setup, received_last, station_first, station_kept, taken_setup}
+use Rattle.run_pairs.proofs.FarPackets.{HearsAll, listens_is, packet_now}
 use Rattle.run_pairs.proofs.PairSteps.{AreBothBegun, AtPlace, InTurn, IsPacketNow, IsPeripheralDone, NewOr, both_worded, central_begins, central_begins_too, central_deaf, central_hosted_all, central_reports, central_takes, packet_worded, peripheral_begins, peripheral_begins_too, peripheral_deaf, peripheral_hosted_all, peripheral_reports, peripheral_takes}
 use Rattle.run_pairs.proofs.Stages.{new_ends}
 use Rattle.link_calls.proofs.UnderHandles.{ended_under}
@@ -81,46 +81,6 @@ ended_next past turns is = more_of _ _ past TurnEnds _ is
 first_is : (setup : Setup) → facts_of setup [] ≡ first_facts setup
 unfolding facts_of
 first_is setup = refl
-
--- ---- a packet of the far end
-
-listens_is : (handle : ℕ) (doing : Doing) → listens_under handle doing ≡ true → link_listened doing ≡ Some handle
-listens_is handle (CentralListens other) is = ap Some (eqb-true other handle is)
-listens_is handle (PeripheralListens other) is = ap Some (eqb-true other handle is)
-listens_is handle (Advertises channel) is = absurd cc
-listens_is handle other is = absurd cc
-
--- what an end takes in a call comes from the far end, in this turn
-abbrev pub HearsNow : Given → List Event → OpenEnd → OpenEnd → Step → Type 0
-HearsNow given before end far step =
-    (octets : List ℕ) (link : OpenLink) → step ≡ PacketHeard octets → ReceivesGood (facts_at given end.station before) octets link
-    → HaveOneConnectInd link.setup end.link.setup → HasSentNow given before end far (facts_in link).event.channel octets
-
-pub packet_now : (given : Given) (before rest : List Event) (end far : OpenEnd) (listener : EndFacts) (octets : List ℕ) (p : OpenLink) → AreDistinct given.stations
-    → is_in far.station given.stations ≡ true → history_of (run_of given) ≡ before ++ rest
-    → link_at far.handle (facts_at given far.station before).links ≡ Some p → p.setup ≡ far.link.setup
-    → HasSentNow given before end far listener.event.channel octets
-    → IsPacketNow far.link.setup (facts_at given end.station before).turn.slot listener p octets
-packet_now given before rest end far listener octets p distinct in_too at is_open setup heard =
-    let sent = heard.sent in
-    let after = link_after (PacketSent sent.slot) sent.link in
-    let links = (facts_at given far.station before).links in
-    let opened = sent.is_end.opened ∙ sym (ap (λ (s : EndSetup). s.opened) setup) in
-    let under = opened_once given before rest far.station sent.handle far.handle after p distinct in_too at sent.is_open is_open opened in
-    let some : Some after ≡ Some p = sym sent.is_open ∙ ap (λ n. link_at n links) under ∙ is_open in
-    let equal : after ≡ p = cc in
-    let setups : sent.link.setup ≡ far.link.setup = ap (λ (l : OpenLink). l.setup) equal ∙ setup in record {
-      front = sent.link.past;
-      last = sym (ap (λ (l : OpenLink). l.past) equal) ∙ ap (λ n. sent.link.past ++ PacketSent n ∷ []) heard.now;
-      channel = listener.event.channel;
-      packet = record {
-        before = facts_in sent.link;
-        sent = sym (ap facts_in equal) ∙ step_facts sent.link (PacketSent sent.slot) ∙ ap (λ n. end_after far.link.setup (facts_in sent.link) (PacketSent n)) heard.now;
-        packet = sent.packet ∙ ap (λ (s : EndSetup). packet_sent s (facts_in sent.link)) setups;
-        on_channel = sent.channel_is;
-      };
-      same = refl;
-    }
 
 -- ---- what is kept of both ends
 
@@ -179,7 +139,7 @@ sends_next setup facts handle received = sends_under handle (facts_after setup f
 
 -- ---- a call on the central, and one on the peripheral
 
-module _ (whole : IsHeardWhole) (taken : AreTaken) (given : Given) (distinct : AreDistinct given.stations) (central peripheral : OpenEnd)
+module _ (whole : IsHeardWhole) (opens_there : IsOpenedThere) (taken : AreTaken) (given : Given) (distinct : AreDistinct given.stations) (central peripheral : OpenEnd)
     (ends : AreEnds central.link.setup peripheral.link.setup) (in_it : is_in central.station given.stations ≡ true)
     (in_too : is_in peripheral.station given.stations ≡ true) (asks : AsksMayCome given) where
   abbrev c_end : EndSetup
@@ -232,7 +192,7 @@ module _ (whole : IsHeardWhole) (taken : AreTaken) (given : Given) (distinct : A
   pub both_new : (slot : ℕ) (c p : OpenLink) → c.setup ≡ c_end → p.setup ≡ p_end → c.past ≡ [] → p.past ≡ [] → c_end.opened ≡ slot → AreHeardEnds c_end p_end slot (facts_in c) (facts_in p)
   both_new slot c p setup setup_too none none_too now =
       subst (λ (f : EndFacts). AreHeardEnds c_end p_end slot f (facts_in p)) (sym (new_facts c none ∙ ap first_end setup))
-      (subst (λ (f : EndFacts). AreHeardEnds c_end p_end slot (first_end c_end) f) (sym (new_facts p none_too ∙ ap first_end setup_too)) (new_ends whole c_end p_end ends slot now))
+      (subst (λ (f : EndFacts). AreHeardEnds c_end p_end slot (first_end c_end) f) (sym (new_facts p none_too ∙ ap first_end setup_too)) (new_ends whole opens_there c_end p_end ends slot now))
 
   module _ (pc pp : List Step) (keeps : Keeps pc pp) where
     abbrev facts_c : Facts
@@ -259,7 +219,7 @@ module _ (whole : IsHeardWhole) (taken : AreTaken) (given : Given) (distinct : A
         let facts_are = was.facts ∙ ap (λ (s : EndSetup). facts_hosted s was.steps (facts_in was.link)) setups in
         by_standing c_end p_end p_handle (at_stage Between turns) (at_stage Between turns) _ _ facts_p.turn.doing c p (fed_next pc octet turns own) other
         (subst (λ (f : EndFacts). AreOpenEnds c_end p_end turns f (facts_in p)) (sym facts_are)
-        (central_hosted_all whole c_end p_end ends p_handle turns was.steps (facts_in was.link) (facts_in p) may prior))
+        (central_hosted_all whole opens_there c_end p_end ends p_handle turns was.steps (facts_in was.link) (facts_in p) may prior))
 
     central_begun : (slot : ℕ) (on : Bool) → standing pc ≡ Some (at_stage Between slot) → (called : Bool)
         → standing pp ≡ Some (if called then at_stage (Within 0) (slot + 1) else at_stage Between slot) → Keeps (pc ++ TurnBegins slot on ∷ []) pp
@@ -279,10 +239,10 @@ module _ (whole : IsHeardWhole) (taken : AreTaken) (given : Given) (distinct : A
             → ByStanding c_end p_end p_handle (standing (pc ++ TurnBegins slot on ∷ [])) (standing pp) facts_p.turn.doing c p
         by {exchanges} {sends} {before} false is c p prior same begun =
             by_standing c_end p_end p_handle (at_stage (Within 0) (slot + 1)) (at_stage Between slot) _ _ facts_p.turn.doing c p (begun_next pc slot on own) is
-            (central_begins whole c_end p_end ends p_handle slot exchanges sends before c p same begun
+            (central_begins whole opens_there c_end p_end ends p_handle slot exchanges sends before c p same begun
             (at_standing c_end p_end p_handle (at_stage Between slot) (at_stage Between slot) _ _ facts_p.turn.doing before p own is prior))
         by {exchanges} {sends} {before} true is c p prior same begun =
-            let both = central_begins_too whole c_end p_end ends p_handle slot exchanges sends facts_p.turn.doing before c p same begun
+            let both = central_begins_too whole opens_there c_end p_end ends p_handle slot exchanges sends facts_p.turn.doing before c p same begun
             (at_standing c_end p_end p_handle (at_stage Between slot) (at_stage (Within 0) (slot + 1)) _ _ facts_p.turn.doing before p own is prior) in
             by_standing c_end p_end p_handle (at_stage (Within 0) (slot + 1)) (at_stage (Within 0) (slot + 1)) _ _ facts_p.turn.doing c p (begun_next pc slot on own) is
             (refl, inr (λ now same_slot. subst (λ n. AreBothBegun c_end p_end p_handle n facts_p.turn.doing c p) (in_slot slot now (slot + 1) refl same_slot) both))
@@ -291,11 +251,11 @@ module _ (whole : IsHeardWhole) (taken : AreTaken) (given : Given) (distinct : A
     central_stays : (j phases slot : ℕ) (c p : OpenLink) → InTurn c_end p_end p_handle j phases slot facts_p.turn.doing c p → InTurn c_end p_end p_handle j (suc phases) slot facts_p.turn.doing c p
     central_stays zero phases slot c p is = is
     central_stays (suc j) zero slot c p is = is
-    central_stays (suc j) (suc zero) slot c p is = central_deaf whole c_end p_end ends p_handle slot c p is
+    central_stays (suc j) (suc zero) slot c p is = central_deaf whole opens_there c_end p_end ends p_handle slot c p is
     central_stays (suc j) (suc (suc phases)) slot c p is = is
 
     central_passed : (before rest : List Event) (received : Option (List ℕ)) (j phases turns : ℕ) → history_of (run_of given) ≡ before ++ rest
-        → pc ≡ past_of central.station before → pp ≡ past_of peripheral.station before → HearsNow given before central peripheral (step_of received)
+        → pc ≡ past_of central.station before → pp ≡ past_of peripheral.station before → HearsAll given before central peripheral (step_of received)
         → standing pc ≡ Some (at_stage (Within phases) turns) → (j ≡ phases) ⊎ (j ≡ suc phases) → standing pp ≡ Some (at_stage (Within j) turns) → Keeps (pc ++ step_of received ∷ []) pp
     central_passed before rest received j phases turns at_run pc_is pp_is hears own where_it other = λ c p at_c setup at_p setup_too.
         let at = after_call_at setup_c pc (step_of received) central.handle c at_c in
@@ -340,9 +300,10 @@ module _ (whole : IsHeardWhole) (taken : AreTaken) (given : Given) (distinct : A
         by c p setup at_p setup_too (Takes one octets was got on same) =
             new_or c_end p_end p_handle turns _ _ (λ slot now is. heard_in phases j slot c p second where_it
             (subst (λ n. AreHeardEnds c_end p_end n (facts_in c) (facts_in p)) (in_slot facts_c.turn.slot slot turns slot_is now)
-            (central_takes whole c_end p_end ends p_handle facts_c.turn.slot octets (has_room setup_c facts_c) (refuses_at central.handle (has_room setup_c facts_c) octets facts_c (base_of setup_c facts_c one)) one c p
+            (central_takes whole opens_there c_end p_end ends p_handle facts_c.turn.slot octets (has_room setup_c facts_c) (refusal_at central.handle (room_of setup_c facts_c) octets facts_c (base_of setup_c facts_c one)) one c p
+            (refusal_is central.handle (room_of setup_c facts_c) octets facts_c (base_of setup_c facts_c one))
             (subst (λ n. IsPeripheralDone c_end p_end p_handle n one p) (sym (in_slot facts_c.turn.slot slot turns slot_is now)) (in_second phases j slot one p second where_it is))
-            facts_are (λ good. packet good))))
+            facts_are (λ good. packet good) (λ good. unmixed good))))
             (prior one p was setups at_p setup_too)
           where
             setups : one.setup ≡ c_end
@@ -368,30 +329,39 @@ module _ (whole : IsHeardWhole) (taken : AreTaken) (given : Given) (distinct : A
                 ∙ central_silent (base_of setup_c facts_c one).setup facts_c.turn.slot octets (room_of setup_c facts_c) (facts_in (base_of setup_c facts_c one))
                 (ap (λ (s : EndSetup). s.link.role) setups_base ∙ ends.is_central)
 
-            facts_are : facts_in c ≡ refused_facts (refuses_at central.handle (room_of setup_c facts_c) octets facts_c (base_of setup_c facts_c one)) c_end
+            facts_are : facts_in c ≡ refused_facts (refusal_at central.handle (room_of setup_c facts_c) octets facts_c (base_of setup_c facts_c one)) c_end
                 (received_facts c_end facts_c.turn.slot octets (room_of setup_c facts_c) (facts_in one))
             facts_are =
                 ap facts_in same
                 ∙ taking_facts (sends_next setup_c facts_c central.handle received) central.handle (room_of setup_c facts_c) octets facts_c (base_of setup_c facts_c one)
                 ∙ ap (λ b. sends_if b (base_of setup_c facts_c one).setup facts_c.turn.slot
-                (refused_facts (refuses_at central.handle (room_of setup_c facts_c) octets facts_c (base_of setup_c facts_c one)) (base_of setup_c facts_c one).setup
+                (refused_facts (refusal_at central.handle (room_of setup_c facts_c) octets facts_c (base_of setup_c facts_c one)) (base_of setup_c facts_c one).setup
                 (received_facts (base_of setup_c facts_c one).setup facts_c.turn.slot octets (room_of setup_c facts_c) (facts_in (base_of setup_c facts_c one))))) silent
-                ∙ ap (λ (s : EndSetup). refused_facts (refuses_at central.handle (room_of setup_c facts_c) octets facts_c (base_of setup_c facts_c one)) s
+                ∙ ap (λ (s : EndSetup). refused_facts (refusal_at central.handle (room_of setup_c facts_c) octets facts_c (base_of setup_c facts_c one)) s
                 (received_facts s facts_c.turn.slot octets (room_of setup_c facts_c) (facts_in (base_of setup_c facts_c one)))) setups_base
-                ∙ ap (λ (l : OpenLink). refused_facts (refuses_at central.handle (room_of setup_c facts_c) octets facts_c (base_of setup_c facts_c one)) c_end
+                ∙ ap (λ (l : OpenLink). refused_facts (refusal_at central.handle (room_of setup_c facts_c) octets facts_c (base_of setup_c facts_c one)) c_end
                 (received_facts c_end facts_c.turn.slot octets (room_of setup_c facts_c) (facts_in l))) same_base
 
             facts_same : facts_at given central.station before ≡ facts_c
             facts_same = ap (facts_of setup_c) (sym pc_is)
 
+            receives : verdict_of c_end (facts_in one) octets ≡ Good → ReceivesGood (facts_at given central.station before) octets one
+            receives good = record {
+              handle = central.handle;
+              listens = ap (λ (f : Facts). link_listened f.turn.doing) facts_same ∙ listens_is central.handle facts_c.turn.doing on;
+              is_open = ap (λ (f : Facts). link_at central.handle f.links) facts_same ∙ was;
+              is_good = ap (λ (s : EndSetup). verdict_of s (facts_in one) octets) setups ∙ good;
+            }
+
+            unmixed : verdict_of c_end (facts_in one) octets ≡ Good → is_mixed_packet c_end (facts_in one) (facts_in p) octets ≡ false
+            unmixed good =
+                ap (λ (s : EndSetup). is_mixed_packet s (facts_in one) (facts_in p) octets) (sym setups)
+                ∙ hears.pure octets one p (ap step_of got) (receives good) setups
+                (ap (λ (past : List Step). link_at p_handle (facts_of setup_p past).links) (sym pp_is) ∙ at_p) setup_too
+
             packet : verdict_of c_end (facts_in one) octets ≡ Good → IsPacketNow p_end facts_c.turn.slot (facts_in one) p octets
             packet good =
-                let heard = hears octets one (ap step_of got) (record {
-                  handle = central.handle;
-                  listens = ap (λ (f : Facts). link_listened f.turn.doing) facts_same ∙ listens_is central.handle facts_c.turn.doing on;
-                  is_open = ap (λ (f : Facts). link_at central.handle f.links) facts_same ∙ was;
-                  is_good = ap (λ (s : EndSetup). verdict_of s (facts_in one) octets) setups ∙ good;
-                }) (one_connect one.setup c_end setups) in
+                let heard = hears.now octets one (ap step_of got) (receives good) (one_connect one.setup c_end setups) in
                 subst (λ (f : Facts). IsPacketNow p_end f.turn.slot (facts_in one) p octets) facts_same
                 (packet_now given before rest central peripheral (facts_in one) octets p distinct in_too at_run
                 (ap (λ (past : List Step). link_at p_handle (facts_of setup_p past).links) (sym pp_is) ∙ at_p) setup_too heard)
@@ -416,7 +386,7 @@ module _ (whole : IsHeardWhole) (taken : AreTaken) (given : Given) (distinct : A
             let prior = at_standing c_end p_end p_handle (at_stage (Within 3) turns) (at_stage (Within 3) turns) _ _ facts_p.turn.doing before p own is kept in
             by_standing c_end p_end p_handle (at_stage Between turns) (at_stage (Within 3) turns) _ _ facts_p.turn.doing c p (ended_next pc turns own) is (record {
               heard = λ slot now. subst (λ (f : EndFacts). AreHeardEnds c_end p_end slot f (facts_in p)) (sym facts_are)
-                  (central_reports whole c_end p_end ends p_handle slot reports (facts_in before) (facts_in p) (heard_by prior.1 slot now));
+                  (central_reports whole opens_there c_end p_end ends p_handle slot reports (facts_in before) (facts_in p) (heard_by prior.1 slot now));
               stays = stays;
             })
           where
@@ -435,7 +405,7 @@ module _ (whole : IsHeardWhole) (taken : AreTaken) (given : Given) (distinct : A
         by true is c p before reports was setups at_p setup_too facts_are stays kept =
             let prior = at_standing c_end p_end p_handle (at_stage (Within 3) turns) (at_stage Between turns) _ _ facts_p.turn.doing before p own is kept in
             let heard = subst (λ (f : EndFacts). AreHeardEnds c_end p_end facts_c.turn.slot f (facts_in p)) (sym facts_are)
-            (central_reports whole c_end p_end ends p_handle facts_c.turn.slot reports (facts_in before) (facts_in p) (prior.heard facts_c.turn.slot (sym slot_is))) in
+            (central_reports whole opens_there c_end p_end ends p_handle facts_c.turn.slot reports (facts_in before) (facts_in p) (prior.heard facts_c.turn.slot (sym slot_is))) in
             by_standing c_end p_end p_handle (at_stage Between turns) (at_stage Between turns) _ _ facts_p.turn.doing c p (ended_next pc turns own) is
             (subst (λ n. AreOpenEnds c_end p_end n (facts_in c) (facts_in p)) slot_is (heard.opens stays prior.stays))
 
@@ -457,7 +427,7 @@ module _ (whole : IsHeardWhole) (taken : AreTaken) (given : Given) (distinct : A
         let facts_are = was.facts ∙ ap (λ (s : EndSetup). facts_hosted s was.steps (facts_in was.link)) setups in
         by_standing c_end p_end p_handle (at_stage Between turns) (at_stage Between turns) _ _ _ c p other (fed_next pp octet turns own)
         (subst (λ (f : EndFacts). AreOpenEnds c_end p_end turns (facts_in c) f) (sym facts_are)
-        (peripheral_hosted_all whole c_end p_end ends p_handle turns was.steps (facts_in c) (facts_in was.link) may prior))
+        (peripheral_hosted_all whole opens_there c_end p_end ends p_handle turns was.steps (facts_in c) (facts_in was.link) may prior))
 
     -- what the peripheral does after a call
     doing_next : (step : Step) → (facts_after setup_p facts_p step).turn.doing ≡ (facts_of setup_p (pp ++ step ∷ [])).turn.doing
@@ -487,10 +457,10 @@ module _ (whole : IsHeardWhole) (taken : AreTaken) (given : Given) (distinct : A
             → ByStanding c_end p_end p_handle (standing pc) (standing (pp ++ TurnBegins slot on ∷ [])) doing c p
         by {exchanges} {sends} {before} doing false is c p prior none same begun due =
             by_standing c_end p_end p_handle (at_stage Between slot) (at_stage (Within 0) (slot + 1)) _ _ doing c p is (begun_next pp slot on own)
-            (peripheral_begins whole c_end p_end ends p_handle slot exchanges sends doing before c p none same begun due
+            (peripheral_begins whole opens_there c_end p_end ends p_handle slot exchanges sends doing before c p none same begun due
             (at_standing c_end p_end p_handle (at_stage Between slot) (at_stage Between slot) _ _ facts_p.turn.doing c before is own prior))
         by {exchanges} {sends} {before} doing true is c p prior none same begun due =
-            let both = peripheral_begins_too whole c_end p_end ends p_handle slot exchanges sends doing before c p none same begun due
+            let both = peripheral_begins_too whole opens_there c_end p_end ends p_handle slot exchanges sends doing before c p none same begun due
             (at_standing c_end p_end p_handle (at_stage (Within 0) (slot + 1)) (at_stage Between slot) _ _ facts_p.turn.doing c before is own prior) in
             by_standing c_end p_end p_handle (at_stage (Within 0) (slot + 1)) (at_stage (Within 0) (slot + 1)) _ _ doing c p is (begun_next pp slot on own)
             (refl, inr (λ now same_slot. subst (λ n. AreBothBegun c_end p_end p_handle n doing c p) (in_slot slot now (slot + 1) refl same_slot) both))
@@ -498,8 +468,8 @@ module _ (whole : IsHeardWhole) (taken : AreTaken) (given : Given) (distinct : A
     -- the peripheral has heard nothing in the first phase, or nothing happens in a later one
     peripheral_stays : (i phases slot : ℕ) (doing : Doing) (c p : OpenLink) → (i ≡ phases) ⊎ (i ≡ suc phases) → InTurn c_end p_end p_handle phases i slot facts_p.turn.doing c p
         → InTurn c_end p_end p_handle (suc phases) i slot doing c p
-    peripheral_stays zero zero slot doing c p place is = peripheral_deaf whole c_end p_end ends p_handle slot facts_p.turn.doing c p is
-    peripheral_stays (suc zero) zero slot doing c p place is = peripheral_deaf whole c_end p_end ends p_handle slot facts_p.turn.doing c p is
+    peripheral_stays zero zero slot doing c p place is = peripheral_deaf whole opens_there c_end p_end ends p_handle slot facts_p.turn.doing c p is
+    peripheral_stays (suc zero) zero slot doing c p place is = peripheral_deaf whole opens_there c_end p_end ends p_handle slot facts_p.turn.doing c p is
     peripheral_stays (suc (suc i)) zero slot doing c p (inl same) is = absurd (omega (arith, same))
     peripheral_stays (suc (suc i)) zero slot doing c p (inr same) is = absurd (omega (arith, same))
     peripheral_stays i (suc phases) slot doing c p place is = is
@@ -517,7 +487,7 @@ module _ (whole : IsHeardWhole) (taken : AreTaken) (given : Given) (distinct : A
     done_in (suc n) i slot doing c p is place done = absurd (omega (arith, is))
 
     peripheral_passed : (before rest : List Event) (received : Option (List ℕ)) (i phases turns : ℕ) → history_of (run_of given) ≡ before ++ rest
-        → pc ≡ past_of central.station before → pp ≡ past_of peripheral.station before → HearsNow given before peripheral central (step_of received)
+        → pc ≡ past_of central.station before → pp ≡ past_of peripheral.station before → HearsAll given before peripheral central (step_of received)
         → standing pp ≡ Some (at_stage (Within phases) turns) → (i ≡ phases) ⊎ (i ≡ suc phases) → standing pc ≡ Some (at_stage (Within i) turns) → Keeps pc (pp ++ step_of received ∷ [])
     peripheral_passed before rest received i phases turns at_run pc_is pp_is hears own where_it other = λ c p at_c setup at_p setup_too.
         let at = after_call_at setup_p pp (step_of received) p_handle p at_p in
@@ -547,11 +517,12 @@ module _ (whole : IsHeardWhole) (taken : AreTaken) (given : Given) (distinct : A
         by doing c p setup at_c setup_too (Takes one octets was got on same) =
             new_or c_end p_end p_handle turns _ _ (λ slot now is. done_in phases i slot doing c p first where_it
             (subst (λ n. IsPeripheralDone c_end p_end p_handle n c p) (in_slot facts_p.turn.slot slot turns slot_is now)
-            (peripheral_takes whole c_end p_end ends p_handle facts_p.turn.slot octets (room_of setup_p facts_p) (refuses_at p_handle (room_of setup_p facts_p) octets facts_p
+            (peripheral_takes whole opens_there c_end p_end ends p_handle facts_p.turn.slot octets (room_of setup_p facts_p) (refusal_at p_handle (room_of setup_p facts_p) octets facts_p
             (base_of setup_p facts_p one)) (sends_next setup_p facts_p p_handle received) facts_p.turn.doing c (base_of setup_p facts_p one) p
-            (both_worded whole c_end p_end ends p_handle setup_p facts_p facts_p.turn.doing facts_p.turn.slot facts_p.turn.doing c one setups
+            (refusal_is p_handle (room_of setup_p facts_p) octets facts_p (base_of setup_p facts_p one)) setups_base
+            (both_worded whole opens_there c_end p_end ends p_handle setup_p facts_p facts_p.turn.doing facts_p.turn.slot facts_p.turn.doing c one setups
             (subst (λ n. AreBothBegun c_end p_end p_handle n facts_p.turn.doing c one) (sym (in_slot facts_p.turn.slot slot turns slot_is now)) (in_first phases i slot c one first is)))
-            on replies_are facts_are unsent (λ good. packet good))))
+            on replies_are facts_are unsent (λ good. packet good) (λ good. unmixed good))))
             (prior c one at_c setup was setups)
           where
             setups : one.setup ≡ p_end
@@ -575,13 +546,13 @@ module _ (whole : IsHeardWhole) (taken : AreTaken) (given : Given) (distinct : A
                 ∙ ap (λ (s : EndSetup). replies_of s (facts_in (base_of setup_p facts_p one)) facts_p.turn.slot octets (room_of setup_p facts_p)) setups_base
 
             facts_are : facts_in p ≡ sends_if (sends_next setup_p facts_p p_handle received) p_end facts_p.turn.slot
-                (refused_facts (refuses_at p_handle (room_of setup_p facts_p) octets facts_p (base_of setup_p facts_p one)) p_end
+                (refused_facts (refusal_at p_handle (room_of setup_p facts_p) octets facts_p (base_of setup_p facts_p one)) p_end
                 (received_facts p_end facts_p.turn.slot octets (room_of setup_p facts_p) (facts_in (base_of setup_p facts_p one))))
             facts_are =
                 ap facts_in same
                 ∙ taking_facts (sends_next setup_p facts_p p_handle received) p_handle (room_of setup_p facts_p) octets facts_p (base_of setup_p facts_p one)
                 ∙ ap (λ (s : EndSetup). sends_if (sends_next setup_p facts_p p_handle received) s facts_p.turn.slot
-                (refused_facts (refuses_at p_handle (room_of setup_p facts_p) octets facts_p (base_of setup_p facts_p one)) s
+                (refused_facts (refusal_at p_handle (room_of setup_p facts_p) octets facts_p (base_of setup_p facts_p one)) s
                 (received_facts s facts_p.turn.slot octets (room_of setup_p facts_p) (facts_in (base_of setup_p facts_p one))))) setups_base
 
             unsent : sends_next setup_p facts_p p_handle received ≡ false → LastBefore facts_p.turn.slot p.past
@@ -593,15 +564,26 @@ module _ (whole : IsHeardWhole) (taken : AreTaken) (given : Given) (distinct : A
             facts_same : facts_at given peripheral.station before ≡ facts_p
             facts_same = ap (facts_of setup_p) (sym pp_is)
 
+            receives : verdict_of p_end (facts_in (base_of setup_p facts_p one)) octets ≡ Good → ReceivesGood (facts_at given peripheral.station before) octets one
+            receives good = record {
+              handle = p_handle;
+              listens = ap (λ (f : Facts). link_listened f.turn.doing) facts_same ∙ listens_is p_handle facts_p.turn.doing on;
+              is_open = ap (λ (f : Facts). link_at p_handle f.links) facts_same ∙ was;
+              is_good = ap (λ (s : EndSetup). verdict_of s (facts_in one) octets) setups ∙ sym (worded_verdict p_end setup_p facts_p facts_p.turn.doing one octets) ∙ good;
+            }
+
+            unmixed : verdict_of p_end (facts_in (base_of setup_p facts_p one)) octets ≡ Good
+                → is_mixed_packet p_end (facts_in (base_of setup_p facts_p one)) (facts_in c) octets ≡ false
+            unmixed good =
+                worded_mixed p_end setup_p facts_p facts_p.turn.doing one (facts_in c) octets
+                ∙ ap (λ (s : EndSetup). is_mixed_packet s (facts_in one) (facts_in c) octets) (sym setups)
+                ∙ hears.pure octets one c (ap step_of got) (receives good) setups
+                (ap (λ (past : List Step). link_at central.handle (facts_of setup_c past).links) (sym pc_is) ∙ at_c) setup
+
             packet : verdict_of p_end (facts_in (base_of setup_p facts_p one)) octets ≡ Good
                 → IsPacketNow c_end facts_p.turn.slot (facts_in (base_of setup_p facts_p one)) c octets
             packet good =
-                let heard = hears octets one (ap step_of got) (record {
-                  handle = p_handle;
-                  listens = ap (λ (f : Facts). link_listened f.turn.doing) facts_same ∙ listens_is p_handle facts_p.turn.doing on;
-                  is_open = ap (λ (f : Facts). link_at p_handle f.links) facts_same ∙ was;
-                  is_good = ap (λ (s : EndSetup). verdict_of s (facts_in one) octets) setups ∙ sym (worded_verdict p_end setup_p facts_p facts_p.turn.doing one octets) ∙ good;
-                }) (one_connect one.setup p_end setups) in
+                let heard = hears.now octets one (ap step_of got) (receives good) (one_connect one.setup p_end setups) in
                 packet_worded c_end facts_p.turn.slot setup_p facts_p facts_p.turn.doing one c octets
                 (subst (λ (f : Facts). IsPacketNow c_end f.turn.slot (facts_in one) c octets) facts_same
                 (packet_now given before rest peripheral central (facts_in one) octets c distinct in_it at_run
@@ -628,7 +610,7 @@ module _ (whole : IsHeardWhole) (taken : AreTaken) (given : Given) (distinct : A
             let prior = at_standing c_end p_end p_handle (at_stage (Within 3) turns) (at_stage (Within 3) turns) _ _ facts_p.turn.doing c before is own kept in
             by_standing c_end p_end p_handle (at_stage (Within 3) turns) (at_stage Between turns) _ _ doing c p is (ended_next pp turns own) (record {
               heard = λ slot now. subst (λ (f : EndFacts). AreHeardEnds c_end p_end slot (facts_in c) f) (sym facts_are)
-                  (peripheral_reports whole c_end p_end ends p_handle slot reports (facts_in c) (facts_in before) (heard_by prior.1 slot now));
+                  (peripheral_reports whole opens_there c_end p_end ends p_handle slot reports (facts_in c) (facts_in before) (heard_by prior.1 slot now));
               stays = stays;
             })
           where
@@ -647,7 +629,7 @@ module _ (whole : IsHeardWhole) (taken : AreTaken) (given : Given) (distinct : A
         by doing true is c p before reports at_c setup was setups facts_are stays kept =
             let prior = at_standing c_end p_end p_handle (at_stage Between turns) (at_stage (Within 3) turns) _ _ facts_p.turn.doing c before is own kept in
             let heard = subst (λ (f : EndFacts). AreHeardEnds c_end p_end facts_p.turn.slot (facts_in c) f) (sym facts_are)
-            (peripheral_reports whole c_end p_end ends p_handle facts_p.turn.slot reports (facts_in c) (facts_in before) (prior.heard facts_p.turn.slot (sym slot_is))) in
+            (peripheral_reports whole opens_there c_end p_end ends p_handle facts_p.turn.slot reports (facts_in c) (facts_in before) (prior.heard facts_p.turn.slot (sym slot_is))) in
             by_standing c_end p_end p_handle (at_stage Between turns) (at_stage Between turns) _ _ doing c p is (ended_next pp turns own)
             (subst (λ n. AreOpenEnds c_end p_end n (facts_in c) (facts_in p)) slot_is (heard.opens prior.stays stays))
 
@@ -670,11 +652,11 @@ module _ (whole : IsHeardWhole) (taken : AreTaken) (given : Given) (distinct : A
   KeptAt history = Keeps (past_of central.station history) (past_of peripheral.station history)
 
   central_call : (before rest : List Event) (step : Step) → history_of (run_of given) ≡ before ++ Called central.station step ∷ rest
-      → HearsNow given before central peripheral step → KeptAt before → Keeps (past_of central.station before ++ step ∷ []) (past_of peripheral.station before)
+      → HearsAll given before central peripheral step → KeptAt before → Keeps (past_of central.station before ++ step ∷ []) (past_of peripheral.station before)
   central_call before rest step at hears keeps = by step at (stands_called given before rest central.station step distinct at) hears
     where
       passed : (received : Option (List ℕ)) → history_of (run_of given) ≡ before ++ Called central.station (step_of received) ∷ rest → StandsInPhase given before central.station
-          → HearsNow given before central peripheral (step_of received) → Keeps (past_of central.station before ++ step_of received ∷ []) (past_of peripheral.station before)
+          → HearsAll given before central peripheral (step_of received) → Keeps (past_of central.station before ++ step_of received ∷ []) (past_of peripheral.station before)
       passed received at place hears =
           let b = place.stand.was_called peripheral.station in
           central_passed (past_of central.station before) (past_of peripheral.station before) keeps before (Called central.station (step_of received) ∷ rest) received
@@ -682,7 +664,7 @@ module _ (whole : IsHeardWhole) (taken : AreTaken) (given : Given) (distinct : A
           (phase_other b place.phases place.turns (past_of peripheral.station before) (place.stand.others peripheral.station in_too))
 
       by : (step : Step) → history_of (run_of given) ≡ before ++ Called central.station step ∷ rest → StandsAt given before central.station step
-          → HearsNow given before central peripheral step → Keeps (past_of central.station before ++ step ∷ []) (past_of peripheral.station before)
+          → HearsAll given before central peripheral step → Keeps (past_of central.station before ++ step ∷ []) (past_of peripheral.station before)
       by (HostOctet octet) at place hears =
           central_fed (past_of central.station before) (past_of peripheral.station before) keeps octet place.turns place.stand.own
           (feed_other (place.stand.was_called peripheral.station) place.turns (past_of peripheral.station before) (place.stand.others peripheral.station in_too))
@@ -697,11 +679,11 @@ module _ (whole : IsHeardWhole) (taken : AreTaken) (given : Given) (distinct : A
           (place.stand.others peripheral.station in_too)
 
   peripheral_call : (before rest : List Event) (step : Step) → history_of (run_of given) ≡ before ++ Called peripheral.station step ∷ rest
-      → HearsNow given before peripheral central step → KeptAt before → Keeps (past_of central.station before) (past_of peripheral.station before ++ step ∷ [])
+      → HearsAll given before peripheral central step → KeptAt before → Keeps (past_of central.station before) (past_of peripheral.station before ++ step ∷ [])
   peripheral_call before rest step at hears keeps = by step at (stands_called given before rest peripheral.station step distinct at) hears
     where
       passed : (received : Option (List ℕ)) → history_of (run_of given) ≡ before ++ Called peripheral.station (step_of received) ∷ rest → StandsInPhase given before peripheral.station
-          → HearsNow given before peripheral central (step_of received) → Keeps (past_of central.station before) (past_of peripheral.station before ++ step_of received ∷ [])
+          → HearsAll given before peripheral central (step_of received) → Keeps (past_of central.station before) (past_of peripheral.station before ++ step_of received ∷ [])
       passed received at place hears =
           let b = place.stand.was_called central.station in
           peripheral_passed (past_of central.station before) (past_of peripheral.station before) keeps before (Called peripheral.station (step_of received) ∷ rest) received
@@ -709,7 +691,7 @@ module _ (whole : IsHeardWhole) (taken : AreTaken) (given : Given) (distinct : A
           (phase_other b place.phases place.turns (past_of central.station before) (place.stand.others central.station in_it))
 
       by : (step : Step) → history_of (run_of given) ≡ before ++ Called peripheral.station step ∷ rest → StandsAt given before peripheral.station step
-          → HearsNow given before peripheral central step → Keeps (past_of central.station before) (past_of peripheral.station before ++ step ∷ [])
+          → HearsAll given before peripheral central step → Keeps (past_of central.station before) (past_of peripheral.station before ++ step ∷ [])
       by (HostOctet octet) at place hears =
           peripheral_fed (past_of central.station before) (past_of peripheral.station before) keeps octet place.turns
           (feed_other (place.stand.was_called central.station) place.turns (past_of central.station before) (place.stand.others central.station in_it)) place.stand.own
@@ -726,15 +708,18 @@ module _ (whole : IsHeardWhole) (taken : AreTaken) (given : Given) (distinct : A
   -- ---- along a history
 
   module _ (differs : (central.station == peripheral.station) ≡ false) (history rest : List Event) (at : history_of (run_of given) ≡ history ++ rest)
-      (hear : HearEachInTurn given history central peripheral) where
+      (hear : HearEachInTurn given history central peripheral) (none_mixed : HearNoMixed given history central peripheral) where
     place_of : (before after : List Event) (station : ℕ) (step : Step) → history ≡ before ++ Called station step ∷ after
         → history_of (run_of given) ≡ before ++ Called station step ∷ (after ++ rest)
     place_of before after station step is = at ∙ ap (λ events. events ++ rest) is ∙ append_assoc before (Called station step ∷ after) rest
 
-    hears_now : (end far : OpenEnd) → HearsInTurn given history end far → (before after : List Event) (step : Step) → history ≡ before ++ Called end.station step ∷ after
-        → HearsNow given before end far step
-    hears_now end far hears before after step is = λ octets link heard takes own.
-        hears before after octets link (is ∙ ap (λ s. before ++ Called end.station s ∷ after) heard) takes own
+    hears_now : (end far : OpenEnd) → HearsInTurn given history end far → HearsNoMixed given history end far → (before after : List Event) (step : Step)
+        → history ≡ before ++ Called end.station step ∷ after → HearsAll given before end far step
+    hears_now end far hears pure before after step is = record {
+      now = λ octets link heard takes own. hears before after octets link (is ∙ ap (λ s. before ++ Called end.station s ∷ after) heard) takes own;
+      pure = λ octets link there heard takes own at_far far_own.
+          pure before after octets link there (is ∙ ap (λ s. before ++ Called end.station s ∷ after) heard) takes own at_far far_own;
+    }
 
     each_call : (before after : List Event) (station : ℕ) (step : Step) → history ≡ before ++ Called station step ∷ after → KeptAt before → KeptAt (before ++ Called station step ∷ [])
     each_call before after station step is keeps = by (station == central.station) (station == peripheral.station) refl refl
@@ -744,14 +729,14 @@ module _ (whole : IsHeardWhole) (taken : AreTaken) (given : Given) (distinct : A
             subst (λ pp. Keeps (past_of central.station (before ++ Called central.station step ∷ [])) pp)
             (sym (past_other peripheral.station central.station step [] before (differs_back central.station peripheral.station differs)))
             (subst (λ pc. Keeps pc (past_of peripheral.station before)) (sym (past_own central.station step [] before))
-            (central_call before (after ++ rest) step (place_of before after central.station step own) (hears_now central peripheral hear.one_hears before after step own) keeps))
+            (central_call before (after ++ rest) step (place_of before after central.station step own) (hears_now central peripheral hear.one_hears none_mixed.one_hears before after step own) keeps))
 
         of_peripheral : history ≡ before ++ Called peripheral.station step ∷ after → KeptAt (before ++ Called peripheral.station step ∷ [])
         of_peripheral own =
             subst (λ pc. Keeps pc (past_of peripheral.station (before ++ Called peripheral.station step ∷ [])))
             (sym (past_other central.station peripheral.station step [] before differs))
             (subst (λ pp. Keeps (past_of central.station before) pp) (sym (past_own peripheral.station step [] before))
-            (peripheral_call before (after ++ rest) step (place_of before after peripheral.station step own) (hears_now peripheral central hear.other_hears before after step own) keeps))
+            (peripheral_call before (after ++ rest) step (place_of before after peripheral.station step own) (hears_now peripheral central hear.other_hears none_mixed.other_hears before after step own) keeps))
 
         by : (first second : Bool) → (station == central.station) ≡ first → (station == peripheral.station) ≡ second → KeptAt (before ++ Called station step ∷ [])
         by true second own is_too =

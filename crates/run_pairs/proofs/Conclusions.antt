@@ -1,29 +1,24 @@
 -- What follows, at any place of a run, from the relation of the two ends of a link there.
-use Rattle.std.proofs.Common.{◌≡◌, inl, inr, ℕ, zero, suc, ◌+◌, ◌<◌, Bool, true, false, Option, Some, None, List, [], ◌∷◌, ◌++◌, append-nil, is_some, refl, sym, ap, subst, ◌∙◌, arith}
-use Rattle.std.specs.Prelude.{if◌then◌else◌}
-use Rattle.std.proofs.lemmas.Bool.{eq-eqb}
-use Rattle.ble_base.specs.declared.verdicts.Verdict.TheVariants.{Good}
-use Rattle.link_calls.specs.link_model.Packets.{verdict_of}
-use Rattle.link_calls.specs.controller_model.declared.doing.Doing.TheVariants.{Advertises, CentralListens, PeripheralListens}
-use Rattle.link_calls.specs.controller_model.Step.{Step, PacketHeard}
+use Rattle.std.proofs.Common.{◌≡◌, ◌⊎◌, inl, inr, ℕ, zero, suc, ◌+◌, Bool, true, false, Option, Some, None, List, [], ◌∷◌, ◌++◌, append-nil, is_some, refl, sym, ap, subst, ◌∙◌, arith}
+use Rattle.link_calls.specs.controller_model.Step.{PacketHeard}
 use Rattle.link_calls.specs.run_laws.Ends.{AreEnds as AreEndsIn, IsOpen, OpenEnd, link_listened}
-use Rattle.link_calls.proofs.run_laws.InAgreement.{OpenedBefore}
-use Rattle.link_calls.proofs.run_laws.LinkPhases.{in_phase}
-use Rattle.run_pairs.specs.InTurns.{HasSentNow, HearEachInTurn}
-use Rattle.run_pairs.proofs.CallPlaces.{AllBetween, StandsInPhase, stands_called}
-use Rattle.run_pairs.proofs.EndCalls.{central_takes_in, peripheral_takes_in}
-use Rattle.run_pairs.proofs.BothEnds.{ByStanding, at_standing, both_new, kept_to, packet_now}
-use Rattle.link_calls.specs.controller_model.Facts.{Facts}
-use Rattle.run_pairs.specs.Stages.{AreAnsweredEnds, AreBegunEnds, AreHeardEnds}
-use Rattle.run_pairs.proofs.PairSteps.{AreBothBegun, AtPlace, InTurn, IsCentralBegun, IsPeripheralBegun, IsPeripheralDone, NewOr}
-use Rattle.run_pairs.proofs.Stages.{central_judges, central_unheard, linked_agree, peripheral_judges, peripheral_unheard}
-use Rattle.link_calls.specs.Uses.{is_on_link, listens_under}
+use Rattle.run_pairs.specs.InTurns.{HasSentNow, HearEachInTurn, HearNoMixed}
+use Rattle.run_pairs.proofs.CallPlaces.{AllBetween}
+use Rattle.run_pairs.proofs.BothEnds.{ByStanding, at_standing, both_new, kept_to}
+use Rattle.run_pairs.proofs.FarPackets.{packet_now}
+use Rattle.run_pairs.proofs.HeardNow.{answered_now, begun_now, side_at}
+use Rattle.run_pairs.specs.Stages.{AreAnsweredEnds, AreHeardEnds}
+use Rattle.run_pairs.proofs.PairSteps.{AreBothBegun, AtPlace, InTurn, IsCentralBegun, IsPeripheralBegun, NewOr}
+use Rattle.run_pairs.proofs.Stages.{IsJudged, central_judges, central_unheard, linked_agree, peripheral_judges, peripheral_unheard}
 use Rattle.ble_base.specs.declared.error_codes.ErrCode.{ErrCode}
 use Rattle.ack_bit.proofs.Links.{sent}
 use Rattle.link_calls.specs.link_model.Acknowledgement.{Acknowledgement, end_of}
 use Rattle.link_calls.specs.link_model.Controls.{pdu_fixed}
 use Rattle.link_calls.specs.link_model.Facts.{Facts as EndFacts}
+use Rattle.link_calls.specs.link_model.Delivery.{IsDelivered}
 use Rattle.link_calls.specs.link_model.OneLink.{AreInAgreement}
+use Rattle.link_calls.proofs.link_model.Taking.{past_delivered}
+use Rattle.link_runs.proofs.link_pairs.Counts.{turned}
 use Rattle.link_calls.specs.link_model.Setup.{Setup as EndSetup}
 use Rattle.link_calls.proofs.link_model.Acknowledging.{ack_sent}
 use Rattle.link_calls.proofs.link_model.Hearing.{IsHeardWhole}
@@ -37,23 +32,24 @@ use Rattle.link_calls.proofs.run_model.LinkEnds.{AreTaken, IsUnderstood}
 use Rattle.link_calls.proofs.run_model.Stations.{is_in}
 use Rattle.link_runs.specs.link_pairs.Ends.{AreEnds, is_lasting}
 use Rattle.link_runs.specs.link_pairs.Sound.{AreSoundEnds}
-use Rattle.link_runs.specs.link_pairs.Turns.{prepared, sent_if}
+use Rattle.link_runs.specs.link_pairs.Turns.{central_begun, prepared, sent_if}
 use Rattle.link_runs.proofs.link_pairs.EndingNothing.{begun_ends_nothing, prepared_ends_nothing}
 use Rattle.link_runs.proofs.link_pairs.NothingNew.{prepared_still}
 use Rattle.link_runs.proofs.link_pairs.Sounding.{are_sound}
-use Rattle.link_runs.specs.Open.{AreOpenEnds, AreTerminated, GoOnUnlessLate, GoesOnUnlessLate}
+use Rattle.link_runs.proofs.link_pairs.Understanding.{IsOpenedThere}
+use Rattle.link_runs.specs.Open.{AreOpenEnds, AreTerminated, GoOnUnlessLate, GoesOnUnlessLate, HasHeardForged}
 use Rattle.link_runs.proofs.GoingOn.{lasting_goes, lasting_took_none}
 use Rattle.link_runs.proofs.Shutting.{are_terminated}
 use Rattle.link_calls.proofs.run_laws.ChSel.{one_link}
 use Rattle.link_calls.proofs.run_laws.OpenSteps.{open_has}
 use Rattle.link_calls.proofs.run_laws.SameEvent.{apart_ends}
-use Rattle.link_calls.proofs.run_laws.TurnPlaces.{Between, Stage, StandsSomewhere, Within, at_stage, standing, stands_in_run, turned}
+use Rattle.link_calls.proofs.run_laws.TurnPlaces.{Between, Stage, StandsSomewhere, Within, at_stage, standing, stands_in_run}
 use Rattle.run_pairs.proofs.LinkSteps.{AsksMayCome}
-use Rattle.run_pairs.proofs.OneSide.{IsSetUp, StationAt, station_first, station_kept}
+use Rattle.run_pairs.proofs.OneSide.{IsSetUp, StationAt}
 
--- no procedure ends the link but at a late peripheral, and the counts agree
+-- no procedure ends the link but at a late peripheral, or where a packet is forged, and the counts agree
 pub record IsSoundPlace (c p : EndFacts) : Type 0 where
-  pub goes_on : c.control.ends ≡ None
+  pub goes_on : (c.control.ends ≡ None) ⊎ HasHeardForged c
   pub unless_late : GoesOnUnlessLate (Some c) p
   pub agreement : AreInAgreement c.acknowledgement p.acknowledgement
 
@@ -63,25 +59,30 @@ sent_agrees true setup slot c other agreed =
     subst (λ (a : Acknowledgement). AreInAgreement a other) (sym (ack_sent slot c)) (sent (end_of c.acknowledgement) (end_of other) (pdu_fixed c) agreed)
 sent_agrees false setup slot c other agreed = agreed
 
-module _ (whole : IsHeardWhole) (c_end p_end : EndSetup) (ends : AreEnds c_end p_end) (p_handle : ℕ) where
+module _ (whole : IsHeardWhole) (opens_there : IsOpenedThere) (c_end p_end : EndSetup) (ends : AreEnds c_end p_end) (p_handle : ℕ) where
   heard_sound : (slot : ℕ) (c p : EndFacts) → AreHeardEnds c_end p_end slot c p → IsSoundPlace c p
   heard_sound slot c p heard = record { goes_on = heard.central_goes_on; unless_late = heard.peripheral_goes_on; agreement = heard.agreement }
 
   answered_sound : (slot : ℕ) (answers : Bool) (c p : EndFacts) → AreAnsweredEnds c_end p_end slot answers c p → IsSoundPlace c p
-  answered_sound slot answers c p done = heard_sound slot c p (central_unheard whole c_end p_end ends slot answers c p done)
+  answered_sound slot answers c p done = heard_sound slot c p (central_unheard whole opens_there c_end p_end ends slot answers c p done)
 
   open_sound : (turns : ℕ) (c p : EndFacts) → AreOpenEnds c_end p_end turns c p → IsSoundPlace c p
   open_sound turns c p (inl link) = record {
-    goes_on = lasting_goes c link.central_lasts;
+    goes_on = inl (lasting_goes c link.central_lasts);
     unless_late = inl (lasting_goes p link.peripheral_lasts);
     agreement = linked_agree c_end p_end ends turns false c p link.linked link.central_lasts link.peripheral_lasts;
   }
-  open_sound turns c p (inr parting) = record { goes_on = parting.took.goes_on; unless_late = inl parting.sent.goes_on; agreement = parting.agreement }
+  open_sound turns c p (inr parting) = record { goes_on = inl parting.took.goes_on; unless_late = inl parting.sent.goes_on; agreement = parting.agreement }
 
   -- neither procedure ended the link, between two turns
   open_goes : (turns : ℕ) (c p : EndFacts) → AreOpenEnds c_end p_end turns c p → p.control.ends ≡ None
   open_goes turns c p (inl link) = lasting_goes p link.peripheral_lasts
   open_goes turns c p (inr parting) = parting.sent.goes_on
+
+  still_goes : (before now : EndFacts) → now.control.ends ≡ before.control.ends → (before.control.ends ≡ None) ⊎ HasHeardForged before
+      → (now.control.ends ≡ None) ⊎ HasHeardForged now
+  still_goes before now same (inl goes) = inl (same ∙ goes)
+  still_goes before now same (inr forged) = inr (same ∙ forged)
 
   central_begun_sound : (slot : ℕ) (c p : OpenLink) → IsCentralBegun c_end p_end p_handle slot c p → IsSoundPlace (facts_in c) (facts_in p)
   central_begun_sound slot c p begun =
@@ -89,7 +90,7 @@ module _ (whole : IsHeardWhole) (c_end p_end : EndSetup) (ends : AreEnds c_end p
       let ready = prepared c_end slot begun.transmits begun.before in
       let counts = (prepared_still c_end slot begun.transmits begun.before).acknowledgement in
       subst (λ (f : EndFacts). IsSoundPlace f (facts_in p)) (sym begun.is) (record {
-        goes_on = (begun_ends_nothing c_end slot begun.transmits begun.before).procedures ∙ before.goes_on;
+        goes_on = still_goes begun.before (central_begun c_end slot begun.transmits begun.before) (begun_ends_nothing c_end slot begun.transmits begun.before).procedures before.goes_on;
         unless_late = inl (open_goes slot begun.before (facts_in p) begun.ends_before);
         agreement = sent_agrees begun.transmits c_end slot ready (facts_in p).acknowledgement
             (subst (λ (a : Acknowledgement). AreInAgreement a (facts_in p).acknowledgement) (sym counts) before.agreement);
@@ -107,7 +108,7 @@ module _ (whole : IsHeardWhole) (c_end p_end : EndSetup) (ends : AreEnds c_end p
 
   begun_sound : (slot : ℕ) (doing : Doing) (c p : OpenLink) → AreBothBegun c_end p_end p_handle slot doing c p → IsSoundPlace (facts_in c) (facts_in p)
   begun_sound slot doing c p both =
-      answered_sound slot false (facts_in c) (facts_in p) (peripheral_unheard whole c_end p_end ends slot both.transmits both.listens (facts_in c) (facts_in p) both.begun)
+      answered_sound slot false (facts_in c) (facts_in p) (peripheral_unheard whole opens_there c_end p_end ends slot both.transmits both.listens (facts_in c) (facts_in p) both.begun)
 
   in_turn_sound : (others phases slot : ℕ) (doing : Doing) (c p : OpenLink) → InTurn c_end p_end p_handle others phases slot doing c p → IsSoundPlace (facts_in c) (facts_in p)
   in_turn_sound zero phases slot doing c p both = begun_sound slot doing c p both
@@ -123,50 +124,26 @@ module _ (whole : IsHeardWhole) (c_end p_end : EndSetup) (ends : AreEnds c_end p
       absurd (let none = lasting_took_none c c_lasts in
       let h : true ≡ false = sym parting.took.took ∙ ap (λ (o : Option ErrCode). is_some o) none in absurd cc)
 
--- ---- where a call stands, and the link on which it listens
-
-pub listens_by : (handle : ℕ) (doing : Doing) → link_listened doing ≡ Some handle → listens_under handle doing ≡ true
-listens_by handle (CentralListens other) is = let same : other ≡ handle = cc in eq-eqb other handle same
-listens_by handle (PeripheralListens other) is = let same : other ≡ handle = cc in eq-eqb other handle same
-listens_by handle (Advertises channel) is = absurd cc
-listens_by handle other is = absurd cc
-
-pub on_link : (handle : ℕ) (doing : Doing) → link_listened doing ≡ Some handle → is_on_link doing ≡ true
-on_link handle (CentralListens other) is = refl
-on_link handle (PeripheralListens other) is = refl
-on_link handle (Advertises channel) is = absurd cc
-on_link handle other is = absurd cc
-
-pub phase_of : (b : Bool) (phases turns : ℕ) (past : List Step) → standing past ≡ Some (if b then at_stage (Within (suc phases)) turns else at_stage (Within phases) turns)
-    → standing past ≡ Some (at_stage (Within (if b then suc phases else phases)) turns)
-phase_of true phases turns past is = is
-phase_of false phases turns past is = is
-
-pub not_new : (X : Type 0) (opened slot turns : ℕ) → opened < slot → slot + 1 ≡ turns → opened + 1 ≡ turns → X
-not_new X opened slot turns before is new = absurd (omega (arith, before, is, new))
-
 -- ---- at a place of a run
 
-module _ (whole : IsHeardWhole) (understood : IsUnderstood) (taken : AreTaken) (given : Given) (six : HaveAddresses given) (distinct : AreDistinct given.stations)
+module _ (whole : IsHeardWhole) (opens_there : IsOpenedThere) (understood : IsUnderstood) (taken : AreTaken) (given : Given) (six : HaveAddresses given) (distinct : AreDistinct given.stations)
     (asks : AsksMayCome given) (before rest : List Event) (at : history_of (run_of given) ≡ before ++ rest) (central peripheral : OpenEnd)
     (in_it : is_in central.station given.stations ≡ true) (in_too : is_in peripheral.station given.stations ≡ true)
     (of_one : AreEndsIn before central peripheral) (is_open : IsOpen given before central) (is_open_too : IsOpen given before peripheral)
-    (hear : HearEachInTurn given before central peripheral) where
+    (hear : HearEachInTurn given before central peripheral) (none_mixed : HearNoMixed given before central peripheral) where
   abbrev c_here : EndSetup
   c_here = central.link.setup
 
   abbrev p_here : EndSetup
   p_here = peripheral.link.setup
 
-  side_at : (station : ℕ) (somewhere : StandsSomewhere (past_of station before)) → StationAt (setup_at given station) somewhere.at.stage somewhere.at.begun (facts_at given station before)
-  side_at station somewhere =
-      let setup = setup_at given station in
-      turned setup (StationAt setup) (station_kept taken setup) (past_of station before) somewhere.at (station_first setup) somewhere.is
+  stands : (station : ℕ) (somewhere : StandsSomewhere (past_of station before)) → StationAt (setup_at given station) somewhere.at.stage somewhere.at.begun (facts_at given station before)
+  stands station somewhere = side_at taken given before station somewhere.at somewhere.is
 
   set_up : (end : OpenEnd) → is_in end.station given.stations ≡ true → IsOpen given before end → IsSetUp end.link
   set_up end is_one opened =
       open_has IsSetUp 0 end.handle (facts_at given end.station before).links end.link
-      (side_at end.station (stands_in_run given before rest end.station distinct is_one at)).each opened
+      (stands end.station (stands_in_run given before rest end.station distinct is_one at)).each opened
 
   pub pair_ends : AreEnds c_here p_here
   pair_ends =
@@ -183,7 +160,7 @@ module _ (whole : IsHeardWhole) (understood : IsUnderstood) (taken : AreTaken) (
   kept_here : ByStanding c_here p_here peripheral.handle (standing (past_of central.station before)) (standing (past_of peripheral.station before))
       (facts_at given peripheral.station before).turn.doing central.link peripheral.link
   kept_here =
-      kept_to whole taken given distinct central peripheral pair_ends in_it in_too asks (apart_ends before central peripheral of_one) before rest at hear before []
+      kept_to whole opens_there taken given distinct central peripheral pair_ends in_it in_too asks (apart_ends before central peripheral of_one) before rest at hear none_mixed before []
       (sym (append-nil before)) central.link peripheral.link is_open refl is_open_too refl
 
   pub open_linked : (slot : ℕ) → AllBetween given before slot → AreOpenEnds c_here p_here slot (facts_in central.link) (facts_in peripheral.link)
@@ -193,7 +170,7 @@ module _ (whole : IsHeardWhole) (understood : IsUnderstood) (taken : AreTaken) (
 
   pub lasting_sound : (slot : ℕ) → AllBetween given before slot → is_lasting (facts_in central.link) ≡ true → is_lasting (facts_in peripheral.link) ≡ true
       → AreSoundEnds c_here p_here (facts_in central.link) (facts_in peripheral.link)
-  lasting_sound slot between = open_ends_sound whole c_here p_here pair_ends peripheral.handle slot (facts_in central.link) (facts_in peripheral.link) (open_linked slot between)
+  lasting_sound slot between = open_ends_sound whole opens_there c_here p_here pair_ends peripheral.handle slot (facts_in central.link) (facts_in peripheral.link) (open_linked slot between)
 
   -- ---- at any place
 
@@ -201,15 +178,15 @@ module _ (whole : IsHeardWhole) (understood : IsUnderstood) (taken : AreTaken) (
       → StationAt (setup_at given peripheral.station) other others (facts_at given peripheral.station before)
       → AtPlace c_here p_here peripheral.handle one other turns others (facts_at given peripheral.station before).turn.doing central.link peripheral.link
       → IsSoundPlace (facts_in central.link) (facts_in peripheral.link)
-  place_sound Between Between turns others side far stand = open_sound whole c_here p_here pair_ends peripheral.handle turns (facts_in central.link) (facts_in peripheral.link) stand
-  place_sound Between (Within zero) turns others side far stand = peripheral_begun_sound whole c_here p_here pair_ends peripheral.handle turns _ central.link peripheral.link stand
+  place_sound Between Between turns others side far stand = open_sound whole opens_there c_here p_here pair_ends peripheral.handle turns (facts_in central.link) (facts_in peripheral.link) stand
+  place_sound Between (Within zero) turns others side far stand = peripheral_begun_sound whole opens_there c_here p_here pair_ends peripheral.handle turns _ central.link peripheral.link stand
   place_sound Between (Within (suc phases)) turns others side far stand =
       let slot = (facts_at given peripheral.station before).turn.slot in
-      heard_sound whole c_here p_here pair_ends peripheral.handle slot (facts_in central.link) (facts_in peripheral.link) (stand.heard slot (sym far.holds.phased.uses.in_turn.slot_is))
-  place_sound (Within zero) Between turns others side far stand = central_begun_sound whole c_here p_here pair_ends peripheral.handle others central.link peripheral.link stand
+      heard_sound whole opens_there c_here p_here pair_ends peripheral.handle slot (facts_in central.link) (facts_in peripheral.link) (stand.heard slot (sym far.holds.phased.uses.in_turn.slot_is))
+  place_sound (Within zero) Between turns others side far stand = central_begun_sound whole opens_there c_here p_here pair_ends peripheral.handle others central.link peripheral.link stand
   place_sound (Within (suc phases)) Between turns others side far stand =
       let slot = (facts_at given central.station before).turn.slot in
-      heard_sound whole c_here p_here pair_ends peripheral.handle slot (facts_in central.link) (facts_in peripheral.link) (stand.heard slot (sym side.holds.phased.uses.in_turn.slot_is))
+      heard_sound whole opens_there c_here p_here pair_ends peripheral.handle slot (facts_in central.link) (facts_in peripheral.link) (stand.heard slot (sym side.holds.phased.uses.in_turn.slot_is))
   place_sound (Within phases) (Within other) turns others side far stand = by stand.1
     where
       slot_here : (facts_at given central.station before).turn.slot + 1 ≡ turns
@@ -225,20 +202,20 @@ module _ (whole : IsHeardWhole) (understood : IsUnderstood) (taken : AreTaken) (
           → IsSoundPlace (facts_in central.link) (facts_in peripheral.link)
       by (inr stands) =
           let slot = (facts_at given central.station before).turn.slot in
-          in_turn_sound whole c_here p_here pair_ends peripheral.handle other phases slot _ central.link peripheral.link (stands slot (sym slot_here))
+          in_turn_sound whole opens_there c_here p_here pair_ends peripheral.handle other phases slot _ central.link peripheral.link (stands slot (sym slot_here))
       by (inl new) =
           let slot = (facts_at given central.station before).turn.slot in
           let opened : c_here.opened ≡ slot = one_slot c_here.opened slot turns new slot_here in
           let there : c_here.opened ≡ (facts_at given peripheral.station before).turn.slot = one_slot c_here.opened _ turns new slot_there in
-          heard_sound whole c_here p_here pair_ends peripheral.handle slot (facts_in central.link) (facts_in peripheral.link)
-          (both_new whole taken given distinct central peripheral pair_ends in_it in_too asks slot central.link peripheral.link refl refl
+          heard_sound whole opens_there c_here p_here pair_ends peripheral.handle slot (facts_in central.link) (facts_in peripheral.link)
+          (both_new whole opens_there taken given distinct central peripheral pair_ends in_it in_too asks slot central.link peripheral.link refl refl
           (side.new central.handle central.link is_open opened) (far.new peripheral.handle peripheral.link is_open_too (sym pair_ends.one_link.opened ∙ there)) opened)
 
   pub sound_here : IsSoundPlace (facts_in central.link) (facts_in peripheral.link)
   sound_here =
       let one = stands_in_run given before rest central.station distinct in_it at in
       let other = stands_in_run given before rest peripheral.station distinct in_too at in
-      place_sound one.at.stage other.at.stage one.at.begun other.at.begun (side_at central.station one) (side_at peripheral.station other)
+      place_sound one.at.stage other.at.stage one.at.begun other.at.begun (stands central.station one) (stands peripheral.station other)
       (at_standing c_here p_here peripheral.handle one.at other.at _ _ _ central.link peripheral.link one.is other.is kept_here)
 
   pub goes_on_here : GoOnUnlessLate (record { central = Some (facts_in central.link); peripheral = Some (facts_in peripheral.link) })
@@ -247,6 +224,13 @@ module _ (whole : IsHeardWhole) (understood : IsUnderstood) (taken : AreTaken) (
   pub terminated_here : AreTerminated (record { central = Some (facts_in central.link); peripheral = Some (facts_in peripheral.link) })
   terminated_here = are_terminated (Some (facts_in central.link)) (Some (facts_in peripheral.link)) goes_on_here
 
+  pub delivered_here : IsDelivered (facts_in central.link) (facts_in peripheral.link) × IsDelivered (facts_in peripheral.link) (facts_in central.link)
+  delivered_here = (
+    past_delivered c_here central.link.past (facts_in peripheral.link) sound_here.agreement,
+    past_delivered p_here peripheral.link.past (facts_in central.link)
+        (turned (facts_in central.link).acknowledgement (facts_in peripheral.link).acknowledgement sound_here.agreement),
+  )
+
   -- ---- a packet of the far end
 
   module _ (octets : List ℕ) (later : List Event) where
@@ -254,83 +238,22 @@ module _ (whole : IsHeardWhole) (understood : IsUnderstood) (taken : AreTaken) (
     module _ (heard_at : history_of (run_of given) ≡ before ++ Called peripheral.station (PacketHeard octets) ∷ later)
         (listens : link_listened (facts_at given peripheral.station before).turn.doing ≡ Some peripheral.handle)
         (sent : HasSentNow given before peripheral central (facts_in peripheral.link).event.channel octets) where
-      abbrev facts_p : Facts
-      facts_p = facts_at given peripheral.station before
-
-      p_stands : StandsInPhase given before peripheral.station
-      p_stands = stands_called given before later peripheral.station (PacketHeard octets) distinct heard_at
-
-      p_side : StationAt (setup_at given peripheral.station) (Within p_stands.phases) p_stands.turns facts_p
-      p_side = side_at peripheral.station (record { at = _; is = p_stands.stand.own })
-
-      p_first : p_stands.phases ≡ 0
-      p_first = peripheral_takes_in facts_p.links peripheral.handle peripheral.link is_open_too p_stands.phases facts_p.turn.doing
-          (in_phase (setup_at given peripheral.station) (past_of peripheral.station before) p_stands.phases p_stands.turns p_stands.stand.own)
-          (listens_by peripheral.handle facts_p.turn.doing listens) of_one.is_peripheral
-
-      p_begun : (n i : ℕ) → n ≡ 0 → NewOr c_here p_here peripheral.handle p_stands.turns (λ slot. InTurn c_here p_here peripheral.handle n i slot facts_p.turn.doing central.link peripheral.link)
-          → AreBothBegun c_here p_here peripheral.handle facts_p.turn.slot facts_p.turn.doing central.link peripheral.link
-      p_begun zero i is (inr stands) = stands facts_p.turn.slot (sym p_side.holds.phased.uses.in_turn.slot_is)
-      p_begun zero i is (inl new) =
-          let old = open_has (OpenedBefore facts_p.turn.slot) 0 peripheral.handle facts_p.links peripheral.link (p_side.station.old (on_link peripheral.handle facts_p.turn.doing
-          listens)) is_open_too in
-          not_new _ p_here.opened facts_p.turn.slot p_stands.turns old p_side.holds.phased.uses.in_turn.slot_is (ap (λ n. n + 1) (sym pair_ends.one_link.opened) ∙ new)
-      p_begun (suc n) i is stands = absurd (omega (arith, is))
-
-      pub peripheral_understands : verdict_of p_here (facts_in peripheral.link) octets ≡ Good
+      pub peripheral_understands : IsJudged p_here (facts_in peripheral.link) octets
       peripheral_understands =
-          let b = p_stands.stand.was_called central.station in
-          let i = if b then suc p_stands.phases else p_stands.phases in
-          let place = at_standing c_here p_here peripheral.handle (at_stage (Within i) p_stands.turns) (at_stage (Within p_stands.phases) p_stands.turns) _ _ _ central.link peripheral.link
-          (phase_of b p_stands.phases p_stands.turns (past_of central.station before) (p_stands.stand.others central.station in_it)) p_stands.stand.own kept_here in
-          let both = p_begun p_stands.phases i p_first place.1 in
-          let slot = facts_p.turn.slot in
           let packet = packet_now given before rest peripheral central (facts_in peripheral.link) octets central.link distinct in_it at is_open refl sent in
-          let c = facts_in central.link in
-          let p = facts_in peripheral.link in
-          let begun = subst (λ b. AreBegunEnds c_here p_here slot b true c p) (both.sends packet.front packet.last)
-          (subst (λ b. AreBegunEnds c_here p_here slot both.transmits b c p) (both.hears (listens_by peripheral.handle facts_p.turn.doing listens)) both.begun) in
-          peripheral_judges whole c_here p_here pair_ends slot c p packet.channel octets true packet.packet packet.same begun
+          peripheral_judges whole opens_there c_here p_here pair_ends (facts_at given peripheral.station before).turn.slot (facts_in central.link)
+          (facts_in peripheral.link) packet.channel octets true packet.packet packet.same
+          (begun_now taken given distinct before later octets central peripheral pair_ends in_it in_too central.link peripheral.link is_open refl is_open_too refl
+          kept_here heard_at listens packet)
 
     -- the central hears the peripheral
     module _ (heard_at : history_of (run_of given) ≡ before ++ Called central.station (PacketHeard octets) ∷ later)
         (listens : link_listened (facts_at given central.station before).turn.doing ≡ Some central.handle)
         (sent : HasSentNow given before central peripheral (facts_in central.link).event.channel octets) where
-      abbrev facts_c : Facts
-      facts_c = facts_at given central.station before
-
-      c_stands : StandsInPhase given before central.station
-      c_stands = stands_called given before later central.station (PacketHeard octets) distinct heard_at
-
-      c_side : StationAt (setup_at given central.station) (Within c_stands.phases) c_stands.turns facts_c
-      c_side = side_at central.station (record { at = _; is = c_stands.stand.own })
-
-      c_second : c_stands.phases ≡ 1
-      c_second = central_takes_in facts_c.links central.handle central.link is_open c_stands.phases facts_c.turn.doing
-          (in_phase (setup_at given central.station) (past_of central.station before) c_stands.phases c_stands.turns c_stands.stand.own)
-          (listens_by central.handle facts_c.turn.doing listens) of_one.is_central
-
-      c_done : (n : ℕ) (b : Bool) (doing : Doing) → n ≡ 1
-          → NewOr c_here p_here peripheral.handle c_stands.turns (λ slot. InTurn c_here p_here peripheral.handle (if b then suc n else n) n slot doing central.link peripheral.link)
-          → IsPeripheralDone c_here p_here peripheral.handle facts_c.turn.slot central.link peripheral.link
-      c_done zero b doing is stands = absurd (omega (arith, is))
-      c_done (suc zero) true doing is (inr stands) = stands facts_c.turn.slot (sym c_side.holds.phased.uses.in_turn.slot_is)
-      c_done (suc zero) false doing is (inr stands) = stands facts_c.turn.slot (sym c_side.holds.phased.uses.in_turn.slot_is)
-      c_done (suc zero) b doing is (inl new) =
-          let old = open_has (OpenedBefore facts_c.turn.slot) 0 central.handle facts_c.links central.link (c_side.station.old (on_link central.handle facts_c.turn.doing listens)) is_open in
-          not_new _ c_here.opened facts_c.turn.slot c_stands.turns old c_side.holds.phased.uses.in_turn.slot_is new
-      c_done (suc (suc n)) b doing is stands = absurd (omega (arith, is))
-
-      pub central_understands : verdict_of c_here (facts_in central.link) octets ≡ Good
+      pub central_understands : IsJudged c_here (facts_in central.link) octets
       central_understands =
-          let b = c_stands.stand.was_called peripheral.station in
-          let j = if b then suc c_stands.phases else c_stands.phases in
-          let place = at_standing c_here p_here peripheral.handle (at_stage (Within c_stands.phases) c_stands.turns) (at_stage (Within j) c_stands.turns) _ _ _ central.link peripheral.link
-          c_stands.stand.own (phase_of b c_stands.phases c_stands.turns (past_of peripheral.station before) (c_stands.stand.others peripheral.station in_too)) kept_here in
-          let done = c_done c_stands.phases b _ c_second place.1 in
-          let slot = facts_c.turn.slot in
           let packet = packet_now given before rest central peripheral (facts_in central.link) octets peripheral.link distinct in_too at is_open_too refl sent in
-          let c = facts_in central.link in
-          let p = facts_in peripheral.link in
-          central_judges whole c_here p_here pair_ends slot c p packet.channel octets true packet.packet packet.same
-          (subst (λ b. AreAnsweredEnds c_here p_here slot b c p) (done.sends packet.front packet.last) done.answered_so)
+          central_judges whole opens_there c_here p_here pair_ends (facts_at given central.station before).turn.slot (facts_in central.link)
+          (facts_in peripheral.link) packet.channel octets true packet.packet packet.same
+          (answered_now taken given distinct before later octets central peripheral pair_ends in_it in_too central.link peripheral.link is_open refl is_open_too refl
+          kept_here heard_at listens packet)

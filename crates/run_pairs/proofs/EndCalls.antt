@@ -1,7 +1,7 @@
 -- What a call does to one end of a link, in the words of the laws of two ends.
-use Rattle.std.proofs.Common.{◌≡◌, ◌⊎◌, inl, inr, ℕ, ◌+◌, ◌≤◌, ◌==◌, ◌&&◌, Bool, true, false, Option, Some, None, is_none, List, refl, sym, ap, subst, ◌∙◌, arith}
+use Rattle.std.proofs.Common.{◌≡◌, ◌⊎◌, inl, inr, ℕ, ◌+◌, ◌≤◌, ◌==◌, ◌&&◌, Bool, true, false, Option, Some, None, List, refl, sym, ap, subst, ◌∙◌, arith}
 use Rattle.std.proofs.lemmas.Bool.{eqb-true, ltb-true}
-use Rattle.std.specs.Prelude.{IfSome, if◌then◌else◌}
+use Rattle.std.specs.Prelude.{if◌then◌else◌}
 use Rattle.ble_base.specs.declared.roles.Role.{Role}
 use Rattle.ble_base.specs.declared.roles.Role.TheVariants.{Central, Peripheral}
 use Rattle.ble_base.specs.declared.verdicts.Verdict.TheVariants.{Broken as BrokenPacket, Forged, Good}
@@ -17,8 +17,7 @@ use Rattle.link_calls.specs.link_model.Packets.{good_pdu, heard_of, is_forged, i
 use Rattle.link_calls.specs.link_model.Payload.{opens_now}
 use Rattle.link_calls.specs.link_model.Receiving.{facts_forged_if, facts_received, has_ended, replies_by, replies_of}
 use Rattle.link_calls.specs.link_model.Setup.{Setup as EndSetup}
-use Rattle.link_calls.specs.link_model.Hosts.{facts_key_answered}
-use Rattle.link_calls.specs.link_model.Step.{Step as EndStep, EventEntered, KeyAnswered, PacketReceived, PacketSent, PduFixed, RequestAnswered}
+use Rattle.link_calls.specs.link_model.Step.{Step as EndStep, EventEntered, PacketReceived, PacketSent, PduFixed}
 use Rattle.link_calls.specs.link_model.Verdicts.{has_room_for, pdu_by, verdict_by, whole_in}
 use Rattle.link_calls.specs.open_links.OpenLinks.{Links, OpenLink, facts_in, has_entered, link_after, link_at}
 use Rattle.link_calls.specs.open_links.Turns.{entered_if, is_anchor, link_entered}
@@ -28,7 +27,7 @@ use Rattle.link_calls.specs.controller_model.declared.doing.Doing.TheVariants.{A
 use Rattle.link_calls.specs.controller_model.Facts.{Setup, Facts}
 use Rattle.link_calls.specs.controller_model.Side.{facts_after}
 use Rattle.link_calls.specs.controller_model.Step.{TurnBegins}
-use Rattle.link_calls.specs.Phases.{base_receiving, link_worded, refusal, refusal_at, refused_if}
+use Rattle.link_calls.specs.Phases.{base_receiving, link_worded, refusal_at, refused_if}
 use Rattle.link_runs.specs.link_pairs.Hearing.{received}
 use Rattle.link_runs.specs.link_pairs.Turns.{MayExchange, entered_in, prepared}
 use Rattle.link_runs.specs.link_pairs.Turns as turns
@@ -41,13 +40,10 @@ use Rattle.link_calls.proofs.controller_model.Exchanges.{exchange_has_entered}
 use Rattle.link_calls.specs.controller_model.Entering.{HasEntered, IsInEvent}
 use Rattle.link_calls.specs.controller_model.Radio.{outcome_begun}
 use Rattle.link_calls.proofs.LinkCalls.{begins_under}
-use Rattle.link_calls.proofs.AtOnce.{IsRefusal, refusal_is}
-use Rattle.run_pairs.proofs.AtOnce.{is_request_refused, refuses_at}
 use Rattle.run_pairs.proofs.OneSide.{LastBefore, begun_last}
 use Rattle.link_calls.specs.Turns.{fixed_if, sent_if}
 use Rattle.link_calls.specs.Uses.{fixes_under, listens_under, sends_under}
 use Rattle.run_pairs.proofs.LinkSteps.{base_under}
-use Rattle.run_pairs.proofs.Unencrypted.{key_lacked}
 
 -- ---- a turn begins
 
@@ -237,6 +233,31 @@ good_or_unheard setup slot octets room facts none_forged = got (of (heard_of set
           ∙ none_replies setup.link.role _;
     })
 
+-- and a good one is not forged
+pub good_genuine : (setup : EndSetup) (octets : List ℕ) (facts : EndFacts) → verdict_of setup facts octets ≡ Good → is_forged setup facts octets ≡ false
+unfolding good_pdu verdict_of whole_pdu is_forged
+good_genuine setup octets facts good = of (heard_of setup facts octets) good
+  where
+    most : ℕ
+    most = setup.link.max_rx
+
+    opens : Bool
+    opens = opens_now facts.encryption.end
+
+    read : (forged : Bool) → (if forged then Forged else Good) ≡ Good → forged ≡ false
+    read true is = absurd (cc)
+    read false is = refl
+
+    at : (fits : Bool) (pdu : List ℕ) → (if fits then (if is_forged_pdu facts pdu then Forged else Good) else BrokenPacket) ≡ Good
+        → is_forged_in facts (pdu_by fits pdu) ≡ false
+    at true pdu is = read (is_forged_pdu facts pdu) is
+    at false pdu is = refl
+
+    of : (heard : Heard) → verdict_by most opens (is_forged_pdu facts) heard ≡ Good → is_forged_in facts (whole_in most opens heard) ≡ false
+    of NotOurs is = refl
+    of Broken is = refl
+    of (Whole pdu) is = at (has_room_for most opens pdu.items) pdu.items is
+
 central_silent_by : (role : Role) (ended : Bool) (pdu : Option (List ℕ)) → role ≡ Central → replies_by role ended pdu ≡ false
 central_silent_by Central ended pdu is = refl
 central_silent_by Peripheral ended pdu is = absurd cc
@@ -246,33 +267,27 @@ pub central_silent : (setup : EndSetup) (slot : ℕ) (octets : List ℕ) (room :
 unfolding replies_of
 central_silent setup slot octets room facts is = central_silent_by setup.link.role _ _ is
 
-abbrev pub refused_facts : Bool → EndSetup → EndFacts → EndFacts
-refused_facts refuses setup facts = if refuses then end_after setup facts (RequestAnswered refusal) else facts
+-- it answers at once in place of its host, or does not
+abbrev pub refused_facts : Option EndStep → EndSetup → EndFacts → EndFacts
+refused_facts None setup facts = facts
+refused_facts (Some step) setup facts = end_after setup facts step
 
--- to answer a request for a key that no host was asked for changes nothing
 pub receiving_facts : (handle : ℕ) (room : Bool) (octets : List ℕ) (facts : Facts) (base : OpenLink)
     → facts_in (base_receiving handle room octets facts base)
-    ≡ refused_facts (refuses_at handle room octets facts base) base.setup (received base.setup facts.turn.slot octets room (facts_in base))
-receiving_facts handle room octets facts base = by (refusal_at handle room octets facts base) (refusal_is handle room octets facts base)
+    ≡ refused_facts (refusal_at handle room octets facts base) base.setup (received base.setup facts.turn.slot octets room (facts_in base))
+receiving_facts handle room octets facts base = by (refusal_at handle room octets facts base)
   where
-    by : (answer : Option EndStep) → IfSome answer IsRefusal → facts_in (refused_if answer (link_after (PacketReceived facts.turn.slot octets room) base))
-        ≡ refused_facts (is_request_refused answer) base.setup (received base.setup facts.turn.slot octets room (facts_in base))
-    by None is = step_facts base (PacketReceived facts.turn.slot octets room)
-    by (Some (RequestAnswered answer)) is =
-        step_facts (link_after (PacketReceived facts.turn.slot octets room) base) (RequestAnswered answer)
-        ∙ ap (λ a. end_after base.setup (facts_in (link_after (PacketReceived facts.turn.slot octets room) base)) (RequestAnswered a)) is
-        ∙ ap (λ (f : EndFacts). end_after base.setup f (RequestAnswered refusal)) (step_facts base (PacketReceived facts.turn.slot octets room))
-    by (Some (KeyAnswered key slot)) is =
-        step_facts (link_after (PacketReceived facts.turn.slot octets room) base) (KeyAnswered key slot)
-        ∙ ap (λ k. facts_key_answered k slot (facts_in (link_after (PacketReceived facts.turn.slot octets room) base))) is
-        ∙ key_lacked slot (link_after (PacketReceived facts.turn.slot octets room) base)
-        ∙ step_facts base (PacketReceived facts.turn.slot octets room)
-    by (Some other) is = absurd is
+    by : (answer : Option EndStep) → facts_in (refused_if answer (link_after (PacketReceived facts.turn.slot octets room) base))
+        ≡ refused_facts answer base.setup (received base.setup facts.turn.slot octets room (facts_in base))
+    by None = step_facts base (PacketReceived facts.turn.slot octets room)
+    by (Some step) =
+        step_facts (link_after (PacketReceived facts.turn.slot octets room) base) step
+        ∙ ap (λ (f : EndFacts). end_after base.setup f step) (step_facts base (PacketReceived facts.turn.slot octets room))
 
 pub taking_facts : (sends : Bool) (handle : ℕ) (room : Bool) (octets : List ℕ) (facts : Facts) (base : OpenLink)
     → facts_in (sent_if sends facts.turn.slot (base_receiving handle room octets facts base))
     ≡ turns.sent_if sends base.setup facts.turn.slot
-    (refused_facts (refuses_at handle room octets facts base) base.setup (received base.setup facts.turn.slot octets room (facts_in base)))
+    (refused_facts (refusal_at handle room octets facts base) base.setup (received base.setup facts.turn.slot octets room (facts_in base)))
 taking_facts sends handle room octets facts base =
     sent_facts sends base.setup facts.turn.slot (base_receiving handle room octets facts base)
     ∙ ap (λ (f : EndFacts). turns.sent_if sends base.setup facts.turn.slot f) (receiving_facts handle room octets facts base)

@@ -1,8 +1,10 @@
 -- What a station of two hears on a link was sent by the other one in the same turn, at the far end of that link.
 use Rattle.std.proofs.Common.{◌≡◌, ℕ, zero, suc, ◌+◌, ◌^◌, ◌<◌, ◌==◌, inl, inr, true, false, Some, List, ◌∷◌, ◌++◌, length, take, refl, sym, ap, subst, ◌∙◌, append_assoc, arith}
 use Rattle.ble_base.specs.declared.roles.Role.TheVariants.{Central, Peripheral}
+use Rattle.ble_base.specs.declared.verdicts.Verdict.TheVariants.{Forged}
 use Rattle.adv_pdu.specs.declared.pdu.ConnectFields.{ConnectFields}
 use Rattle.air_frame.specs.Packet.{access_octets}
+use Rattle.link_calls.specs.link_model.Packets.{verdict_of}
 use Rattle.link_calls.specs.link_model.Setup.{Setup as EndSetup}
 use Rattle.link_calls.specs.link_model.Step.{PacketSent}
 use Rattle.link_calls.specs.open_links.OpenLinks.{OpenLink, facts_in, link_after, link_at}
@@ -13,6 +15,7 @@ use Rattle.link_calls.specs.run_model.Feeding.{AreDistinct}
 use Rattle.link_calls.specs.run_model.History.{Event, Called, Transmitted, turns_begun}
 use Rattle.link_calls.specs.run_model.LinkEnds.{HasConnectInd, HaveAddresses}
 use Rattle.link_calls.specs.run_model.Run.{Given, facts_at, history_of, run_of, setup_at}
+use Rattle.link_calls.proofs.run_model.Handing.{IsUnforged}
 use Rattle.link_calls.proofs.run_model.LinkEnds.{AreTaken, IsUnderstood, has_connect_ind}
 use Rattle.link_calls.proofs.run_model.OfStations.{OfStations, run_of_stations}
 use Rattle.link_calls.proofs.run_model.Places.{each_at}
@@ -22,7 +25,7 @@ use Rattle.link_calls.specs.run_laws.Ends.{HasSent, HaveOneConnectInd, IsOpen, O
 use Rattle.link_calls.proofs.run_laws.ChSel.{one_channel}
 use Rattle.link_calls.proofs.run_laws.DistinctAccess.{AreApart, sent_distinct, sent_in_order}
 use Rattle.link_calls.proofs.run_laws.EachCall.{IsPhase, call_at}
-use Rattle.link_calls.proofs.run_laws.OwnLinks.{ListensAs, access_below, at_central, at_peripheral, is_addressed, listens_as, listens_for, neither_less, not_same, same_access, same_front, sent_begins}
+use Rattle.link_calls.proofs.run_laws.OwnLinks.{ListensAs, access_below, at_central, at_peripheral, good_unforged, is_addressed, listens_as, listens_for, neither_less, not_same, same_access, same_front, sent_begins, unforged_there}
 use Rattle.link_calls.proofs.run_laws.LinkPhases.{SendsAs}
 use Rattle.link_calls.proofs.run_laws.SameEvent.{one_event}
 use Rattle.link_calls.proofs.run_laws.TwoStations.{AreTwo, differs_back}
@@ -116,7 +119,8 @@ module _ (understood : IsUnderstood) (taken : AreTaken) (apart : AreApart) (give
 module _ (understood : IsUnderstood) (taken : AreTaken) (apart : AreApart) (given : Given) (six : HaveAddresses given) (distinct : AreDistinct given.stations)
     (two : AreTwo given) (before rest : List Event) (station : ℕ) (octets : List ℕ) (at : history_of (run_of given) ≡ before ++ Called station (PacketHeard octets) ∷ rest)
     (link : OpenLink) (handle : ℕ) (listening : link_listened (facts_at given station before).turn.doing ≡ Some handle)
-    (is_open : link_at handle (facts_at given station before).links ≡ Some link) (begins : take 4 octets ≡ access_octets link.setup.link.fields.access) where
+    (is_open : link_at handle (facts_at given station before).links ≡ Some link) (begins : take 4 octets ≡ access_octets link.setup.link.fields.access)
+    (unforged : IsUnforged (facts_at given station before) octets) where
   call : IsPhase given before station (Some octets)
   call = call_at given before rest station (PacketHeard octets) six distinct at
 
@@ -153,7 +157,7 @@ module _ (understood : IsUnderstood) (taken : AreTaken) (apart : AreApart) (give
       record { fields = sym one.fields; opened = sym one.opened }
 
   of_far_end : IsOfFarEnd
-  of_far_end = by sent.sent
+  of_far_end = by (sent.sent unforged)
     where
       by : IsOnAirNow sent.phases (facts_at given sent.sender before) sent.channel octets → IsOfFarEnd
       by (inl air) =
@@ -198,7 +202,9 @@ hears_in_turn understood taken apart given six distinct two history rest at end 
     let event = Called end.station (PacketHeard octets) in
     let place : history_of (run_of given) ≡ before ++ event ∷ (after ++ rest) = at ∙ ap (λ events. events ++ rest) is ∙ append_assoc before (event ∷ after) rest in
     just_sent understood taken apart given six distinct two before (after ++ rest) end.station octets place link takes.handle takes.listens takes.is_open
-    (is_addressed link.setup (facts_in link) octets takes.is_good) end far refl in_it differs
+    (is_addressed link.setup (facts_in link) octets takes.is_good)
+    (good_unforged (facts_at given end.station before) takes.handle link octets takes.listens takes.is_open takes.is_good)
+    end far refl in_it differs
     (record { fields = own.fields ∙ same.fields; opened = own.opened ∙ same.opened })
 
 pub hear_in_turn : IsUnderstood → AreTaken → AreApart → (given : Given) → HaveAddresses given → AreDistinct given.stations → AreTwo given → (history rest : List Event)
@@ -214,9 +220,10 @@ hear_in_turn understood taken apart given six distinct two history rest at one o
 pub sent_in_turn : IsUnderstood → AreTaken → AreApart → (given : Given) → HaveAddresses given → AreDistinct given.stations → AreTwo given → (before rest : List Event)
     (octets : List ℕ) (end far : OpenEnd) → history_of (run_of given) ≡ before ++ Called end.station (PacketHeard octets) ∷ rest → is_in far.station given.stations ≡ true
     → (end.station == far.station) ≡ false → HaveOneConnectInd end.link.setup far.link.setup → IsOpen given before end
-    → link_listened (facts_at given end.station before).turn.doing ≡ Some end.handle → HasSent given before far (facts_in end.link).event.channel octets
-    → HasSentNow given before end far (facts_in end.link).event.channel octets
-sent_in_turn understood taken apart given six distinct two before rest octets end far at in_it differs same opened listening sent =
+    → link_listened (facts_at given end.station before).turn.doing ≡ Some end.handle → (verdict_of end.link.setup (facts_in end.link) octets ≡ Forged → ⊥)
+    → HasSent given before far (facts_in end.link).event.channel octets → HasSentNow given before end far (facts_in end.link).event.channel octets
+sent_in_turn understood taken apart given six distinct two before rest octets end far at in_it differs same opened listening unforged sent =
     let begins = ap (take 4) sent.packet ∙ sent_begins sent.link.setup (facts_in sent.link)
     ∙ ap (λ (f : ConnectFields). access_octets f.access) (sent.is_end.fields ∙ sym same.fields) in
-    just_sent understood taken apart given six distinct two before rest end.station octets at end.link end.handle listening opened begins end far refl in_it differs same
+    just_sent understood taken apart given six distinct two before rest end.station octets at end.link end.handle listening opened begins
+    (unforged_there (facts_at given end.station before) end.handle end.link octets listening opened unforged) end far refl in_it differs same

@@ -1,16 +1,20 @@
 -- The lemmas of this crate.
 pub mod Stages
-pub mod Unencrypted
 pub mod AtOnce
 pub mod Worded
+pub mod WordedNotes
+pub mod Unmixed
 pub mod Refusing
 pub mod LinkSteps
 pub mod CallPlaces
 pub mod OneSide
 pub mod EndCalls
 pub mod PairSteps
+pub mod FarPackets
 pub mod BothEnds
+pub mod HeardNow
 pub mod Conclusions
+pub mod ReadAsSent
 pub mod OnAirNow
 pub mod FarEnds
 pub mod OnTime

@@ -5,12 +5,7 @@ use Rattle.std.proofs.lemmas.Bool.{eqb-true}
 use Rattle.link_calls.specs.link_model.Packets.{packet_sent}
 use Rattle.link_calls.specs.link_model.Step.{PacketSent}
 use Rattle.link_calls.specs.open_links.OpenLinks.{OpenLink, facts_in, link_after, link_at}
-use Rattle.link_calls.specs.controller_model.declared.doing.Doing.{Doing}
-use Rattle.link_calls.specs.controller_model.declared.doing.Doing.TheVariants.{Advertises, CentralSends, PeripheralSends}
 use Rattle.link_calls.specs.controller_model.Facts.{Setup, Facts, Sends, Listens}
-use Rattle.link_calls.specs.controller_model.Heard.{unheard}
-use Rattle.link_calls.specs.controller_model.Outcome.{facts_passed}
-use Rattle.link_calls.specs.controller_model.Sent.{SendsOn}
 use Rattle.link_calls.specs.controller_model.Side.{facts_after, facts_of, notes_after}
 use Rattle.link_calls.specs.controller_model.Step.{Step, HostOctet, TurnBegins, PacketHeard, NothingHeard, TurnEnds}
 use Rattle.link_calls.specs.run_model.Due.{Each}
@@ -19,12 +14,13 @@ use Rattle.link_calls.specs.run_model.History.{Event, TurnBegan, HostFed, Called
 use Rattle.link_calls.specs.run_model.LinkEnds.{HaveAddresses}
 use Rattle.link_calls.specs.run_model.Run.{Given, after_call, after_feed, after_octets, facts_at, hearings_of, history_of, octets_left, run_of, setup_at, step_of, use_at}
 use Rattle.link_calls.proofs.run_model.Calls.{past_other}
+use Rattle.link_calls.proofs.run_model.Handing.{IsUnforged}
 use Rattle.link_calls.proofs.run_model.LinkEnds.{received_by}
 use Rattle.link_calls.proofs.run_model.Places.{each_at, each_called, each_event}
 use Rattle.link_calls.proofs.run_model.Stations.{among, in_more_other, in_more_same, is_in, not_before}
 use Rattle.link_calls.proofs.run_model.Walk.{AtListening, IsKept, IsStopped, IsWhole, Place, ends_with, run_kept}
 use Rattle.link_calls.proofs.run_laws.ByCalls.{first_hears}
-use Rattle.link_calls.proofs.run_laws.Hearings.{AreHearing, Hears, IsPduOnAir, IsUseInPhase, hearing_kept, own_facts, own_hears, sends_deaf, use_in_phase, use_same, wanted_is}
+use Rattle.link_calls.proofs.run_laws.Hearings.{AreHearing, Hears, IsPduOnAir, IsUseInPhase, hearing_kept, own_facts, own_hears, sender_links, sends_deaf, unforged_same, use_in_phase, use_same, wanted_is}
 use Rattle.link_calls.proofs.run_laws.LinkPhases.{IsInPhase, SendsAs, in_phase, sends_as}
 use Rattle.link_calls.proofs.run_laws.SentPackets.{IsLinkSent, IsUseSent}
 use Rattle.link_calls.proofs.run_laws.TurnPlaces.{Within, at_stage, stands_first}
@@ -61,12 +57,6 @@ on_air_now phases facts channel octets uses = by uses.wants
     by (inr sent) = inr (link_now phases facts channel octets uses sent)
 
 -- as the sender takes that it heard nothing, its links stay as they are
-sender_links : (facts : Facts) (handle : ℕ) (doing : Doing) → SendsOn handle doing → (facts_passed (unheard doing facts)).links ≡ facts.links
-sender_links facts handle (CentralSends other) sends = refl
-sender_links facts handle (PeripheralSends other) sends = refl
-sender_links facts handle (Advertises channel) sends = absurd sends
-sender_links facts handle other sends = absurd sends
-
 still_now : (setup : Setup) (phases : ℕ) (facts : Facts) (channel : ℕ) (octets : List ℕ) → IsUseInPhase phases facts channel octets
     → IsOnAirNow phases (facts_after setup facts NothingHeard) channel octets
 still_now setup phases facts channel octets uses = by uses.wants
@@ -96,7 +86,8 @@ record IsHeardSo (given : Given) (phases : ℕ) (called : List ℕ) (history : L
   is_one : is_in sender given.stations ≡ true
   differs : (station == sender) ≡ false
   listens : use_at given station history ≡ Listens channel
-  sent : AirIf (is_in sender called) phases given history sender channel octets
+  -- one that is forged to the station may be damaged
+  sent : IsUnforged (facts_at given station history) octets → AirIf (is_in sender called) phases given history sender channel octets
 
 abbrev HearsSo : Given → ℕ → List ℕ → List Event → ℕ → Type 0
 HearsSo given phases called history station =
@@ -116,7 +107,8 @@ pub record WasSentNow (given : Given) (before : List Event) (station : ℕ) (oct
   pub differs : (station == sender) ≡ false
   pub listens : (facts_at given station before).wanted ≡ Listens channel
   pub phase : IsInPhase phases (facts_at given station before).links (facts_at given station before).turn.doing
-  pub sent : IsOnAirNow phases (facts_at given sender before) channel octets
+  -- one that is forged to the station may be damaged
+  pub sent : IsUnforged (facts_at given station before) octets → IsOnAirNow phases (facts_at given sender before) channel octets
 
 abbrev SentIs : Given → List Event → Event → Type 0
 SentIs given before (Called station (PacketHeard octets)) = WasSentNow given before station octets
@@ -175,7 +167,9 @@ listener_so given phases done station history other out uses hears differs has =
       is_one = heard.is_one;
       differs = heard.differs;
       listens = use_same given other history after (past_other other station step (notes_after (setup_at given station) (facts_at given station history) step) history differs) ∙ heard.listens;
-      sent = sender_by given phases done station history heard.sender heard.channel octets out (uses heard.channel octets) hears (heard.sender == station) refl heard.sent;
+      sent = λ unforged. sender_by given phases done station history heard.sender heard.channel octets out (uses heard.channel octets) hears (heard.sender == station) refl
+          (heard.sent (unforged_same given other history after octets
+          (past_other other station step (notes_after (setup_at given station) (facts_at given station history) step) history differs) unforged));
     }
 
 -- one that is not among those that were called and this one
@@ -214,7 +208,7 @@ heard_now given six phases done left station history hearing hears is_one out (S
       phase = in_phase (setup_at given station) (past_of station history) phases (turns_begun history)
           (hearing.stand station is_one
           ∙ ap (λ b. Some (if b then at_stage (Within (suc phases)) (turns_begun history) else at_stage (Within phases) (turns_begun history))) out);
-      sent = by (is_in heard.sender done) heard.sender heard.channel heard.is_one refl heard.sent;
+      sent = λ unforged. by (is_in heard.sender done) heard.sender heard.channel heard.is_one refl (heard.sent unforged);
     }
   where
     by : (called : Bool) (sender channel : ℕ) → is_in sender given.stations ≡ true → is_in sender done ≡ called → AirIf called phases given history sender channel octets

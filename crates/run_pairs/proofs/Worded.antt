@@ -1,14 +1,15 @@
 -- A peripheral is given words before it hears a packet: with them it would answer LL_ENC_REQ (Core 5.2, volume 6 part B,
 -- section 5.1.3.1). What it hears is the same with them.
-use Rattle.std.proofs.Common.{◌≡◌, ℕ, ◌+◌, ◌%◌, ◌^◌, ◌<◌, List, refl, sym, ap, ◌∙◌, arith}
+use Rattle.std.proofs.Common.{◌≡◌, ℕ, ◌%◌, ◌^◌, ◌<◌, List, refl, ap, ◌∙◌, arith}
 use Rattle.std.proofs.Math.Nat.{mod-lt}
-use Rattle.ble_base.specs.declared.verdicts.Verdict.{Verdict}
 use Rattle.data_pdu.specs.Layouts.{IsCtrl}
 use Rattle.data_pdu.specs.declared.ctrl.Ctrl.TheVariants.{EncRsp}
 use Rattle.link_calls.specs.link_model.Facts.{Facts as EndFacts}
 use Rattle.link_calls.specs.link_model.Hosts.{facts_with_words}
 use Rattle.link_calls.specs.link_model.Packets.{good_pdu, verdict_of, whole_pdu}
 use Rattle.link_calls.specs.link_model.Setup.{Setup as EndSetup}
+use Rattle.link_calls.proofs.link_model.KeyedPasts.{past_in_phase}
+use Rattle.link_runs.specs.link_pairs.Hearing.{is_mixed_packet}
 use Rattle.link_calls.specs.link_model.Step.{WordsGiven}
 use Rattle.link_calls.specs.open_links.OpenLinks.{OpenLink, facts_in, link_after}
 use Rattle.link_calls.specs.controller_model.declared.doing.Doing.{Doing}
@@ -59,6 +60,24 @@ worded_verdict end setup facts doing link octets =
     (λ skd_s iv_s.
     ap (λ (f : EndFacts). verdict_of end f octets) (step_facts link (WordsGiven skd_s iv_s))
     ∙ verdict_same end skd_s iv_s octets (facts_in link))
+
+-- a packet is mixed for it as before
+mixed_same : (end : EndSetup) (skd_s iv_s : ℕ) (octets : List ℕ) (facts sender : EndFacts)
+    → is_mixed_packet end (facts_with_words skd_s iv_s facts) sender octets ≡ is_mixed_packet end facts sender octets
+unfolding is_mixed_packet good_pdu whole_pdu
+mixed_same end skd_s iv_s octets facts sender = refl
+
+pub worded_mixed : (end : EndSetup) (setup : Setup) (facts : Facts) (doing : Doing) (link : OpenLink) (sender : EndFacts) (octets : List ℕ)
+    → is_mixed_packet end (facts_in (link_worded setup facts doing link)) sender octets ≡ is_mixed_packet end (facts_in link) sender octets
+worded_mixed end setup facts doing link sender octets =
+    each_worded (λ base. is_mixed_packet end (facts_in base) sender octets ≡ is_mixed_packet end (facts_in link) sender octets) setup facts doing link refl
+    (λ skd_s iv_s.
+    ap (λ (f : EndFacts). is_mixed_packet end f sender octets) (step_facts link (WordsGiven skd_s iv_s))
+    ∙ mixed_same end skd_s iv_s octets (facts_in link) sender)
+
+-- the session of a link is in the phase of its procedures
+pub link_in_phase : (link : OpenLink) → (facts_in link).encryption.end.phase ≡ (facts_in link).encryption.phase
+link_in_phase link = past_in_phase link.setup link.past
 
 -- and reads the same in it
 pub good_same : (end : EndSetup) (skd_s iv_s : ℕ) (octets : List ℕ) (facts : EndFacts)

@@ -1,5 +1,5 @@
 -- Two open ends of a link in a turn, from call to call: once both have begun it, once the peripheral has heard what it
--- hears, and once the central has, too (Core 5.2, volume 6 part B, sections 4.5.1, 4.5.9, 5.1.6 and 5.5.1).
+-- hears, and once the central has, too (Core 5.2, volume 6 part B, sections 4.5.1, 4.5.9, 5.1.3.1, 5.1.6 and 5.5.1).
 use Rattle.std.specs.Prelude.{◌≡◌, ◌⊎◌, ℕ, ◌+◌, ◌≤◌, Bool, true, false, None, Some, is_none}
 use Rattle.link_calls.specs.link_model.Facts.{Facts}
 use Rattle.link_calls.specs.link_model.OneLink.{AreInAgreement}
@@ -10,7 +10,7 @@ use Rattle.link_runs.specs.link_pairs.Parting.{ArePartingFrom, HasSeenTerminate}
 use Rattle.link_runs.specs.link_pairs.Shown.{AreLinked}
 use Rattle.link_runs.specs.link_pairs.Sound.{EndsForInstant}
 use Rattle.link_runs.specs.link_pairs.Turns.{HaveBegun}
-use Rattle.link_runs.specs.Open.{AreOpenEnds, GoesOnUnlessLate}
+use Rattle.link_runs.specs.Open.{AreOpenEnds, GoesOnUnlessLate, HasHeardForged}
 
 -- ---- both have begun the turn in this slot, and nothing is received in it
 
@@ -49,6 +49,12 @@ pub record IsOverLink (c p : Facts) : Type 0 where
   pub goes_on : c.control.ends ≡ None
   pub seen : HasSeenTerminate c.acknowledgement p
 
+-- the peripheral heard a forged packet, and ended the link (section 5.1.3.1)
+pub record IsForgedLink (c p : Facts) : Type 0 where
+  pub goes_on : c.control.ends ≡ None
+  pub forged : HasHeardForged p
+  pub agreement : AreInAgreement c.acknowledgement p.acknowledgement
+
 -- one of these holds then
 pub data AreAnsweredEnds (central peripheral : Setup) (slot : ℕ) (answers : Bool) (c p : Facts) : Type 0 where
   Lasts : IsAnsweredLink central peripheral slot answers c p → AreAnsweredEnds central peripheral slot answers c p
@@ -57,11 +63,13 @@ pub data AreAnsweredEnds (central peripheral : Setup) (slot : ℕ) (answers : Bo
       ArePartingFrom central peripheral c p → answers ≡ false → AreAnsweredEnds central peripheral slot answers c p
   IsLate : IsLateLink c p → answers ≡ false → AreAnsweredEnds central peripheral slot answers c p
   IsOver : IsOverLink c p → answers ≡ false → AreAnsweredEnds central peripheral slot answers c p
+  IsForged : IsForgedLink c p → answers ≡ false → AreAnsweredEnds central peripheral slot answers c p
 
 -- ---- both have heard what they hear in the turn
 
 pub record AreHeardEnds (central peripheral : Setup) (slot : ℕ) (c p : Facts) : Type 0 where
-  pub central_goes_on : c.control.ends ≡ None
+  -- unless it heard a forged packet, no procedure of the central ended the link
+  pub central_goes_on : (c.control.ends ≡ None) ⊎ HasHeardForged c
   pub peripheral_goes_on : GoesOnUnlessLate (Some c) p
   pub agreement : AreInAgreement c.acknowledgement p.acknowledgement
   -- where both stay open

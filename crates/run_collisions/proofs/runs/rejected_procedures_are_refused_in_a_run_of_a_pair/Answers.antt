@@ -13,7 +13,7 @@ use Rattle.run_collisions.proofs.OfPairs.{good_taken, hear_before, sent_to_perip
 use Rattle.run_collisions.proofs.runs.rejected_procedures_are_refused_in_a_run_of_a_pair.Goals as goal
 
 pub returns : goal.returns
-returns c = λ a b script before rest octets room central peripheral q code long long_too is is_too at ends is_open is_open_too listens taking.
+returns c = λ a b script before rest octets room central peripheral q code long long_too is is_too at ends none_mixed is_open is_open_too listens taking.
     let given = given_of a b script in
     let distinct = pair_distinct a b script in
     let six = pair_addresses a b script long long_too in
@@ -28,6 +28,6 @@ returns c = λ a b script before rest octets room central peripheral q code long
     c.rejected_procedures_are_refused_in_each_run.ensures given before rest octets room central peripheral q code distinct six is is_too at ends
     (hear_before understood taken apart given six distinct two before (Called peripheral.station (PacketHeard octets) ∷ rest) octets central peripheral
     in_it in_too ends at)
-    is_open is_open_too listens
+    none_mixed is_open is_open_too listens
     (sent_to_peripheral understood taken apart given six distinct two before rest octets central peripheral in_it in_too ends at is_open_too listens good)
     taking

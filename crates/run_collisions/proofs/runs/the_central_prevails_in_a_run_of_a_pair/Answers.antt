@@ -15,7 +15,7 @@ use Rattle.run_collisions.proofs.runs.the_central_prevails_in_a_run_of_a_pair.Go
 
 pub returns-clause-taken : goal.returns-clause-taken
 returns-clause-taken c =
-    λ a b script before rest octets room central peripheral own other long long_too is is_too at ends is_open is_open_too listens colliding.
+    λ a b script before rest octets room central peripheral own other long long_too is is_too at ends none_mixed is_open is_open_too listens colliding.
     let given = given_of a b script in
     let distinct = pair_distinct a b script in
     let six = pair_addresses a b script long long_too in
@@ -30,12 +30,12 @@ returns-clause-taken c =
     c.the_central_prevails_in_each_run.ensures.taken given before rest octets room central peripheral own other distinct six is is_too at ends
     (hear_before understood taken apart given six distinct two before (Called central.station (PacketHeard octets) ∷ rest) octets central peripheral in_it
     in_too ends at)
-    is_open is_open_too listens
+    none_mixed is_open is_open_too listens
     (sent_to_central understood taken apart given six distinct two before rest octets central peripheral in_it in_too ends at is_open listens good) colliding
 
 pub returns-clause-held : goal.returns-clause-held
 returns-clause-held c =
-    λ a b script before rest octets link central peripheral own other long long_too is is_too at ends is_open is_open_too listens opened same colliding.
+    λ a b script before rest octets link central peripheral own other long long_too is is_too at ends none_mixed is_open is_open_too listens opened same colliding.
     let given = given_of a b script in
     let distinct = pair_distinct a b script in
     let six = pair_addresses a b script long long_too in
@@ -51,6 +51,6 @@ returns-clause-held c =
     c.the_central_prevails_in_each_run.ensures.held given before rest octets link central peripheral own other distinct six is is_too at ends
     (hear_before understood taken apart given six distinct two before (Called central.station (PacketHeard octets) ∷ rest) octets central peripheral in_it
     in_too ends at)
-    is_open is_open_too listens
+    none_mixed is_open is_open_too listens
     (sent_to_central understood taken apart given six distinct two before rest octets central peripheral in_it in_too ends at is_open listens good) opened
     same colliding

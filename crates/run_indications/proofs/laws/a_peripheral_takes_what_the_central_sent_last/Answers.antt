@@ -5,9 +5,9 @@ use Rattle.run_indications.proofs.Calls.{takes_last}
 use Rattle.run_indications.proofs.laws.a_peripheral_takes_what_the_central_sent_last.Goals as goal
 
 pub returns : goal.returns
-returns c = λ given before rest octets central peripheral room first later handle number llid body indication distinct six is is_too at of_one hear
+returns c = λ given before rest octets central peripheral room first later handle number llid body indication distinct six is is_too at of_one hear none_mixed
     is_open is_open_too listens.
-    takes_last c.packet_tells_its_pdu.ensures.heard c.a_pdu_is_understood.ensures.says c.connections_are_taken.ensures.taken given six distinct
+    takes_last c.packet_tells_its_pdu.ensures.heard c.a_sealed_packet_is_opened.ensures.opened c.a_pdu_is_understood.ensures.says c.connections_are_taken.ensures.taken given six distinct
     (asks_come c.what_hosts_ask_may_come.ensures given) before rest octets central peripheral at
-    (contains_in given.stations central.station is) (contains_in given.stations peripheral.station is_too) of_one is_open is_open_too hear listens
+    (contains_in given.stations central.station is) (contains_in given.stations peripheral.station is_too) of_one is_open is_open_too hear none_mixed listens
     room first later handle number llid body indication

@@ -21,8 +21,8 @@ returns-clause-two c = λ given one other before rest octets central peripheral 
     given six distinct (are_two given one other stations) (before ++ call ∷ []) rest (at ∙ sym (append_assoc before (call ∷ []) rest)) central peripheral
     (contains_in given.stations central.station is) (contains_in given.stations peripheral.station is_too) (apart_ends before central peripheral ends)
     (one_connect_ind before central peripheral ends) in
-    λ is_open is_open_too. c.a_peripheral_takes_what_the_central_sent_last.ensures given before rest octets central peripheral room first later
-    handle number llid body indication distinct six is is_too at ends hear is_open is_open_too
+    λ none_mixed is_open is_open_too. c.a_peripheral_takes_what_the_central_sent_last.ensures given before rest octets central peripheral room first later
+    handle number llid body indication distinct six is is_too at ends hear none_mixed is_open is_open_too
 
 pub returns-clause-pair : goal.returns-clause-pair
 returns-clause-pair c = λ a b script before rest octets central peripheral room first later handle number llid body indication long long_too.

@@ -6,6 +6,6 @@ use Rattle.run_model.proofs.Ordered.{pair_distinct}
 use Rattle.run_laws.proofs.agreement.what_is_taken_was_given_in_every_run.Goals as goal
 
 pub returns : goal.returns
-returns c = λ a b script before rest central peripheral six six_too is is_too at ends is_open is_open_too.
+returns c = λ a b script before rest central peripheral six six_too is is_too at ends reads is_open is_open_too.
     c.ends_of_two_stations_agree.ensures.delivery (given_of a b script) 0 1 before rest central peripheral refl (pair_distinct a b script)
-    (pair_addresses a b script six six_too) is is_too at ends is_open is_open_too
+    (pair_addresses a b script six six_too) is is_too at ends reads is_open is_open_too

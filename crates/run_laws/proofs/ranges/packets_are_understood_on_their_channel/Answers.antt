@@ -6,4 +6,4 @@ pub returns-clause-readable : goal.returns-clause-readable
 returns-clause-readable c = sent_readable
 
 pub returns-clause-understood : goal.returns-clause-understood
-returns-clause-understood c = ranged_understand
+returns-clause-understood c = ranged_understand c.a_sealed_packet_is_opened.ensures.opened c.a_sealed_packet_is_opened.ensures.fits

@@ -8,17 +8,17 @@ use Rattle.run_pairs.proofs.Conclusions.{central_understands, peripheral_underst
 use Rattle.run_pairs.proofs.laws.packets_of_a_link_are_understood.Goals as goal
 
 pub returns-clause-peripheral : goal.returns-clause-peripheral
-returns-clause-peripheral c = λ given before rest octets central peripheral distinct six is is_too at of_one hear is_open is_open_too listens sent.
-    peripheral_understands c.packet_tells_its_pdu.ensures.heard c.a_pdu_is_understood.ensures.says c.connections_are_taken.ensures.taken given six distinct
+returns-clause-peripheral c = λ given before rest octets central peripheral distinct six is is_too at of_one hear none_mixed is_open is_open_too listens sent.
+    peripheral_understands c.packet_tells_its_pdu.ensures.heard c.a_sealed_packet_is_opened.ensures.opened c.a_pdu_is_understood.ensures.says c.connections_are_taken.ensures.taken given six distinct
     (asks_come c.what_hosts_ask_may_come.ensures given)
     before (Called
     peripheral.station (PacketHeard octets) ∷ rest) at central peripheral (contains_in given.stations central.station is) (contains_in given.stations peripheral.station
-    is_too) of_one is_open is_open_too hear octets rest at listens sent
+    is_too) of_one is_open is_open_too hear none_mixed octets rest at listens sent
 
 pub returns-clause-central : goal.returns-clause-central
-returns-clause-central c = λ given before rest octets central peripheral distinct six is is_too at of_one hear is_open is_open_too listens sent.
-    central_understands c.packet_tells_its_pdu.ensures.heard c.a_pdu_is_understood.ensures.says c.connections_are_taken.ensures.taken given six distinct
+returns-clause-central c = λ given before rest octets central peripheral distinct six is is_too at of_one hear none_mixed is_open is_open_too listens sent.
+    central_understands c.packet_tells_its_pdu.ensures.heard c.a_sealed_packet_is_opened.ensures.opened c.a_pdu_is_understood.ensures.says c.connections_are_taken.ensures.taken given six distinct
     (asks_come c.what_hosts_ask_may_come.ensures given)
     before (Called
     central.station (PacketHeard octets) ∷ rest) at central peripheral (contains_in given.stations central.station is) (contains_in given.stations peripheral.station is_too)
-    of_one is_open is_open_too hear octets rest at listens sent
+    of_one is_open is_open_too hear none_mixed octets rest at listens sent

@@ -14,7 +14,7 @@ returns-clause-hear c = λ given one other before rest central peripheral statio
     (apart_ends before central peripheral ends) (one_connect_ind before central peripheral ends)
 
 pub returns-clause-now : goal.returns-clause-now
-returns-clause-now c = λ given one other before rest octets end far stations distinct six is differs at same is_open listens sent.
+returns-clause-now c = λ given one other before rest octets end far stations distinct six is differs at same is_open listens unforged sent.
     sent_in_turn c.a_pdu_is_understood.ensures.says c.connections_are_taken.ensures.taken c.searches_give_each_valid_address.ensures.distinct given six distinct
     (are_two given one other stations) before rest octets end far at (contains_in given.stations far.station is)
-    (false_from_ne_true (end.station == far.station) (λ equal. differs (eqb-true end.station far.station equal))) same is_open listens sent
+    (false_from_ne_true (end.station == far.station) (λ equal. differs (eqb-true end.station far.station equal))) same is_open listens unforged sent
