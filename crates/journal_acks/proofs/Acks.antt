@@ -3,31 +3,27 @@ use Rattle.std.proofs.Common.{◌≡◌, ℕ, ◌+◌, ◌<◌, ◌≤◌, ◌==
 use Rattle.std.specs.Prelude.{if◌then◌else◌}
 use Rattle.std.proofs.lemmas.Bool.{eqb-true, eqb-false, and_left}
 use Rattle.std.proofs.lemmas.List.{length_push}
+use Rattle.ble_base.specs.declared.verdicts.Verdict.TheVariants.{Good}
 use Rattle.ack_bit.specs.AckBits.{is_new}
-use Rattle.ack_bit.proofs.Links.{says}
-use Rattle.journal_packets.specs.link_model.Acknowledgement.{Acknowledgement, Pdu, after_sending, bits_of, end_of, first_acknowledgement, is_acked, next_sent, received_by}
+use Rattle.journal_packets.specs.link_model.Acknowledgement.{Acknowledgement, Pdu, after_sending, bits_of, first_acknowledgement, is_acked, next_sent, received_by}
 use Rattle.journal_packets.specs.link_model.Data.{is_accepted, is_data, is_empty}
 use Rattle.journal_packets.specs.link_model.Controls.{pdu_fixed}
 use Rattle.journal_packets.specs.link_model.Facts.{Facts}
-use Rattle.journal_packets.specs.link_model.Packets.{good_pdu, has_new_pdu, header_sent, packet_sent, payload_sent, pdu_sent}
+use Rattle.journal_packets.specs.link_model.Packets.{good_pdu, header_sent, packet_sent, pdu_sent, verdict_of}
 use Rattle.journal_packets.specs.link_model.End.{facts_after}
-use Rattle.journal_packets.specs.link_model.Hearing.{IsUnderstood, pdu_heard, pdu_octets}
 use Rattle.journal_packets.specs.link_model.Receiving.{accepts, facts_before_taking, has_acknowledged}
 use Rattle.journal_packets.specs.link_model.Setup.{Setup as EndSetup}
-use Rattle.journal_packets.specs.link_model.OneLink.{AreInAgreement}
 use Rattle.journal_packets.specs.link_model.Step.{PacketSent, PacketReceived}
-use Rattle.journal_packets.proofs.link_model.Acknowledging.{ack_before_taking, ack_heard, ack_sent as end_sent}
-use Rattle.journal_packets.proofs.link_model.Agreeing.{heard_acks, heard_agrees}
+use Rattle.journal_packets.proofs.link_model.Acknowledging.{ack_before_taking}
 use Rattle.journal_packets.proofs.link_model.Hearing.{IsHeardWhole}
-use Rattle.journal_packets.proofs.link_model.Received.{body_heard, facts_heard, heard_good}
 use Rattle.journal_packets.specs.open_links.OpenLinks.{OpenLink, facts_in, link_after}
-use Rattle.journal_packets.proofs.run_laws.Agreed.{ack_of, ack_sent, out_after, packet_of, sent_ack, step_facts}
-use Rattle.link_calls.specs.Ranges.{HasRanges}
-use Rattle.link_calls.proofs.Pieces.{ranged_understand}
-use Rattle.journal_acks.specs.Carried.{IsPayload}
+use Rattle.journal_packets.proofs.run_laws.Agreed.{ack_of, ack_sent, sent_ack, step_facts}
+use Rattle.journal_packets.specs.run_laws.Ranges.{IsReadable}
+use Rattle.journal_packets.specs.run_laws.Shapes.{AgreeInShape}
+use Rattle.journal_packets.proofs.run_laws.AgreeingShapes.{heard_shapes, shapes_acked, shapes_fresh, shapes_high, shapes_low}
+use Rattle.journal_packets.proofs.run_laws.ReadPackets.{IsGood, good_counts, pdu_with_header, read_good}
 use Rattle.journal_acks.specs.Counted.{IsCounted}
 use Rattle.journal_acks.specs.Exchange.{Exchanged, first_exchanged, with_heard, with_sent}
-use Rattle.journal_acks.proofs.Payloads.{payload_is}
 use Rattle.journal_acks.proofs.Counting.{accepted_before, ack_taking, has_own_line}
 
 -- ---- an end that begins, and that sends
@@ -85,30 +81,18 @@ pub record IsTold (from one : Acknowledgement) (pdu : Pdu) (waiting : Acknowledg
   pub sent : waiting.sent ≡ one.sent
 
 -- all that was sent is accepted where a PDU with no data may be
-module _ (sender : Facts) (one : Acknowledgement) (agreed : AreInAgreement (sent_ack sender) one) where
-  abbrev fresh : Bool
-  fresh = is_new (bits_of one) (header_sent sender)
-
-  all_sent : (accepted : Bool) → accepted ≡ fresh → length (if accepted then one.accepted ++ pdu_sent sender ∷ [] else one.accepted) ≡ length (sent_ack sender).sent
+module _ (sender : Facts) (one : Acknowledgement) (agreed : AgreeInShape (sent_ack sender) one) (pdu : Pdu) where
+  all_sent : (accepted : Bool) → accepted ≡ is_new (bits_of one) (header_sent sender)
+      → length (if accepted then one.accepted ++ pdu ∷ [] else one.accepted) ≡ length (sent_ack sender).sent
   all_sent accepted is =
-      let ahead = agreed.from_a.reliable in
-      ap (λ b. length (if b then one.accepted ++ pdu_sent sender ∷ [] else one.accepted)) is
-      ∙ counted fresh one.accepted (pdu_sent sender) (length (sent_ack sender).sent)
-      ((says (end_of (sent_ack sender)) (end_of one) (packet_of sender true) agreed).fresh
-      ∙ ap (λ pdus. length pdus == length one.accepted + 1)
-      (sent_again (sent_ack sender) (pdu_fixed sender) (is_acked (sent_ack sender)) refl (out_after sender one agreed)))
-      ahead.sent_only ahead.at_most_one_ahead
+      counted accepted one.accepted pdu (length (sent_ack sender).sent) (is ∙ shapes_fresh sender one agreed)
+      (shapes_low sender one agreed) (shapes_high sender one agreed)
 
--- what is read of a payload, opened or not, is empty where the PDU is
-read_alike : (fresh : Bool) (pdu : Pdu) (payload : List ℕ) → IsPayload pdu payload
-    → is_empty (record { llid = pdu.llid; body = (if fresh then pdu.body else payload) }) ≡ is_empty pdu
-read_alike true pdu payload is = refl
-read_alike false pdu payload is = is.empty
-
--- an end that receives the packet of the other one, which it understands
-module _ (whole : IsHeardWhole) (slot now : ℕ) (one from : OpenLink) (octets : List ℕ) (ranges : HasRanges one) (from_ranges : HasRanges from)
+-- an end that receives a good packet of the other one
+module _ (whole : IsHeardWhole) (slot now : ℕ) (one from : OpenLink) (octets : List ℕ) (readable : IsReadable (facts_in from))
     (fields : from.setup.link.fields ≡ one.setup.link.fields) (packet : octets ≡ packet_sent from.setup (facts_in from))
-    (channel : (facts_in from).event.channel ≡ (facts_in one).event.channel) (agreed : AreInAgreement (ack_of (link_after (PacketSent now) from)) (ack_of one)) where
+    (channel : (facts_in from).event.channel ≡ (facts_in one).event.channel) (good : verdict_of one.setup (facts_in one) octets ≡ Good)
+    (agreed : AgreeInShape (ack_of (link_after (PacketSent now) from)) (ack_of one)) where
   abbrev far : Facts
   far = facts_in from
 
@@ -118,23 +102,20 @@ module _ (whole : IsHeardWhole) (slot now : ℕ) (one from : OpenLink) (octets :
   abbrev own : EndSetup
   own = one.setup
 
-  understood : IsUnderstood from.setup far own listener
-  understood = ranged_understand from one from_ranges ranges fields channel
+  read : IsGood whole from.setup own far listener readable fields channel
+  read = read_good whole from.setup own far listener readable fields channel (ap (verdict_of own listener) (sym packet) ∙ good)
 
-  empty_alike : is_empty (pdu_heard far listener) ≡ is_empty (pdu_sent far)
-  empty_alike = read_alike (has_new_pdu listener (header_sent far)) (pdu_sent far) (payload_sent far) (payload_is from.setup from.past)
-
-  good_is : good_pdu own listener octets ≡ Some (pdu_octets far listener)
-  good_is = ap (good_pdu own listener) packet ∙ heard_good whole from.setup own far listener understood
+  -- the PDU that it reads
+  abbrev pdu : Pdu
+  pdu = record { llid = (pdu_sent far).llid; body = read.body }
 
   own_line : has_own_line (good_pdu own listener octets) ≡ not (is_empty (pdu_sent far))
-  own_line = ap has_own_line good_is ∙ ap (λ pdu. not (is_empty pdu)) (body_heard far listener understood.llid) ∙ ap not empty_alike
+  own_line =
+      ap (λ xs. has_own_line (good_pdu own listener xs)) packet ∙ ap has_own_line read.is.good
+      ∙ ap (λ p. not (is_empty p)) (pdu_with_header far listener readable read.body) ∙ ap not read.is.is_body.empty
 
-  once : AreInAgreement (sent_ack far) (ack_of one)
-  once = subst (λ a. AreInAgreement a (ack_of one)) (ack_sent now from) agreed
-
-  as_sent : AreInAgreement (facts_after from.setup far (PacketSent slot)).acknowledgement (ack_of one)
-  as_sent = subst (λ a. AreInAgreement a (ack_of one)) (sym (end_sent slot far)) once
+  once : AgreeInShape (sent_ack far) (ack_of one)
+  once = subst (λ a. AgreeInShape a (ack_of one)) (ack_sent now from) agreed
 
   received_is : (room : Bool) → ack_of (link_after (PacketReceived slot octets room) one) ≡ (facts_after own listener (PacketReceived slot (packet_sent from.setup far) room)).acknowledgement
   received_is room =
@@ -142,22 +123,20 @@ module _ (whole : IsHeardWhole) (slot now : ℕ) (one from : OpenLink) (octets :
       ∙ ap (λ xs. (facts_after own listener (PacketReceived slot xs room)).acknowledgement) packet
 
   abbrev accepts_it : Bool
-  accepts_it = accepts false (header_sent far) (pdu_sent far) (facts_before_taking own.link.role slot (header_sent far) listener)
+  accepts_it = accepts false (header_sent far) pdu (facts_before_taking own.link.role slot (header_sent far) listener)
 
   form : ack_of (link_after (PacketReceived slot octets false) one)
-      ≡ received_by (has_acknowledged listener (header_sent far)) accepts_it (pdu_sent far) (ack_of one)
-  form =
-      received_is false
-      ∙ ap (λ (f : Facts). f.acknowledgement) (facts_heard whole from.setup own far listener understood slot false)
-      ∙ ack_heard own.link.role slot false (header_sent far) (pdu_sent far) listener
+      ≡ received_by (has_acknowledged listener (header_sent far)) accepts_it pdu (ack_of one)
+  form = received_is false ∙ good_counts whole from.setup own far listener readable fields channel slot false read.body read.is
 
   accepts_empty : is_empty (pdu_sent far) ≡ true → accepts_it ≡ is_new (bits_of (ack_of one)) (header_sent far)
-  accepts_empty empty =
+  accepts_empty none =
+      let empty = read.is.is_body.empty ∙ none in
       let header = header_sent far in
       let before = facts_before_taking own.link.role slot header listener in
-      ap (λ (a : Acknowledgement). is_accepted false (is_new (bits_of a) header) (pdu_sent far) && (is_empty (pdu_sent far) || not before.leaving.acknowledged))
+      ap (λ (a : Acknowledgement). is_accepted false (is_new (bits_of a) header) pdu && (is_empty pdu || not before.leaving.acknowledged))
       (ack_before_taking own.link.role slot header listener)
-      ∙ all_of (is_new (bits_of (ack_of one)) header) (is_data (pdu_sent far)) (is_empty (pdu_sent far)) before.leaving.acknowledged (empty_is_no_data (pdu_sent far) empty) empty
+      ∙ all_of (is_new (bits_of (ack_of one)) header) (is_data pdu) (is_empty pdu) before.leaving.acknowledged (empty_is_no_data pdu empty) empty
     where
       all_of : (fresh full empty ended : Bool) → full ≡ false → empty ≡ true → ((fresh && (false || not full)) && (empty || not ended)) ≡ fresh
       all_of true false true ended none is = refl
@@ -174,9 +153,10 @@ module _ (whole : IsHeardWhole) (slot now : ℕ) (one from : OpenLink) (octets :
   pub told : IsTold (ack_of (link_after (PacketSent now) from)) (ack_of one) (pdu_sent far) waiting
   told = record {
     empty = λ empty. ap length (accepted_by true empty) ∙ ap (λ (a : Acknowledgement). length a.accepted) form
-        ∙ all_sent far (ack_of one) once accepts_it (accepts_empty empty) ∙ ap (λ (a : Acknowledgement). length a.sent) (sym (ack_sent now from));
+        ∙ all_sent far (ack_of one) once pdu accepts_it (accepts_empty empty) ∙ ap (λ (a : Acknowledgement). length a.sent) (sym (ack_sent now from));
     full = λ full. ap length (accepted_by false full);
-    acked = ap (λ (a : Acknowledgement). a.acked) (received_is false) ∙ heard_acks whole from.setup own far listener slot false understood as_sent
+    acked = ap (λ (a : Acknowledgement). a.acked) (received_is false)
+        ∙ shapes_acked whole from.setup own far listener slot false readable fields channel once read.body read.is
         ∙ ap (λ (a : Acknowledgement). length a.accepted) (sym (ack_sent now from));
     sent = ap (λ (a : Acknowledgement). a.sent) form;
   }
@@ -185,13 +165,12 @@ module _ (whole : IsHeardWhole) (slot now : ℕ) (one from : OpenLink) (octets :
   pub takes_all : (room : Bool) → length (ack_of (link_after (PacketReceived slot octets room) one)).accepted ≡ length (ack_of one).accepted + 1
       → length (ack_of (link_after (PacketSent now) from)).sent ≡ length (ack_of one).accepted + 1
   takes_all room more =
-      let after = heard_agrees whole from.setup own far listener slot room understood as_sent in
-      let low = after.from_a.reliable.sent_only in
-      let high = once.from_a.reliable.at_most_one_ahead in
+      let after = heard_shapes whole from.setup own far listener slot room readable fields channel once in
+      let low = shapes_low far _ after in
+      let high = shapes_high far (ack_of one) once in
       let same = ap (λ (a : Acknowledgement). length a.accepted) (received_is room) in
-      let ahead = ap (λ (a : Acknowledgement). length a.sent) (end_sent slot far) in
       let sent = ap (λ (a : Acknowledgement). length a.sent) (ack_sent now from) in
-      omega (arith, low, high, same, more, ahead, sent)
+      omega (arith, low, high, same, more, sent)
 
 -- what the line of its packet says, before it is noted that the PDU is taken
 heard_accepted : (empty : Bool) (from one : Exchanged) (sender ack next : ℕ) → (empty ≡ true → next ≡ sender) → (empty ≡ false → next ≡ ack)

@@ -7,10 +7,12 @@ use Rattle.ble_base.specs.declared.roles.Role.{Role}
 use Rattle.ble_base.specs.declared.roles.Role.TheVariants.{Central, Peripheral}
 use Rattle.ble_base.specs.declared.roles.Side.{Side}
 use Rattle.ble_base.specs.declared.roles.Side.TheVariants.{A, B}
+use Rattle.ble_base.specs.declared.verdicts.Verdict.{Verdict}
+use Rattle.ble_base.specs.declared.verdicts.Verdict.TheVariants.{Broken as IsBroken, Forged, Good, Missed}
 use Rattle.air_frame.specs.Packet.{access_octets}
-use Rattle.journal_packets.specs.link_model.Packets.{pdu_sent}
+use Rattle.journal_packets.specs.link_model.Packets.{pdu_sent, verdict_of}
 use Rattle.journal_packets.specs.link_model.Data.{is_empty}
-use Rattle.journal_packets.specs.link_model.OneLink.{AreInAgreement}
+use Rattle.journal_packets.specs.run_laws.Shapes.{AgreeInShape}
 use Rattle.link_calls.specs.Ranges.{HasRanges}
 use Rattle.link_calls.proofs.InRange.{sent_ranges}
 use Rattle.journal_packets.proofs.link_model.Hearing.{IsHeardWhole}
@@ -20,26 +22,27 @@ use Rattle.journal_packets.specs.link_model.Step.{PacketSent, PacketReceived}
 use Rattle.journal_packets.specs.open_links.OpenLinks.{OpenLink, facts_in, link_after, link_at}
 use Rattle.journal_packets.specs.controller_model.declared.doing.Turn.{Turn}
 use Rattle.journal_packets.specs.controller_model.Facts.{Facts, Sends, Listens}
+use Rattle.journal_packets.specs.controller_model.Packets.{verdict_of as verdict_at}
 use Rattle.journal_packets.proofs.controller_model.Always.{IsAdvertisingChannel}
 use Rattle.journal_packets.proofs.controller_model.DataChannels.{link_channel}
 use Rattle.journal_packets.proofs.controller_model.Sent.{sends_well}
 use Rattle.radio_replay.specs.declared.fates.Fate.{Fate}
 use Rattle.radio_replay.specs.Damage.{damaged_packet}
 use Rattle.link_calls.specs.run_model.Feeding.{AreDistinct}
-use Rattle.link_calls.specs.run_model.History.{Event, Transmitted, Hearing, fates_used, has_received, is_good, is_handed, packet_received, past_of, turns_begun}
+use Rattle.link_calls.specs.run_model.History.{Event, Transmitted, Hearing, has_received, is_good, is_handed, packet_received, past_of, turns_begun}
 use Rattle.link_calls.specs.run_model.Journal.{journal_of, side_of}
 use Rattle.link_calls.specs.run_model.LinkEnds.{HaveAddresses}
 use Rattle.link_calls.specs.run_model.Links.{is_advertising}
-use Rattle.link_calls.specs.run_model.Run.{Given, facts_at, fate_at, hearings_of, setup_at, unseen_in, use_at}
-use Rattle.link_calls.proofs.run_model.LinkEnds.{is_listener, received_own, received_packet}
+use Rattle.link_calls.specs.run_model.Run.{Given, facts_at, hearings_of, setup_at, unseen_in, use_at}
+use Rattle.link_calls.proofs.run_model.LinkEnds.{is_listener, received_own}
 use Rattle.link_calls.proofs.run_model.Stations.{is_in, among, in_more_other, in_more_same, not_before}
 use Rattle.link_calls.proofs.run_model.Walk.{Place, AtPackets}
 use Rattle.journal_packets.specs.run_laws.Ends.{HaveOneConnectInd}
-use Rattle.journal_packets.proofs.run_laws.Agreed.{Agree, ack_of}
+use Rattle.journal_packets.proofs.run_laws.Agreed.{AgreeIn, ack_of}
 use Rattle.journal_packets.proofs.run_laws.ByCalls.{Holds}
 use Rattle.journal_packets.proofs.run_laws.ConnectInds.{on_channel}
 use Rattle.journal_packets.proofs.run_laws.Hearings.{wanted_is}
-use Rattle.journal_packets.proofs.run_laws.InAgreement.{AreStations, WithAll, differs_back}
+use Rattle.journal_packets.proofs.run_laws.InAgreement.{AreStations, WithAllIn, differs_back}
 use Rattle.journal_packets.proofs.run_laws.OpenSteps.{open_has}
 use Rattle.journal_packets.proofs.run_laws.OwnLinks.{sent_begins}
 use Rattle.journal_packets.proofs.run_laws.TurnPlaces.{Within}
@@ -53,12 +56,20 @@ use Rattle.journal_acks.proofs.Acks.{IsTold, hears_counted, takes_all, told}
 use Rattle.journal_acks.proofs.Counting.{AreCountedSo, AreKnown, AreToTake, IsBegun, IsEndCounted, IsToTake, ahead_if, apart_numbers, facts_event, moved, none_to_take, one_begun, plain, ack_taking}
 use Rattle.journal_acks.proofs.Exchanging.{exchange_at, number_at, number_sent}
 use Rattle.journal_acks.proofs.FirstCounts.{IsFirst, first_event_at, first_old}
+use Rattle.journal_acks.proofs.HandedOn.{forged_ack, forged_counted, heard_it, judged_link, with_handed}
 use Rattle.link_calls.proofs.LinkPhases.{IsPhased}
 use Rattle.link_calls.specs.Uses.{listens_under, sends_under}
 use Rattle.journal_acks.proofs.SentLines.{air_line}
 use Rattle.journal_acks.proofs.Standing.{AreOne, listener_role, listener_sends, listens_wanted, one_listened, other_listens, other_sends, phased_at, sender_role, sends_on, sends_other}
-use Rattle.journal_acks.proofs.Payloads.{payload_is, payload_short}
-use Rattle.journal_acks.proofs.TwoStations.{IsHearing, IsOfTwo, after_air, air_of_link, air_quiet, good_handed, handed_begins, hearing_of, link_hears, one_hearing, other_is, other_of, other_received, reached, same_number, sent_empty, side_differs, side_other, side_same, unchanged}
+use Rattle.journal_packets.proofs.run_laws.Payloads.{payload_is, payload_short}
+use Rattle.journal_packets.proofs.run_laws.Pieces.{sent_readable}
+use Rattle.journal_acks.proofs.TwoStations.{IsHearing, IsOfTwo, after_air, air_of_link, air_quiet, good_handed, handed_begins, hearing_of, link_hears, one_hearing, other_is, other_of, reached, same_number, sent_empty, side_differs, side_other, side_same, unchanged}
+
+only_good : (verdict : Verdict) → is_good verdict ≡ true → verdict ≡ Good
+only_good Good is = refl
+only_good Missed is = absurd cc
+only_good IsBroken is = absurd cc
+only_good Forged is = absurd cc
 
 -- ---- the counts of a side after a packet
 
@@ -188,6 +199,9 @@ module _ (whole : IsHeardWhole) (given : Given) (Q : Place → List Event → Ty
 
   has : hearings ≡ hearing ∷ []
   has = one_hearing given are_two fates station channel octets history is
+
+  got_good : has_received other hearings ≡ is_good hearing.verdict
+  got_good = heard_it given are_two fates station channel octets history is
 
   phased : (one : ℕ) → is_in one given.stations ≡ true → IsPhased (setup_at given one) (Within phases) (turns_begun history) (facts one)
   phased one in_it = phased_at given here history holds.hearing.stand one in_it
@@ -349,17 +363,14 @@ module _ (whole : IsHeardWhole) (given : Given) (Q : Place → List Event → Ty
           heard_connect_ind : HaveOneConnectInd link_sent.setup link.setup
           heard_connect_ind = one_begun history own_number (number_at other handle history) station other link_sent link heard_number (known.begun here history q station sent.handle link_sent is sent.is_open) heard_begun
 
-          heard_agreed : AreInAgreement (ack_of link_sent) (ack_of link)
+          heard_agreed : AgreeInShape (ack_of link_sent) (ack_of link)
           heard_agreed =
-              let all = known.agree whole here history q station other is is_too (differs_back other station differs) in
-              let each = open_has (WithAll (facts other).links) 0 sent.handle (facts station).links link_sent all sent.is_open in
-              open_has (λ (l : OpenLink). Agree link_sent l) 0 handle (facts other).links link each is_open heard_connect_ind
+              let all = known.shapes whole here history q station other is is_too (differs_back other station differs) in
+              let each = open_has (WithAllIn AgreeInShape (facts other).links) 0 sent.handle (facts station).links link_sent all sent.is_open in
+              open_has (λ (l : OpenLink). AgreeIn AgreeInShape link_sent l) 0 handle (facts other).links link each is_open heard_connect_ind
 
     module _ (is_too : is_in other given.stations ≡ true) (differs : (other == station) ≡ false) (seen : unseen_in octets hearings ≡ None)
         (silent : (one : ℕ) → is_in one given.stations ≡ true → (one == station) ≡ false → packet_received one history ≡ None) where
-      pub heard_it : has_received other hearings ≡ is_good hearing.verdict
-      heard_it = ap (has_received other) has ∙ other_received other hearing (same_number other)
-
       deaf_counted : is_good hearing.verdict ≡ false → (handle : ℕ) (link : OpenLink) → link_at handle (facts other).links ≡ Some link
           → IsEndCounted (not (is_in other done)) (packet_received other history) handle (facts other).turn link (exchange_at (number_at other handle history) after (side_of other))
       deaf_counted bad handle link is_open =
@@ -395,11 +406,16 @@ module _ (whole : IsHeardWhole) (given : Given) (Q : Place → List Event → Ty
           connect_ind : HaveOneConnectInd link_sent.setup link.setup
           connect_ind = heard_connect_ind is_too differs silent handed same handle link is_open listens
 
-          agreed : AreInAgreement (ack_of link_sent) (ack_of link)
+          agreed : AgreeInShape (ack_of link_sent) (ack_of link)
           agreed = heard_agreed is_too differs silent handed same handle link is_open listens
 
           on_channel_of : (facts_in sent.link).event.channel ≡ (facts_in link).event.channel
           on_channel_of = sym sent.channel_is ∙ listening.channel_is ∙ ap (λ (l : OpenLink). (facts_in l).event.channel) (sym one.links)
+
+          judged_good : verdict_of link.setup (facts_in link) octets ≡ Good
+          judged_good =
+              ap (verdict_of link.setup (facts_in link)) (sym same) ∙ ap (λ (l : OpenLink). verdict_of l.setup (facts_in l) heard) one.links
+              ∙ sym listening.verdict_is ∙ only_good hearing.verdict good
 
           before_taken : IsCounted (exchange_at (number_at other handle history) history (side_of other)) (ack_of link)
           before_taken = before_heard is_too differs silent handle link is_open listens
@@ -408,20 +424,17 @@ module _ (whole : IsHeardWhole) (given : Given) (Q : Place → List Event → Ty
           empty_is =
               ap (λ may. carries_empty may channel octets) begun.is_link
               ∙ sent_empty whole sent.link.setup (facts_in sent.link) begun.link channel octets (past_llid sent.link.setup sent.link.past).1
-              (payload_short sent.link sender_ranges) (payload_is sent.link.setup sent.link.past)
+              (payload_short (facts_in sent.link) (sent_readable sent.link sender_ranges)) (payload_is sent.link.setup sent.link.past)
               (begun.fields ∙ sym connect_ind.fields) sent.channel_is sent.packet
 
           abbrev waiting : Acknowledgement
           waiting = ack_taking true (Some octets) (facts other).turn.slot link
 
-          own_ranges : HasRanges link
-          own_ranges = known.ranges here history q other handle link is_too is_open
-
           -- what it tells the other end, while a PDU with a line of its own does not count
           tells : IsTold (ack_of link_sent) (ack_of link) (pdu_sent (facts_in sent.link)) waiting
           tells =
-              told whole (facts other).turn.slot sent.slot link sent.link octets own_ranges sender_ranges connect_ind.fields sent.packet
-              on_channel_of agreed
+              told whole (facts other).turn.slot sent.slot link sent.link octets (sent_readable sent.link sender_ranges) connect_ind.fields sent.packet
+              on_channel_of judged_good agreed
 
           sent_as : IsCounted (with_sent (exchange_at (number_at other handle history) history (side_of station))) (ack_of link_sent)
           sent_as = subst (λ n. IsCounted (with_sent (exchange_at n history (side_of station))) (ack_of link_sent)) one_number sender_counted
@@ -450,8 +463,8 @@ module _ (whole : IsHeardWhole) (given : Given) (Q : Place → List Event → Ty
               ∙ ap (λ (e : Exchanged). e.sent) (exchanged number one_number (side_of station)
               ∙ own_after (is_good hearing.verdict) (carries_empty (link_numbered number (journal_of history)) channel octets) station (exchange_at number history))
               ∙ sent_as.sent
-              ∙ takes_all whole slot sent.slot link sent.link octets own_ranges sender_ranges connect_ind.fields sent.packet
-              on_channel_of agreed room more
+              ∙ takes_all whole slot sent.slot link sent.link octets (sent_readable sent.link sender_ranges) connect_ind.fields sent.packet
+              on_channel_of judged_good agreed room more
 
         -- a link on which it does not listen
         other_kept : (handle : ℕ) (link : OpenLink) → link_at handle (facts other).links ≡ Some link → listens_under handle (facts other).turn.doing ≡ false
@@ -492,7 +505,24 @@ module _ (whole : IsHeardWhole) (given : Given) (Q : Place → List Event → Ty
       (exchange_at (number_at other handle history) after (side_of other))
   other_aired true on is_too differs seen silent handle link is_open = other_advertised on other is_too (has_received other hearings) refl handle link is_open
   other_aired false off is_too differs seen silent handle link is_open =
-      other_sent off is_too differs seen silent (has_received other hearings) (sym (heard_it off is_too differs seen silent)) handle link is_open
+      other_sent off is_too differs seen silent (has_received other hearings) (sym got_good) handle link is_open
+
+  -- what the radio left of it
+  abbrev left_of : List ℕ
+  left_of = damaged_packet hearing.fate octets
+
+  -- with what it is handed
+  other_handed : is_in other given.stations ≡ true → (other == station) ≡ false → unseen_in octets hearings ≡ None
+      → ((one : ℕ) → is_in one given.stations ≡ true → (one == station) ≡ false → packet_received one history ≡ None) → (handle : ℕ) (link : OpenLink)
+      → link_at handle (facts other).links ≡ Some link
+      → IsEndCounted (not (is_in other done)) (packet_received other after) handle (facts other).turn link (exchange_at (number_at other handle history) after (side_of other))
+  other_handed is_too differs seen silent handle link is_open =
+      let unsent = not (is_in other done) in
+      let end = exchange_at (number_at other handle history) after (side_of other) in
+      with_handed given are_two fates station channel octets history is (λ received. IsEndCounted unsent received handle (facts other).turn link end) seen
+      (other_aired (is_advertising channel) refl is_too differs seen silent handle link is_open)
+      (λ forged. forged_counted unsent (packet_received other history) left_of handle (facts other).turn link end (silent other is_too differs)
+      (λ on. sym (judged_link (facts other) handle link left_of on is_open) ∙ forged))
 
   own_receives : packet_received station after ≡ packet_received station history
   own_receives = received_own given fates station channel octets history
@@ -522,12 +552,12 @@ module _ (whole : IsHeardWhole) (given : Given) (Q : Place → List Event → Ty
           let equal = other_is given are_two station one is in_it differs in
           subst (λ n. IsEndCounted (not (is_in n (done ++ station ∷ []))) (packet_received n after) handle (facts_at given n after).turn link (exchange_at (number_at n handle after) after (side_of n))) (sym equal)
           (let unlike = subst (λ n. (n == station) ≡ false) equal differs in
-          moved handle link (not (is_in other done)) (not (is_in other (done ++ station ∷ []))) (if has_received other hearings then Some octets else packet_received other history) (packet_received other after)
+          moved handle link (not (is_in other done)) (not (is_in other (done ++ station ∷ []))) (packet_received other after) (packet_received other after)
           (facts other).turn (facts_at given other after).turn
           (exchange_at (number_at other handle history) after (side_of other)) (exchange_at (number_at other handle after) after (side_of other))
-          (ap not (in_more_other other station done unlike)) (received_packet given fates other station channel octets history seen) (ap (λ (f : Facts). f.turn) (same_facts other))
+          (ap not (in_more_other other station done unlike)) refl (ap (λ (f : Facts). f.turn) (same_facts other))
           (ap (λ n. exchange_at n after (side_of other)) (number_sent other handle history station channel octets hearings))
-          (other_aired (is_advertising channel) refl (subst (λ n. is_in n given.stations ≡ true) equal in_it) unlike seen silent handle link
+          (other_handed (subst (λ n. is_in n given.stations ≡ true) equal in_it) unlike seen silent handle link
           (subst (λ n. link_at handle (facts_at given n history).links ≡ Some link) equal is_open)))
 
   -- ---- what is still to be taken
@@ -547,7 +577,7 @@ module _ (whole : IsHeardWhole) (given : Given) (Q : Place → List Event → Ty
       absurd (let h : true ≡ false = sym listens ∙ off in absurd cc)
   heard_to_take false off is_too differs seen silent got handle link is_open = λ heard listens same slot room more.
       let equal : octets ≡ heard = cc in
-      let good = sym (heard_it off is_too differs seen silent) ∙ got in
+      let good = sym got_good ∙ got in
       is_to_take off is_too differs seen silent good handle link is_open listens slot room
       (subst (λ xs. length (ack_of (link_after (PacketReceived slot xs room) link)).accepted ≡ length (ack_of link).accepted + 1) (sym equal) more)
 
@@ -560,6 +590,26 @@ module _ (whole : IsHeardWhole) (given : Given) (Q : Place → List Event → Ty
   other_to_take false got is_too differs seen silent handle link is_open =
       none_to_take (packet_received other history) handle (facts other).turn link (exchange_at (number_at other handle history) after (other_side (side_of other)))
       (silent other is_too differs)
+
+  -- a packet that is forged to it counts nothing
+  forged_to_take : (handle : ℕ) (link : OpenLink) → link_at handle (facts other).links ≡ Some link → verdict_at (facts other) left_of ≡ Forged
+      → IsToTake (Some left_of) handle (facts other).turn link (exchange_at (number_at other handle history) after (other_side (side_of other)))
+  forged_to_take handle link is_open forged = λ left on some slot room more.
+      let equal : left_of ≡ left = cc in
+      let judged = sym (judged_link (facts other) handle link left_of on is_open) ∙ forged in
+      let same = ap (λ (a : Acknowledgement). length a.accepted)
+      (forged_ack slot left link (ap (verdict_of link.setup (facts_in link)) (sym equal) ∙ judged) room) in
+      absurd (omega (arith, same, more))
+
+  handed_to_take : is_in other given.stations ≡ true → (other == station) ≡ false → unseen_in octets hearings ≡ None
+      → ((one : ℕ) → is_in one given.stations ≡ true → (one == station) ≡ false → packet_received one history ≡ None) → (handle : ℕ) (link : OpenLink)
+      → link_at handle (facts other).links ≡ Some link
+      → IsToTake (packet_received other after) handle (facts other).turn link (exchange_at (number_at other handle history) after (other_side (side_of other)))
+  handed_to_take is_too differs seen silent handle link is_open =
+      let from = exchange_at (number_at other handle history) after (other_side (side_of other)) in
+      with_handed given are_two fates station channel octets history is (λ received. IsToTake received handle (facts other).turn link from) seen
+      (other_to_take (has_received other hearings) refl is_too differs seen silent handle link is_open)
+      (λ forged take. forged_to_take handle link is_open forged)
 
   pub packet_to_take : unseen_in octets hearings ≡ None → ((one : ℕ) → is_in one given.stations ≡ true → (one == station) ≡ false → packet_received one history ≡ None)
       → AreToTake given after
@@ -579,13 +629,11 @@ module _ (whole : IsHeardWhole) (given : Given) (Q : Place → List Event → Ty
           (ap (λ n. listens_under handle (facts_at given n history).turn.doing) (sym equal) ∙ ap (λ (f : Facts). listens_under handle f.turn.doing) (sym (same_facts one)) ∙ listens))
       by one handle link in_it is_open false differs = λ heard listens some slot room more.
           let equal = other_is given are_two station one is in_it differs in
-          let take = subst (λ n. IsToTake (if has_received n hearings then Some octets else packet_received n history) handle (facts n).turn link
-          (exchange_at (number_at n handle history) after (other_side (side_of n)))) (sym equal)
-          (other_to_take (has_received other hearings) refl (subst (λ n. is_in n given.stations ≡ true) equal in_it) (subst (λ n. (n == station) ≡ false) equal differs) seen silent handle link
+          let take = subst (λ n. IsToTake (packet_received n after) handle (facts n).turn link (exchange_at (number_at n handle history) after (other_side (side_of n)))) (sym equal)
+          (handed_to_take (subst (λ n. is_in n given.stations ≡ true) equal in_it) (subst (λ n. (n == station) ≡ false) equal differs) seen silent handle link
           (subst (λ n. link_at handle (facts_at given n history).links ≡ Some link) equal is_open)) in
           ap (λ n. (exchange_at n after (other_side (side_of one))).sent) (number_sent one handle history station channel octets hearings)
-          ∙ take heard (ap (λ (f : Facts). listens_under handle f.turn.doing) (sym (same_facts one)) ∙ listens)
-          (sym (received_packet given fates one station channel octets history seen) ∙ some) slot room more
+          ∙ take heard (ap (λ (f : Facts). listens_under handle f.turn.doing) (sym (same_facts one)) ∙ listens) some slot room more
 
   -- ---- the other end of the link
 
@@ -601,7 +649,7 @@ module _ (whole : IsHeardWhole) (given : Given) (Q : Place → List Event → Ty
     far_handle = (sent off).handle;
     far = link_sent off;
     is_open = (sent off).is_open;
-    same = one_number off is_too differs seen silent (sym (heard_it off is_too differs seen silent) ∙ got) handle link is_open listens;
+    same = one_number off is_too differs seen silent (sym got_good ∙ got) handle link is_open listens;
   }
 
   pub packet_far : is_in other given.stations ≡ true → (other == station) ≡ false → unseen_in octets hearings ≡ None

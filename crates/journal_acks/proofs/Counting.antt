@@ -28,7 +28,8 @@ use Rattle.link_calls.proofs.run_model.Walk.{Place, AtPackets, IsKept}
 use Rattle.journal_packets.specs.run_laws.Ends.{HaveOneConnectInd}
 use Rattle.journal_packets.proofs.run_laws.Agreed.{ack_of}
 use Rattle.journal_packets.proofs.run_laws.Hearings.{other_facts}
-use Rattle.journal_packets.proofs.run_laws.InAgreement.{AllAgree}
+use Rattle.journal_packets.proofs.run_laws.InAgreement.{AllAgreeIn}
+use Rattle.journal_packets.specs.run_laws.Shapes.{AgreeInShape}
 use Rattle.journal_packets.proofs.run_laws.TurnPlaces.{event_past}
 use Rattle.journal_packets.specs.journal_links.LinkLines.{AreLinesOf, lines_of}
 use Rattle.journal_packets.specs.journal_links.Opened.{central_side}
@@ -80,9 +81,9 @@ pub record AreKnown (given : Given) (Q : Place → List Event → Type 0) : Type
   -- what the host of an open end asked is in range
   pub ranges : (place : Place) (history : List Event) → Q place history → (station handle : ℕ) (link : OpenLink) → is_in station given.stations ≡ true
       → link_at handle (facts_at given station history).links ≡ Some link → HasRanges link
-  -- both open ends of a link are in agreement
-  pub agree : IsHeardWhole → (place : Place) (history : List Event) → Q place history → (one other : ℕ) → is_in one given.stations ≡ true → is_in other given.stations ≡ true
-      → (one == other) ≡ false → AllAgree (facts_at given one history).links (facts_at given other history).links
+  -- both open ends of a link agree in the shapes of their PDUs
+  pub shapes : IsHeardWhole → (place : Place) (history : List Event) → Q place history → (one other : ℕ) → is_in one given.stations ≡ true → is_in other given.stations ≡ true
+      → (one == other) ≡ false → AllAgreeIn AgreeInShape (facts_at given one history).links (facts_at given other history).links
 
 -- two ends with one number have one CONNECT_IND
 pub one_begun : (history : List Event) (number other station station_too : ℕ) (one two : OpenLink) → number ≡ other → IsBegun history number station one.setup

@@ -10,7 +10,6 @@ use Rattle.radio_replay.specs.declared.fates.Fate.{Fate}
 use Rattle.link_calls.specs.run_model.Entries.{IsAired}
 use Rattle.link_calls.specs.run_model.Feeding.{AreDistinct}
 use Rattle.link_calls.specs.run_model.History.{Event, Hearing, Transmitted, is_handed, packet_received}
-use Rattle.link_calls.specs.run_model.Journal.{side_of}
 use Rattle.link_calls.specs.run_model.LinkEnds.{HaveAddresses}
 use Rattle.link_calls.specs.run_model.Links.{is_advertising}
 use Rattle.link_calls.specs.run_model.Run.{Given, history_of, run_of}
@@ -72,6 +71,7 @@ module _ (whole : IsHeardWhole) (understood : IsUnderstood) (taken : AreTaken) (
                 handle = on.handle;
                 link = on.link;
                 is_open = on.is_open;
+                on = on.on;
                 channel_is = on.channel_is;
                 number = number_at other on.handle history;
                 number_is = refl;

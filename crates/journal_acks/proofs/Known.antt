@@ -22,7 +22,7 @@ use Rattle.journal_packets.proofs.run_laws.ConnectInds.{TakenInOrder}
 use Rattle.journal_packets.proofs.run_laws.DistinctAccess.{AreApart}
 use Rattle.journal_packets.proofs.run_laws.OpenedOnce.{opened_once}
 use Rattle.link_calls.proofs.InRange.{ranges_in}
-use Rattle.journal_packets.proofs.run_laws.TwoEnds.{all_agree}
+use Rattle.journal_packets.proofs.run_laws.TwoEnds.{all_in_shape}
 use Rattle.journal_packets.proofs.run_laws.TwoStations.{are_two as of_both}
 use Rattle.journal_packets.specs.journal_links.Begun.{LinkBegun, links_begun, with_number}
 use Rattle.journal_packets.specs.journal_links.Opened.{central_side}
@@ -107,7 +107,7 @@ known_of understood taken nth apart given are_two six = record {
   ranges = λ at history q station handle link in_it is_open.
       let front = front_at given at history q.front in
       ranges_in given history front.rest station handle link (are_distinct given are_two) in_it front.at is_open;
-  agree = λ whole at history q one other in_it in_too differs.
+  shapes = λ whole at history q one other in_it in_too differs.
       let front = front_at given at history q.front in
-      all_agree whole understood taken apart given six (are_distinct given are_two) (of_both given 0 1 are_two) history front.rest front.at one other in_it in_too differs;
+      all_in_shape whole understood taken apart given six (are_distinct given are_two) (of_both given 0 1 are_two) history front.rest front.at one other in_it in_too differs;
 }

@@ -1,6 +1,5 @@
 -- The lemmas of this crate.
 pub mod Bounds
-pub mod Payloads
 pub mod Exchanging
 pub mod Acks
 pub mod TwoStations
@@ -11,6 +10,7 @@ pub mod Standing
 pub mod Worded
 pub mod PhaseNotes
 pub mod DataCalls
+pub mod HandedOn
 pub mod AirCounts
 pub mod KeptCounts
 pub mod EachCall

@@ -30,7 +30,7 @@ use Rattle.journal_packets.proofs.run_laws.OpenSteps.{none_open, open_has}
 use Rattle.journal_packets.specs.Senders.{IsOfSendersLink}
 use Rattle.journal_packets.proofs.AccessOrder.{AreNth}
 use Rattle.journal_packets.proofs.SoFar.{IsBelongingSoFar}
-use Rattle.journal_acks.specs.Carried.{IsLinkPacket, IsPayload, air_pdu, bits_of, carried_of}
+use Rattle.journal_acks.specs.Carried.{IsLinkPacket, air_pdu, bits_of, carried_of}
 use Rattle.journal_acks.specs.Counted.{IsCounted}
 use Rattle.journal_acks.specs.Exchange.{Exchanged, with_sent}
 use Rattle.journal_acks.specs.Held.{HasPayloadOfEnd}
@@ -47,7 +47,8 @@ use Rattle.journal_acks.proofs.Exchanging.{exchange_at, number_at}
 use Rattle.journal_acks.proofs.FixedPdus.{sent_out}
 use Rattle.journal_acks.proofs.KeptLines.{AreLined, AreLinedAt, lines_kept}
 use Rattle.journal_acks.proofs.Known.{known_of}
-use Rattle.journal_acks.proofs.Payloads.{payload_is, payload_out}
+use Rattle.journal_packets.specs.run_laws.Ranges.{IsPayload}
+use Rattle.journal_packets.proofs.run_laws.Payloads.{payload_is, payload_out}
 use Rattle.journal_acks.proofs.RunCounts.{counts_first}
 use Rattle.journal_acks.proofs.Seen.{seen_packet}
 use Rattle.journal_acks.proofs.TwoStations.{IsOfTwo}

@@ -43,7 +43,7 @@ use Rattle.link_calls.proofs.run_model.Stations.{is_in}
 use Rattle.journal_packets.proofs.run_laws.TurnSteps.{IsListening as IsListeningFor}
 use Rattle.journal_packets.specs.journal_links.Begun.{LinkBegun, link_numbered}
 use Rattle.journal_packets.specs.Belonging.{is_side, link_of_packet}
-use Rattle.journal_acks.specs.Carried.{IsPayload}
+use Rattle.journal_packets.specs.run_laws.Ranges.{IsPayload}
 use Rattle.journal_acks.specs.Exchange.{Exchanged, after_packet, carries_empty, exchange_of, is_empty_in, is_number}
 use Rattle.journal_acks.proofs.Exchanging.{exchange_at, exchange_more}
 use Rattle.link_calls.proofs.LinkUses.{IsScanning}

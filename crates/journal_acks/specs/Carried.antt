@@ -1,5 +1,5 @@
 -- What a packet of a link carries (Core 5.2, volume 6 part B, sections 2.1, 2.4 and 4.5.9).
-use Rattle.std.specs.Prelude.{◌≡◌, ◌⊎◌, ℕ, ◌+◌, ◌==◌, ◌&&◌, Bool, false, List, [], ◌∷◌, ◌++◌, fold, length, Option, Some, None, if◌then◌else◌}
+use Rattle.std.specs.Prelude.{◌≡◌, ℕ, ◌==◌, ◌&&◌, Bool, false, List, [], ◌∷◌, ◌++◌, fold, length, Option, Some, None, if◌then◌else◌}
 use Rattle.ble_base.specs.declared.roles.Side.{Side}
 use Rattle.ack_bit.specs.AckBits.{AckBits, header_of, is_odd}
 use Rattle.air_frame.specs.Packet.{on_air}
@@ -8,6 +8,7 @@ use Rattle.journal_packets.specs.link_model.Acknowledgement.{Pdu, empty_pdu}
 use Rattle.journal_packets.specs.link_model.Data.{is_empty}
 use Rattle.journal.specs.declared.entries.Entry.{Entry}
 use Rattle.journal.specs.declared.entries.Entry.TheVariants.{Enter, Sent}
+use Rattle.journal_packets.specs.run_laws.Ranges.{IsPayload}
 use Rattle.journal_packets.specs.journal_links.Begun.{LinkBegun, link_numbered}
 use Rattle.journal_packets.specs.Belonging.{is_side, link_of_packet}
 use Rattle.journal_acks.specs.Exchange.{Exchanged, exchange_of}
@@ -55,14 +56,6 @@ pdu_carried (Some line) acked = if line.acked == acked then line.pdu else empty_
 -- the PDU in a packet of a link that a side sends after these entries
 abbrev pub carried_of : ℕ → List Entry → Side → Pdu
 carried_of number front side = pdu_carried (sent_line_of number front side) (exchange_of number front side).acked
-
--- ---- its payload on the air
-
--- what the payload of a PDU is on the air, whatever the keys are: it is the body of the PDU, or has an integrity code of
--- four octets more, and only that of an empty PDU is empty (section 2.4, and part E, section 2)
-pub record IsPayload (pdu : Pdu) (payload : List ℕ) : Type 0 where
-  pub empty : is_empty (record { llid = pdu.llid; body = payload }) ≡ is_empty pdu
-  pub octets : (payload ≡ pdu.body) ⊎ (length payload ≡ length pdu.body + 4)
 
 -- ---- the packet
 

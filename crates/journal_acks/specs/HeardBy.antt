@@ -1,5 +1,5 @@
 -- A packet of a link, by the end that hears it (Core 5.2, volume 6 part B, sections 4.5.9 and 5.1.3.1).
-use Rattle.std.specs.Prelude.{◌≡◌, ℕ, List, Some}
+use Rattle.std.specs.Prelude.{◌≡◌, ℕ, true, List, Some}
 use Rattle.std.specs.List.{Contains}
 use Rattle.ble_base.specs.Side.{other_side}
 use Rattle.ble_base.specs.declared.roles.Side.{Side}
@@ -11,6 +11,7 @@ use Rattle.journal_packets.specs.journal_links.Begun.{LinkBegun, link_numbered}
 use Rattle.journal_packets.specs.link_model.Packets.{verdict_of}
 use Rattle.journal_packets.specs.open_links.OpenLinks.{OpenLink, facts_in, link_at}
 use Rattle.radio_replay.specs.Damage.{damaged_packet}
+use Rattle.link_calls.specs.Uses.{listens_under}
 use Rattle.link_calls.specs.run_model.Entries.{IsAired}
 use Rattle.link_calls.specs.run_model.History.{Event, Hearing}
 use Rattle.link_calls.specs.run_model.Journal.{journal_of, side_of}
@@ -27,6 +28,7 @@ pub record IsHeardByEnd (given : Given) (history : List Event) (station channel 
   pub handle : ℕ
   pub link : OpenLink
   pub is_open : link_at handle (facts_at given hearing.listener history).links ≡ Some link
+  pub on : listens_under handle (facts_at given hearing.listener history).turn.doing ≡ true
   pub channel_is : channel ≡ (facts_in link).event.channel
   pub number : ℕ
   pub number_is : number ≡ (links_of history).link_of hearing.listener handle

@@ -25,11 +25,11 @@ ghost use Rattle.journal_acks.specs.Held.{HasPayloadOfEnd};
 /// whole run, each open end of a link has sent and accepted as many PDUs as the journal says, and
 /// as many of its own are acknowledged to it. Each packet off the advertising channels is one of a
 /// link, with the channel, the access address, the bits and the PDU that the lines before it give,
-/// in clear or sealed. Its payload on the air is the one that its end made as it sent the PDU first.
-/// Where the other side judges it good or forged, it does as the end of one of its links, of which the
-/// lines count what it sent and accepted; and each new PDU goes out after all PDUs of its side on its link are acknowledged. Each side
-/// enters the events 0, 1, 2, .. of a link one after another, each once (Core 5.2, volume 6 part B,
-/// sections 2.1, 2.4, 4.5.1 and 4.5.9).
+/// in clear or sealed. Its payload on the air is the one that its end made as it sent the PDU
+/// first. Where the other side judges it good or forged, it does as the end of one of its links, of
+/// which the lines count what it sent and accepted; and each new PDU goes out after all PDUs of its
+/// side on its link are acknowledged. Each side enters the events 0, 1, 2, .. of a link one after
+/// another, each once (Core 5.2, volume 6 part B, sections 2.1, 2.4, 4.5.1 and 4.5.9).
 pub fn links_of_two_stations_keep_to_the_journal()
     ensures counts_before_a_turn { (given : Given) (before rest : List Event) (slot : ℕ)
         (radios : List Bool) (station handle : ℕ) (link : OpenLink)

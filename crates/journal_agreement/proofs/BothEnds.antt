@@ -14,6 +14,7 @@ use Rattle.journal.specs.declared.entries.Entry.{Entry}
 use Rattle.journal.specs.declared.entries.Entry.TheVariants.{Enter}
 use Rattle.link_changes.specs.Noted.{event_noted, indications_noted, takings_from, takings_noted}
 use Rattle.link_changes.proofs.Notes.{takings_more}
+use Rattle.journal_data.specs.Followed.{Mixed}
 use Rattle.journal_data.specs.journal_links.Begun.{LinkBegun}
 use Rattle.journal_data.specs.journal_links.Changes.{changes_of, note_said, notes_said}
 use Rattle.journal_data.specs.journal_links.Entered.{AllAreEntered}
@@ -69,8 +70,8 @@ followed number link side journal front rest is follows =
 
 -- ---- both ends
 
-pub entered_alike : (journal : List Entry) → AllAreEntered journal → AllFollowCentral journal → AllAreEnteredAlike journal
-entered_alike journal entered follows front rest later last side other number event channel too link is is_too is_link count =
+pub entered_alike : (mixed : Mixed) (journal : List Entry) → AllAreEntered journal → AllFollowCentral mixed journal → AllAreEnteredAlike mixed journal
+entered_alike mixed journal entered follows front rest later last side other number event channel too link is is_too unmixed unmixed_too is_link count =
     let one = entered front rest side number event channel is in
     let two = entered later last other number event too is_too in
     let enters = Enter side number event channel ∷ rest in
@@ -79,9 +80,9 @@ entered_alike journal entered follows front rest later last side other number ev
     let far : two.link ≡ link = sym (one_link number journal front later enters enters_too one.link two.link is is_too one.is_link two.is_link) ∙ own in
     let is_link_too = two.is_link ∙ ap Some far in
     let same : changes_of number link side front ≡ changes_of number link other later =
-    followed number link side journal front enters is (follows front rest side number event channel link is is_link)
+    followed number link side journal front enters is (follows front rest side number event channel link is unmixed is_link)
     ∙ ap (λ n. take n (indications_sent number link journal)) count
-    ∙ sym (followed number link other journal later enters_too is_too (follows later last other number event too link is_too is_link_too)) in
+    ∙ sym (followed number link other journal later enters_too is_too (follows later last other number event too link is_too unmixed_too is_link_too)) in
     let both = in_one_turn side other number event channel too journal front later enters enters_too is is_too one two
     (λ any any_is. let equal : any ≡ link = (let same_link : Some any ≡ Some link = sym any_is ∙ is_link in cc) in
     subst (λ l. changes_of number l side front ≡ changes_of number l other later) (sym equal) same) in

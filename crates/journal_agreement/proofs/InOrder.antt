@@ -22,6 +22,7 @@ use Rattle.journal.specs.declared.entries.Entry.TheVariants.{Enter, Took}
 use Rattle.link_changes.specs.Noted.{applied_noted, event_after, event_noted, indication_in, indications_noted, taking_if, takings_from, takings_noted}
 use Rattle.link_changes.proofs.Notes.{event_more, takings-append}
 use Rattle.journal_data.specs.Delivered.{AllDataArrives, IsReliable}
+use Rattle.journal_data.specs.Followed.{Mixed, StaysMixed}
 use Rattle.journal_data.specs.Lines.{Lines, PduLine, line_after, lines_after, lines_of, no_lines, pdus_on}
 use Rattle.journal_data.specs.journal_links.Begun.{LinkBegun, link_numbered}
 use Rattle.journal_data.specs.journal_links.Changes.{note_said, notes_said, role_by, role_on}
@@ -127,7 +128,7 @@ taken_more B front number count llid body =
 
 -- ---- one link, up to a line
 
-module _ (journal : List Entry) (arrives : AllDataArrives journal) (as_sent : AllAreReadAsSent journal) (number : ℕ) (link : LinkBegun)
+module _ (mixed : Mixed) (stays : StaysMixed mixed) (journal : List Entry) (arrives : AllDataArrives mixed journal) (as_sent : AllAreReadAsSent mixed journal) (number : ℕ) (link : LinkBegun)
     (is_link : link_numbered number journal ≡ Some link) (side : Side) (is_peripheral : role_on link side ≡ Peripheral) where
   abbrev sent : List Entry → List Change
   sent front = indications_sent number link front
@@ -144,16 +145,17 @@ module _ (journal : List Entry) (arrives : AllDataArrives journal) (as_sent : Al
 
   -- what the central sent on the link is what this side took and the PDU that it takes now
   pdus_sent : (front rest : List Entry) (count llid : ℕ) (body : List ℕ) → journal ≡ front ++ Took side number count llid body ∷ rest
+      → mixed number (front ++ Took side number count llid body ∷ []) ≡ false
       → pdus_on number (lines_of 8 link.central front).sent ≡ pdus_on number (lines_of 8 side front).taken ++ pdu_taken number count llid body ∷ []
-  pdus_sent front rest count llid body is =
+  pdus_sent front rest count llid body is unmixed =
       let line = Took side number count llid body in
       let one = pdu_taken number count llid body in
       let far = far_side link.central side is_peripheral in
       let is_after = is ∙ sym (append_assoc front (line ∷ []) rest) in
       let before = subst (λ s. IsReliable number (lines_of 8 link.central front) (lines_of 8 s front)) far
-      (arrives front (line ∷ rest) is link.central number).reliable in
+      (arrives front (line ∷ rest) is link.central number (stays number front (line ∷ []) unmixed)).reliable in
       let after = subst (λ s. IsReliable number (lines_of 8 link.central (front ++ line ∷ [])) (lines_of 8 s (front ++ line ∷ []))) far
-      (arrives (front ++ line ∷ []) rest is_after link.central number).reliable in
+      (arrives (front ++ line ∷ []) rest is_after link.central number unmixed).reliable in
       let now : pdus_on number (lines_of 8 side (front ++ line ∷ [])).taken ≡ pdus_on number (lines_of 8 side front).taken ++ one ∷ [] =
       ap (pdus_on number) (taken_more side front number count llid body) ∙ one_more number (lines_of 8 side front).taken one
       ∙ ap (λ b. pdus_on number (lines_of 8 side front).taken ++ (if b then one ∷ [] else [])) (eq-eqb number number refl) in
@@ -163,22 +165,25 @@ module _ (journal : List Entry) (arrives : AllDataArrives journal) (as_sent : Al
 
   -- so it sent one indication more than this side took, if the PDU is one
   one_ahead : (front rest : List Entry) (count llid : ℕ) (body : List ℕ) (indication : Indication) → journal ≡ front ++ Took side number count llid body ∷ rest
+      → mixed number (front ++ Took side number count llid body ∷ []) ≡ false
       → indication_in llid body ≡ Some indication → length (sent front) ≡ length (taken front) + 1
-  one_ahead front rest count llid body indication is reads =
+  one_ahead front rest count llid body indication is unmixed reads =
       let one = pdu_taken number count llid body in
       let pdus = pdus_on number (lines_of 8 side front).taken in
       let last : count_in (one ∷ []) ≡ 1 = ap (λ may. length (option_to_list may ++ [])) reads in
-      indications_counted Central link.central number front ∙ ap count_in (pdus_sent front rest count llid body is) ∙ count_more pdus (one ∷ [])
+      indications_counted Central link.central number front ∙ ap count_in (pdus_sent front rest count llid body is unmixed) ∙ count_more pdus (one ∷ [])
       ∙ (λ i. sym (indications_counted Peripheral side number front) i + last i)
 
   -- and that is the one that it takes
   sent_with : (front rest : List Entry) (count llid : ℕ) (body : List ℕ) (indication : Indication) → journal ≡ front ++ Took side number count llid body ∷ rest
+      → mixed number (front ++ Took side number count llid body ∷ []) ≡ false
       → indication_in llid body ≡ Some indication → gap_ahead (event_at front) indication < 32767 → IsLonger Change (taken front) (sent front)
       → sent front ≡ taken front ++ (taking_of (event_at front) indication).change ∷ []
-  sent_with front rest count llid body indication is reads in_time longer =
-      let last = as_sent front rest side number count llid body link indication is is_link is_peripheral reads in_time in
+  sent_with front rest count llid body indication is unmixed reads in_time longer =
+      let last = as_sent front rest side number count llid body link indication is
+      (stays number front (Took side number count llid body ∷ []) unmixed) is_link is_peripheral reads in_time in
       one_after Change (taken front) (sent front) last.earlier (taking_of (event_at front) indication).change longer
-      (one_ahead front rest count llid body indication is reads) last.is
+      (one_ahead front rest count llid body indication is unmixed reads) last.is
 
   -- ---- one line more
 
@@ -199,10 +204,12 @@ module _ (journal : List Entry) (arrives : AllDataArrives journal) (as_sent : Al
 
   -- what a line takes came in time
   abbrev Steps : List Entry → List Entry → Entry → Type 0
-  Steps front rest line = journal ≡ front ++ line ∷ rest → All IsTakenInTime (takings_in front (line ∷ [])) → Follows front → Follows (front ++ line ∷ [])
+  Steps front rest line =
+      journal ≡ front ++ line ∷ rest → mixed number (front ++ line ∷ []) ≡ false → All IsTakenInTime (takings_in front (line ∷ [])) → Follows front
+      → Follows (front ++ line ∷ [])
 
   took_here : (front rest : List Entry) (count llid : ℕ) (body : List ℕ) → Steps front rest (Took side number count llid body)
-  took_here front rest count llid body is all follows = by (indication_in llid body) refl
+  took_here front rest count llid body is unmixed all follows = by (indication_in llid body) refl
     where
       here : takings_in front (Took side number count llid body ∷ []) ≡ taking_if (event_at front) (indication_in llid body) ++ []
       here = ap (λ lines. takings_from Peripheral (event_at front) (flat_map note_said lines))
@@ -216,7 +223,7 @@ module _ (journal : List Entry) (arrives : AllDataArrives journal) (as_sent : Al
           let came : IsTakenInTime taking = All-head IsTakenInTime taking []
           (All-same IsTakenInTime (taking ∷ []) (takings_in front (Took side number count llid body ∷ [])) (sym one) all) in
           follows_more front (Took side number count llid body) (taking ∷ []) one
-          (record { more = []; is = sent_with front rest count llid body indication is reads (omega (arith, came)) follows ∙ sym (append-nil _) })
+          (record { more = []; is = sent_with front rest count llid body indication is unmixed reads (omega (arith, came)) follows ∙ sym (append-nil _) })
 
   steps : (front rest : List Entry) (line : Entry) → Steps front rest line
   steps front rest (Took other of count llid body) = by (own_or_not side other number of (Took other of count llid body))
@@ -224,17 +231,17 @@ module _ (journal : List Entry) (arrives : AllDataArrives journal) (as_sent : Al
       by : ((other ≡ side) × (of ≡ number)) ⊎ (where_named side number (Some (other, of)) (Took other of count llid body) ≡ [])
           → Steps front rest (Took other of count llid body)
       by (inl same) = subst (Steps front rest) (λ i. Took (sym same.0 i) (sym same.1 i) count llid body) (took_here front rest count llid body)
-      by (inr none) = λ is all follows. follows_none front (Took other of count llid body)
+      by (inr none) = λ is unmixed all follows. follows_none front (Took other of count llid body)
           (ap (λ lines. takings_from Peripheral (event_at front) (flat_map note_said (lines ++ []))) none) follows
-  steps front rest line = λ is all follows. follows_none front line
+  steps front rest line = λ is unmixed all follows. follows_none front line
       (either_named (λ lines. takings_from Peripheral (event_at front) (flat_map note_said lines) ≡ []) side number (link_named line) line refl refl) follows
 
   -- ---- all lines up to one
 
-  follows_to : (whole tail front rest : List Entry) → journal ≡ whole ++ tail → whole ≡ front ++ rest → All IsTakenInTime (takings_in front rest)
-      → Follows front → Follows whole
-  follows_to whole tail front [] is parts all follows = subst Follows (sym (parts ∙ append-nil front)) follows
-  follows_to whole tail front (line ∷ rest) is parts all follows =
+  follows_to : (whole tail front rest : List Entry) → journal ≡ whole ++ tail → mixed number whole ≡ false → whole ≡ front ++ rest
+      → All IsTakenInTime (takings_in front rest) → Follows front → Follows whole
+  follows_to whole tail front [] is unmixed parts all follows = subst Follows (sym (parts ∙ append-nil front)) follows
+  follows_to whole tail front (line ∷ rest) is unmixed parts all follows =
       let said = notes_said side number (line ∷ []) in
       let more = takings_in front (line ∷ []) in
       let next = front ++ line ∷ [] in
@@ -246,12 +253,14 @@ module _ (journal : List Entry) (arrives : AllDataArrives journal) (as_sent : Al
       ∙ takings-append Peripheral (event_at front) said (notes_said side number rest) in
       let in_time = All-same IsTakenInTime (more ++ later) (takings_in front (line ∷ rest)) (sym both) all in
       let here = is ∙ ap (λ all. all ++ tail) parts ∙ append_assoc front (line ∷ rest) tail in
-      follows_to whole tail next rest is (parts ∙ sym (append_assoc front (line ∷ []) rest))
+      let parts_then = parts ∙ sym (append_assoc front (line ∷ []) rest) in
+      follows_to whole tail next rest is unmixed parts_then
       (subst (λ n. All IsTakenInTime (takings_from Peripheral n (notes_said side number rest))) (sym event) (rest_all IsTakenInTime more later in_time))
-      (steps front (rest ++ tail) line here (first_all IsTakenInTime more later in_time) follows)
+      (steps front (rest ++ tail) line here (stays number next rest (sym (ap (mixed number) parts_then) ∙ unmixed)) (first_all IsTakenInTime more later in_time) follows)
 
-  pub follows_all : (whole tail : List Entry) → journal ≡ whole ++ tail → All IsTakenInTime (takings_noted Peripheral (notes_said side number whole)) → Follows whole
-  follows_all whole tail is all = follows_to whole tail [] whole is refl all (record { more = sent []; is = refl })
+  pub follows_all : (whole tail : List Entry) → journal ≡ whole ++ tail → mixed number whole ≡ false
+      → All IsTakenInTime (takings_noted Peripheral (notes_said side number whole)) → Follows whole
+  follows_all whole tail is unmixed all = follows_to whole tail [] whole is unmixed refl all (record { more = sent []; is = refl })
 
 -- ---- both ends
 
@@ -268,8 +277,9 @@ own_central B B is = refl
 own_central A B is = absurd cc
 own_central B A is = absurd cc
 
-pub follow_in_order : (journal : List Entry) → AllDataArrives journal → AllAreReadAsSent journal → AllCameInTime journal → AllFollowCentral journal
-follow_in_order journal arrives as_sent in_time front rest side number event channel link is is_link = by (role_on link side) refl
+pub follow_in_order : (mixed : Mixed) (journal : List Entry) → StaysMixed mixed → AllDataArrives mixed journal → AllAreReadAsSent mixed journal
+    → AllCameInTime journal → AllFollowCentral mixed journal
+follow_in_order mixed journal stays arrives as_sent in_time front rest side number event channel link is unmixed is_link = by (role_on link side) refl
   where
     by : (role : Role) → role_on link side ≡ role → FollowsCentral number link side front
     by Central role =
@@ -282,4 +292,4 @@ follow_in_order journal arrives as_sent in_time front rest side number event cha
         let enters = Enter side number event channel ∷ rest in
         let whole = ap (link_numbered number) is ∙ number_stays number front enters link is_link in
         follows_as Peripheral number link side front role
-        (follows_all journal arrives as_sent number link whole side role front enters is (in_time front rest side number event channel link is is_link role))
+        (follows_all mixed stays journal arrives as_sent number link whole side role front enters is unmixed (in_time front rest side number event channel link is is_link role))

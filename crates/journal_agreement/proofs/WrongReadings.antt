@@ -1,5 +1,5 @@
 -- Lines in which a peripheral reads another change than its central sent, or takes an indication that is late.
-use Rattle.std.proofs.Common.{◌≡◌, ◌≢◌, ℕ, ◌+◌, ◌<◌, ◌≤◌, List, [], ◌∷◌, ◌++◌, Some, refl, sym, ap, subst, ◌∙◌, arith, append_assoc, length-append}
+use Rattle.std.proofs.Common.{◌≡◌, ◌≢◌, ℕ, ◌+◌, ◌<◌, ◌≤◌, false, List, [], ◌∷◌, ◌++◌, Some, refl, sym, ap, subst, ◌∙◌, arith, append_assoc, length-append}
 use Rattle.std.specs.List.{sum_by}
 use Rattle.std.proofs.lemmas.List.{append_cancel_left}
 use Rattle.std.proofs.lemmas.List.Elements.{All-head, All-same}
@@ -15,6 +15,7 @@ use Rattle.journal.specs.declared.entries.Entry.TheVariants.{Enter, Took}
 use Rattle.link_changes.specs.Noted.{event_noted, indication_in, taking_if, takings_noted}
 use Rattle.link_changes.specs.Worked.{update_at, update_octets}
 use Rattle.link_changes.proofs.Notes.{takings_more}
+use Rattle.journal_data.specs.Followed.{Mixed}
 use Rattle.journal_data.specs.journal_links.Begun.{LinkBegun, link_numbered}
 use Rattle.journal_data.specs.journal_links.Changes.{notes_said, role_on}
 use Rattle.journal_data.specs.journal_links.Rows.{one_link}
@@ -35,17 +36,17 @@ last_differs one other first last differ is =
     let sum : 0 + first.at.0 ≡ 0 + last.at.0 = ap (sum_by (λ (change : Change). change.at.0)) same in differ (omega (arith, sum))
 
 -- after these lines the central has sent an update for event 6, and the peripheral takes one as for another event
-pub read_wrong : (front lines rest : List Entry) (event instant : ℕ) → event_noted (notes_said A 1 (front ++ lines)) ≡ event
+pub read_wrong : (mixed : Mixed) (front lines rest : List Entry) (event instant : ℕ) → mixed 1 (front ++ lines) ≡ false → event_noted (notes_said A 1 (front ++ lines)) ≡ event
     → indications_sent 1 one_link (front ++ lines) ≡ indications_sent 1 one_link front ++ update_at 6 6 ∷ []
     → indication_in 3 (update_octets instant) ≡ Some (Update 0 8 0 100 instant) → gap_ahead event (Update 0 8 0 100 instant) < 32767
     → 6 ≢ event + gap_ahead event (Update 0 8 0 100 instant) → link_numbered 1 front ≡ Some one_link
-    → AllAreReadAsSent (front ++ (lines ++ Took A 1 1 3 (update_octets instant) ∷ rest)) → ⊥
-read_wrong front lines rest event instant in_event sent reads near differs is_link all =
+    → AllAreReadAsSent mixed (front ++ (lines ++ Took A 1 1 3 (update_octets instant) ∷ rest)) → ⊥
+read_wrong mixed front lines rest event instant unmixed in_event sent reads near differs is_link all =
     let line = Took A 1 1 3 (update_octets instant) in
     let indication = Update 0 8 0 100 instant in
     let whole = number_stays 1 front (lines ++ line ∷ rest) one_link is_link in
     let last = subst (λ n. IsLastSent (taking_of n indication).change (indications_sent 1 one_link (front ++ lines))) in_event
-    (all (front ++ lines) rest A 1 1 3 (update_octets instant) one_link indication (sym (append_assoc front lines (line ∷ rest))) whole refl reads
+    (all (front ++ lines) rest A 1 1 3 (update_octets instant) one_link indication (sym (append_assoc front lines (line ∷ rest))) unmixed whole refl reads
     (subst (λ n. gap_ahead n indication < 32767) (sym in_event) near)) in
     last_differs (indications_sent 1 one_link front) last.earlier (update_at 6 6) (taking_of event indication).change differs (sym sent ∙ last.is)
 

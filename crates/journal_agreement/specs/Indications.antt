@@ -1,7 +1,7 @@
 -- Both ends of a link follow one list of indications: those that the central sent. So in events of one number in
 -- which the same number of them is in force they have one anchor, one channel and equal parameters (Core 5.2, volume 6
 -- part B, sections 4.5.1, 4.5.8, 5.1.1, 5.1.2 and 5.5).
-use Rattle.std.specs.Prelude.{◌≡◌, ℕ, List, ◌∷◌, ◌++◌, length, take, Some}
+use Rattle.std.specs.Prelude.{◌≡◌, ℕ, false, List, ◌∷◌, ◌++◌, length, take, Some}
 use Rattle.ble_base.specs.declared.roles.Role.TheVariants.{Central}
 use Rattle.ble_base.specs.declared.roles.Side.{Side}
 use Rattle.instants.specs.Parameters.{params_in}
@@ -9,6 +9,7 @@ use Rattle.instants.specs.declared.track.Change.{Change}
 use Rattle.journal.specs.declared.entries.Entry.{Entry}
 use Rattle.journal.specs.declared.entries.Entry.TheVariants.{Enter}
 use Rattle.link_changes.specs.Noted.{indications_noted}
+use Rattle.journal_data.specs.Followed.{Mixed}
 use Rattle.journal_data.specs.journal_links.Begun.{LinkBegun, link_numbered}
 use Rattle.journal_data.specs.journal_links.Changes.{changes_of, notes_said}
 use Rattle.journal_data.specs.link_model.Setup.{first_params}
@@ -26,11 +27,11 @@ FollowsCentral number link side front =
     let changes = changes_of number link side front in
     changes ≡ take (length changes) (indications_sent number link front)
 
--- so it is where an end enters an event
-abbrev pub AllFollowCentral : List Entry → Type 0
-AllFollowCentral journal = (front rest : List Entry) (side : Side) (number event channel : ℕ) (link : LinkBegun)
-    → journal ≡ front ++ Enter side number event channel ∷ rest → link_numbered number front ≡ Some link
-    → FollowsCentral number link side front
+-- so it is where an end enters an event, as long as no packet of the link is mixed
+abbrev pub AllFollowCentral : Mixed → List Entry → Type 0
+AllFollowCentral mixed journal = (front rest : List Entry) (side : Side) (number event channel : ℕ) (link : LinkBegun)
+    → journal ≡ front ++ Enter side number event channel ∷ rest → mixed number front ≡ false
+    → link_numbered number front ≡ Some link → FollowsCentral number link side front
 
 -- ---- both ends
 
@@ -43,10 +44,11 @@ pub record AreEnteredAlike (front later : List Entry) (side other : Side) (numbe
       params_in (first_params link.fields) (changes_of number link side front) event
       ≡ params_in (first_params link.fields) (changes_of number link other later) event
 
--- so it is wherever the same number of indications is in force at both
-abbrev pub AllAreEnteredAlike : List Entry → Type 0
-AllAreEnteredAlike journal = (front rest later last : List Entry) (side other : Side) (number event channel too : ℕ)
+-- so it is wherever the same number of indications is in force at both, as long as no packet of the link is mixed
+abbrev pub AllAreEnteredAlike : Mixed → List Entry → Type 0
+AllAreEnteredAlike mixed journal = (front rest later last : List Entry) (side other : Side) (number event channel too : ℕ)
     (link : LinkBegun) → journal ≡ front ++ Enter side number event channel ∷ rest
-    → journal ≡ later ++ Enter other number event too ∷ last → link_numbered number front ≡ Some link
+    → journal ≡ later ++ Enter other number event too ∷ last
+    → mixed number front ≡ false → mixed number later ≡ false → link_numbered number front ≡ Some link
     → length (changes_of number link side front) ≡ length (changes_of number link other later)
     → AreEnteredAlike front later side other number event channel too link

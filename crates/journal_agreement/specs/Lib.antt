@@ -2,3 +2,5 @@
 pub mod Indications
 pub mod Taken
 pub mod Rows
+-- what the crates above use of those below
+pub use Rattle.journal_data.specs as journal_data

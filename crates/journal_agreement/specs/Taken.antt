@@ -1,5 +1,5 @@
 -- How a peripheral reads the indications that it takes, and when they come (Core 5.2, volume 6 part B, section 5.5).
-use Rattle.std.specs.Prelude.{◌≡◌, ℕ, ◌<◌, List, [], ◌∷◌, ◌++◌, Some}
+use Rattle.std.specs.Prelude.{◌≡◌, ℕ, ◌<◌, false, List, [], ◌∷◌, ◌++◌, Some}
 use Rattle.std.specs.List.{All}
 use Rattle.ble_base.specs.declared.roles.Role.TheVariants.{Peripheral}
 use Rattle.ble_base.specs.declared.roles.Side.{Side}
@@ -11,6 +11,7 @@ use Rattle.journal.specs.declared.entries.Entry.{Entry}
 use Rattle.journal.specs.declared.entries.Entry.TheVariants.{Enter, Took}
 use Rattle.link_changes.specs.Noted.{event_noted, indication_in, takings_noted}
 use Rattle.link_indications.specs.InTime.{IsTakenInTime}
+use Rattle.journal_data.specs.Followed.{Mixed}
 use Rattle.journal_data.specs.journal_links.Begun.{LinkBegun, link_numbered}
 use Rattle.journal_data.specs.journal_links.Changes.{notes_said, role_on}
 use Rattle.journal_agreement.specs.Indications.{indications_sent}
@@ -23,11 +24,11 @@ pub record IsLastSent (change : Change) (sent : List Change) : Type 0 where
   pub is : sent ≡ earlier ++ change ∷ []
 
 -- a peripheral that takes an indication whose Instant has not passed reads the change that its central sent last: the
--- indication, and the event that the sixteen bits of its Instant name
-abbrev pub AllAreReadAsSent : List Entry → Type 0
-AllAreReadAsSent journal = (front rest : List Entry) (side : Side) (number count llid : ℕ) (body : List ℕ)
+-- indication, and the event that the sixteen bits of its Instant name. So it is as long as no packet of the link is mixed
+abbrev pub AllAreReadAsSent : Mixed → List Entry → Type 0
+AllAreReadAsSent mixed journal = (front rest : List Entry) (side : Side) (number count llid : ℕ) (body : List ℕ)
     (link : LinkBegun) (indication : Indication) → journal ≡ front ++ Took side number count llid body ∷ rest
-    → link_numbered number journal ≡ Some link → role_on link side ≡ Peripheral
+    → mixed number front ≡ false → link_numbered number journal ≡ Some link → role_on link side ≡ Peripheral
     → indication_in llid body ≡ Some indication
     → gap_ahead (event_noted (notes_said side number front)) indication < 32767
     → IsLastSent (taking_of (event_noted (notes_said side number front)) indication).change

@@ -1,5 +1,5 @@
 -- Where a central takes the first PDU of a procedure that its own excludes, it prevails: by the lines before it.
-use Rattle.std.proofs.Common.{◌≡◌, ℕ, zero, suc, ◌==◌, Bool, true, false, Some, None, List, [], ◌∷◌, ◌++◌, fold, map, refl, sym, ap, subst, ◌∙◌}
+use Rattle.std.proofs.Common.{◌≡◌, ℕ, ◌==◌, Bool, true, false, Some, None, List, [], ◌∷◌, ◌++◌, fold, map, refl, sym, ap, subst, ◌∙◌}
 use Rattle.std.specs.Prelude.{if◌then◌else◌}
 use Rattle.std.specs.List.{Contains}
 use Rattle.std.proofs.lemmas.Bool.{and_parts, eqb-true}
@@ -7,7 +7,7 @@ use Rattle.std.proofs.lemmas.List.Sums.{fold-append}
 use Rattle.ble_base.specs.declared.notes.Note.TheVariants.{Took as TookNote}
 use Rattle.ble_base.specs.declared.procedure_kinds.Kind.{Kind}
 use Rattle.ble_base.specs.declared.procedure_kinds.Kind.TheVariants.{Map as MapKind, Phy as PhyKind, Request as RequestKind, Update as UpdateKind}
-use Rattle.ble_base.specs.declared.roles.Role.TheVariants.{Central, Peripheral}
+use Rattle.ble_base.specs.declared.roles.Role.TheVariants.{Central}
 use Rattle.ble_base.specs.declared.roles.Side.{Side}
 use Rattle.ble_base.specs.declared.roles.Side.TheVariants.{A, B}
 use Rattle.data_pdu.specs.Reading.{ctrl_of}
@@ -29,10 +29,9 @@ use Rattle.journal_endings.specs.controller_model.Step.{PacketHeard, Step}
 use Rattle.journal_endings.proofs.controller_model.Handles.{own_handles}
 use Rattle.journal_endings.proofs.controller_model.UnderNotes.{AreOn, end_on}
 use Rattle.journal_endings.proofs.link_calls.run_laws.TwoStations.{are_two}
-use Rattle.journal_endings.specs.journal_indications.journal_data.journal_links.Begun.{LinkBegun, link_numbered}
+use Rattle.journal_endings.specs.journal_indications.journal_data.journal_links.Begun.{LinkBegun}
 use Rattle.journal_endings.specs.journal_indications.journal_data.journal_links.Changes.{role_by}
 use Rattle.journal_endings.specs.journal_indications.journal_data.journal_links.LinkLines.{line_of, lines_of}
-use Rattle.journal_endings.specs.journal_indications.journal_data.journal_links.Opened.{central_side}
 use Rattle.journal_endings.specs.journal_indications.journal_data.link_model.End.{notes_after as end_notes, notes_of as end_notes_of}
 use Rattle.journal_endings.specs.journal_indications.journal_data.link_model.Setup.{Setup as EndSetup}
 use Rattle.journal_endings.specs.journal_indications.journal_data.link_model.Step.{PacketReceived}
@@ -40,17 +39,18 @@ use Rattle.journal_endings.specs.journal_indications.journal_data.open_links.Ope
 use Rattle.journal_endings.specs.journal_indications.journal_data.run_laws.Ends.{AreEnds, IsOpen, OpenEnd, link_listened}
 use Rattle.journal_endings.specs.journal_indications.journal_data.run_model.Feeding.{AreDistinct}
 use Rattle.journal_endings.specs.journal_indications.journal_data.run_model.History.{Called, Event, past_of}
-use Rattle.journal_endings.specs.journal_indications.journal_data.run_model.Journal.{journal_of, side_of}
 use Rattle.journal_endings.specs.journal_indications.journal_data.run_model.LinkEnds.{HaveAddresses}
 use Rattle.journal_endings.specs.journal_indications.journal_data.run_model.NoteLines.{IsLineInCall, LinkLine, took_line}
-use Rattle.journal_endings.specs.journal_indications.journal_data.run_model.Numbers.{AreNumbered}
 use Rattle.journal_endings.specs.journal_indications.journal_data.run_model.Run.{Given, facts_at, history_of, run_of, setup_at}
+use Rattle.journal_endings.specs.journal_indications.journal_data.Followed.{Follows, Mixed}
+use Rattle.journal_endings.proofs.journal_indications.journal_data.Followed.{AreEndsOf, hear_in_call, is_of_two}
 use Rattle.journal_endings.proofs.journal_indications.journal_data.KeptData.{other_in}
+use Rattle.journal_endings.proofs.journal_indications.journal_data.NumberedEnds.{front_of_two}
+use Rattle.journal_endings.proofs.journal_indications.journal_data.PairedEnds.{far_end, own_central, own_end}
 use Rattle.journal_endings.proofs.journal_indications.journal_data.Mine.{HasFarEnd}
 use Rattle.journal_endings.proofs.journal_indications.journal_data.journal_acks.Exchanging.{number_at}
 use Rattle.journal_endings.proofs.journal_indications.journal_data.journal_acks.TwoStations.{IsOfTwo, other_of}
-use Rattle.journal_endings.proofs.journal_indications.journal_data.journal_links.ChangesAt.{role_is}
-use Rattle.journal_endings.proofs.journal_indications.journal_data.journal_links.OfTwo.{are_distinct, of_two_stations}
+use Rattle.journal_endings.proofs.journal_indications.journal_data.journal_links.OfTwo.{are_distinct}
 use Rattle.journal_endings.proofs.journal_indications.journal_data.journal_packets.AccessOrder.{AreNth}
 use Rattle.journal_endings.proofs.journal_indications.journal_data.link_model.Hearing.{IsHeardWhole}
 use Rattle.journal_endings.proofs.journal_indications.journal_data.link_model.Pasts.{notes_grow}
@@ -61,19 +61,15 @@ use Rattle.journal_endings.proofs.journal_indications.journal_data.run_model.Num
 use Rattle.journal_endings.proofs.journal_indications.journal_data.run_model.Stations.{is_in}
 use Rattle.journal_endings.proofs.journal_indications.InTime.{role_of_end}
 use Rattle.journal_endings.proofs.journal_indications.LineEnds.{IsEndOfLine, end_of_line, in_it}
-use Rattle.journal_endings.proofs.journal_indications.NumberedEnds.{IsNumberedEnd, front_of_two, numbered_end}
-use Rattle.journal_endings.proofs.journal_indications.OneNumber.{one_connect}
-use Rattle.journal_endings.proofs.journal_indications.PairedEnds.{far_end, own_end}
 use Rattle.journal_endings.proofs.journal_indications.Receptions.{IsReception, listened}
 use Rattle.link_procedures.specs.Running.{runs_after as note_runs, runs_at}
 use Rattle.link_procedures.proofs.Steps.{past_goes}
 use Rattle.journal_endings.specs.link_runs.link_pairs.Hearing.{received}
 use Rattle.run_collisions.specs.Prevailing.{Prevails, TakesColliding, first_of, seen}
 use Rattle.run_collisions.proofs.OfPairs.{good_taken, hear_before, sent_to_central}
-use Rattle.journal_endings.specs.run_pairs.InTurns.{HasSentNow, HearEachInTurn}
+use Rattle.journal_endings.specs.run_pairs.InTurns.{HasSentNow, HearEachInTurn, HearNoMixed}
 use Rattle.journal_collisions.specs.Collisions.{Collides, control_in, first_opcode, kind_begun, runs_after}
 use Rattle.journal_collisions.proofs.EndLines.{end_lines, first_on, rest_on, under_all}
-use Rattle.journal_collisions.proofs.RefusedLines.{is_of_two}
 use Rattle.journal_collisions.proofs.RunsNoted.{lines_run, own_seen, runs_seen}
 
 -- ---- kinds
@@ -136,55 +132,15 @@ pub central_by : (side : Side) → role_by side side ≡ Central
 central_by A = refl
 central_by B = refl
 
-far_role : (station : ℕ) → role_by (side_of station) (side_of (other_of station)) ≡ Peripheral
-far_role zero = refl
-far_role (suc station) = refl
-
 -- ---- both ends of the link of a central that listens
 
-module _ (understood : IsUnderstood) (taken : AreTaken) (given : Given) (are_pair : IsOfTwo given) (six : HaveAddresses given) (before rest : List Event)
-    (station : ℕ) (step : Step)
-    (at : history_of (run_of given) ≡ before ++ Called station step ∷ rest) (on : is_in station given.stations ≡ true) (handle : ℕ) (link : OpenLink)
-    (is_open : link_at handle (facts_at given station before).links ≡ Some link) (role : link.setup.link.role ≡ Central)
-    (far : HasFarEnd given station before handle) where
-  abbrev other : ℕ
-  other = other_of station
-
-  numbers : AreNumbered given before
-  numbers = numbered_at understood taken given before rest (Called station step) (are_distinct given are_pair) six at refl
-
-  own : IsNumberedEnd before (number_at station handle before) station link.setup
-  own =
-      numbered_end before (number_at station handle before) station link.setup
-      (front_of_two understood taken given are_pair six before (Called station step ∷ rest) at)
-      (of_two_stations given are_pair station on) (numbers station handle link is_open)
-
-  there : IsNumberedEnd before (number_at other far.far_handle before) other far.far.setup
-  there =
-      numbered_end before (number_at other far.far_handle before) other far.far.setup
-      (front_of_two understood taken given are_pair six before (Called station step ∷ rest) at)
-      (of_two_stations given are_pair other (other_in given are_pair station on)) (numbers other far.far_handle far.far far.is_open)
-
-  same_begun : (one two : LinkBegun) → Some one ≡ Some two → one ≡ two
-  same_begun one two is = cc
-
-  one_link : there.link ≡ own.link
-  one_link = same_begun there.link own.link (sym there.is_link ∙ ap (λ n. link_numbered n (journal_of before)) far.same ∙ own.is_link)
-
-  -- the link has its central on this side
-  central_here : central_side far.far.setup.link.role (side_of other) ≡ side_of station
-  central_here =
-      sym there.central_is ∙ ap (λ (l : LinkBegun). l.central) one_link ∙ own.central_is ∙ ap (λ r. central_side r (side_of station)) role
-
-  pub central_ends : AreEnds before (own_end station handle link) (far_end given station before handle far)
-  central_ends = record {
-    of_central = (numbers station handle link is_open).has;
-    of_peripheral = (numbers other far.far_handle far.far far.is_open).has;
-    same = one_connect before (number_at station handle before) (number_at other far.far_handle before) station other link.setup far.far.setup (sym far.same)
-        (numbers station handle link is_open) (numbers other far.far_handle far.far far.is_open);
-    is_central = role;
-    is_peripheral = sym (role_is far.far.setup.link.role (side_of other)) ∙ ap (λ s. role_by s (side_of other)) central_here ∙ far_role station;
-  }
+pub central_ends : IsUnderstood → AreTaken → (given : Given) → IsOfTwo given → HaveAddresses given → (before rest : List Event) (station : ℕ) (step : Step)
+    → history_of (run_of given) ≡ before ++ Called station step ∷ rest → is_in station given.stations ≡ true → (handle : ℕ) (link : OpenLink)
+    → link_at handle (facts_at given station before).links ≡ Some link → link.setup.link.role ≡ Central → (far : HasFarEnd given station before handle)
+    → AreEndsOf before (number_at station handle before) (own_end station handle link) (far_end given station before handle far)
+central_ends understood taken given are_pair six before rest station step at on handle link is_open role far =
+    own_central given are_pair before (numbered_at understood taken given before rest (Called station step) (are_distinct given are_pair) six at refl)
+    (front_of_two understood taken given are_pair six before (Called station step ∷ rest) at) station on handle link is_open far role
 
 -- ---- in each run
 
@@ -196,6 +152,7 @@ PrevailInRuns = (given : Given) (before rest : List Event) (octets : List ℕ) (
     → Contains given.stations central.station → Contains given.stations peripheral.station
     → history_of (run_of given) ≡ before ++ Called central.station (PacketHeard octets) ∷ rest
     → AreEnds before central peripheral → HearEachInTurn given before central peripheral
+    → HearNoMixed given (before ++ Called central.station (PacketHeard octets) ∷ []) central peripheral
     → IsOpen given before central → IsOpen given before peripheral
     → link_listened (facts_at given central.station before).turn.doing ≡ Some central.handle
     → HasSentNow given before central peripheral (facts_in central.link).event.channel octets
@@ -206,11 +163,11 @@ PrevailInRuns = (given : Given) (before rest : List Event) (octets : List ℕ) (
     (received setup slot octets room (facts_in central.link)) own other
 
 module _ (whole_heard : IsHeardWhole) (understood : IsUnderstood) (taken : AreTaken) (nth : AreNth) (apart : AreApart) (given : Given)
-    (are_pair : IsOfTwo given) (six : HaveAddresses given) (prevail : PrevailInRuns) (front : List Entry) (link : LinkBegun) (number count llid : ℕ)
+    (are_pair : IsOfTwo given) (six : HaveAddresses given) (mixed : Mixed) (follows : Follows given mixed) (prevail : PrevailInRuns) (front : List Entry) (link : LinkBegun) (number count llid : ℕ)
     (body : List ℕ) (call : IsLineInCall given front (took_line link.central number count llid body))
     (heard : IsReception (setup_at given call.station) (facts_at given call.station call.base) call.step call.earlier call.handle count llid
     (record { items = body }))
-    (far : HasFarEnd given call.station call.base call.handle) (p q : Kind) (collides : Collides front link number llid body p q) where
+    (far : HasFarEnd given call.station call.base call.handle) (unmixed : mixed number front ≡ false) (p q : Kind) (collides : Collides front link number llid body p q) where
   abbrev line : LinkLine
   line = took_line link.central number count llid body
 
@@ -246,7 +203,7 @@ module _ (whole_heard : IsHeardWhole) (understood : IsUnderstood) (taken : AreTa
   pub at : history_of (run_of given) ≡ call.base ++ Called call.station (PacketHeard heard.octets) ∷ call.after
   at = call.called ∙ ap (λ s. call.base ++ Called call.station s ∷ call.after) heard.step_is
 
-  two : AreEnds call.base central peripheral
+  two : AreEndsOf call.base (number_at call.station call.handle call.base) central peripheral
   two = central_ends understood taken given are_pair six call.base call.after call.station call.step call.called on call.handle heard.link heard.is_open role far
 
   handle_here : heard.link.setup.link.handle ≡ call.handle
@@ -306,12 +263,14 @@ module _ (whole_heard : IsHeardWhole) (understood : IsUnderstood) (taken : AreTa
       let distinct = are_distinct given are_pair in
       let listens = listened call.handle facts.turn.doing heard.listens in
       prevail given call.base call.after heard.octets room central peripheral excludes.kind begun.kind distinct six
-      (is_of_two given are_pair call.station on) (is_of_two given are_pair (other_of call.station) in_far) at two
+      (is_of_two given are_pair call.station on) (is_of_two given are_pair (other_of call.station) in_far) at two.ends
       (hear_before understood taken apart given six distinct (are_two given 0 1 are_pair) call.base
-      (Called call.station (PacketHeard heard.octets) ∷ call.after) heard.octets central peripheral on in_far two at)
+      (Called call.station (PacketHeard heard.octets) ∷ call.after) heard.octets central peripheral on in_far two.ends at)
+      (hear_in_call given mixed follows are_pair front line call unmixed heard.octets heard.step_is (number_at call.station call.handle call.base) central peripheral
+      on in_far two of.number_is)
       heard.is_open far.is_open listens
       (sent_to_central understood taken apart given six distinct (are_two given 0 1 are_pair) call.base call.after heard.octets central peripheral
-      on in_far two at heard.is_open listens
+      on in_far two.ends at heard.is_open listens
       (good_taken setup (facts_in heard.link) heard.octets facts.turn.slot room call.earlier heard.rest
       (TookNote call.handle count llid (record { items = body })) heard.notes_are))
       colliding

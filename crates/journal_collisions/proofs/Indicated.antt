@@ -18,6 +18,7 @@ use Rattle.exclusive_stages.specs.declared.pdus.Exclusive.TheVariants.{Map, Phy,
 use Rattle.journal.specs.declared.entries.Entry.{Entry}
 use Rattle.journal.specs.declared.entries.Entry.TheVariants.{Sent, Took}
 use Rattle.procedure_stages.specs.Opcodes.{enc_req_opcode, phy_req_opcode}
+use Rattle.journal_endings.specs.journal_indications.journal_data.Followed.{Follows, Mixed}
 use Rattle.journal_endings.specs.journal_indications.journal_data.journal_links.Begun.{LinkBegun, link_numbered}
 use Rattle.journal_endings.specs.journal_indications.journal_data.journal_links.LinkLines.{lines_of, link_named, where_named}
 use Rattle.journal_endings.specs.journal_indications.journal_data.run_model.History.{Called, past_of}
@@ -129,7 +130,7 @@ own_or_not side other number link line = by side other (link == number) refl
     by B A same is = inr refl
 
 module _ (whole_heard : IsHeardWhole) (understood : IsUnderstood) (taken : AreTaken) (nth : AreNth) (apart : AreApart) (given : Given)
-    (are_pair : IsOfTwo given) (six : HaveAddresses given) (unrefused : AreUnrefusedInRuns) (link : LinkBegun) (number : ℕ) (kind : Exclusive) where
+    (are_pair : IsOfTwo given) (six : HaveAddresses given) (mixed : Mixed) (follows : Follows given mixed) (unrefused : AreUnrefusedInRuns) (link : LinkBegun) (number : ℕ) (kind : Exclusive) where
   abbrev journal : List Entry
   journal = journal_of (history_of (run_of given))
 
@@ -140,12 +141,12 @@ module _ (whole_heard : IsHeardWhole) (understood : IsUnderstood) (taken : AreTa
   ours lines = lines_of link.central number lines
 
   own_none : (done rest : List Entry) (count llid : ℕ) (body : List ℕ) → journal ≡ done ++ Took link.central number count llid body ∷ rest
-      → link_numbered number done ≡ Some link → is_kind (kind_begun (control_in llid body)) (kind_answered (kind_of kind)) ≡ false → (opens : Bool)
+      → mixed number done ≡ false → link_numbered number done ≡ Some link → is_kind (kind_begun (control_in llid body)) (kind_answered (kind_of kind)) ≡ false → (opens : Bool)
       → ((llid == 3) && is_opening_read kind (ctrl_of body)) ≡ opens → opens ≡ false
-  own_none done rest count llid body is is_link none true opens =
+  own_none done rest count llid body is unmixed is_link none true opens =
       absurd (let no : true ≡ false = sym (taken_first kind llid body opens (λ ctrl three says. line_unrefused whole_heard understood taken nth apart given are_pair
-      six unrefused done rest link number count llid body ctrl is is_link three says)) ∙ none in cc)
-  own_none done rest count llid body is is_link none false opens = refl
+      six mixed follows unrefused done rest link number count llid body ctrl is unmixed is_link three says)) ∙ none in cc)
+  own_none done rest count llid body is unmixed is_link none false opens = refl
 
   -- a line of the central on the link
   other_none : (line : Entry) → is_opening_line kind line ≡ false
@@ -164,46 +165,48 @@ module _ (whole_heard : IsHeardWhole) (understood : IsUnderstood) (taken : AreTa
       by B (Some (A, other)) = refl
 
   took_none : (done rest : List Entry) (side : Side) (other count llid : ℕ) (body : List ℕ) → journal ≡ done ++ Took side other count llid body ∷ rest
-      → link_numbered number done ≡ Some link
+      → mixed number done ≡ false → link_numbered number done ≡ Some link
       → list_any first_test (where_named link.central number (Some (side, other)) (Took side other count llid body)) ≡ false
       → IsNamed link.central side number other ⊎ (where_named link.central number (Some (side, other)) (Took side other count llid body) ≡ [])
       → list_any (is_opening_line kind) (where_named link.central number (Some (side, other)) (Took side other count llid body)) ≡ false
-  took_none done rest side other count llid body is is_link none (inr nothing) = ap (list_any (is_opening_line kind)) nothing
-  took_none done rest side other count llid body is is_link none (inl named) =
+  took_none done rest side other count llid body is unmixed is_link none (inr nothing) = ap (list_any (is_opening_line kind)) nothing
+  took_none done rest side other count llid body is unmixed is_link none (inl named) =
       let line = Took side other count llid body in
       let here : where_named link.central number (Some (side, other)) line ≡ line ∷ [] =
       (λ i. where_named link.central number (Some (named.side_is i, named.link_is i)) line)
       ∙ sym (append-nil (where_named link.central number (Some (link.central, number)) line))
       ∙ named_here link.central number number line (eq-eqb number number refl) in
       let not_first = (or_parts (first_test line) false (sym (ap (list_any first_test) here) ∙ none)).0 in
-      let opens = own_none done rest count llid body (is ∙ (λ i. done ++ Took (named.side_is i) (named.link_is i) count llid body ∷ rest)) is_link not_first
+      let opens = own_none done rest count llid body (is ∙ (λ i. done ++ Took (named.side_is i) (named.link_is i) count llid body ∷ rest)) unmixed is_link not_first
       ((llid == 3) && is_opening_read kind (ctrl_of body)) refl in
       ap (list_any (is_opening_line kind)) here ∙ (λ i. opens i || false)
 
-  line_none : (done rest : List Entry) (line : Entry) → journal ≡ done ++ line ∷ rest → link_numbered number done ≡ Some link
+  line_none : (done rest : List Entry) (line : Entry) → journal ≡ done ++ line ∷ rest → mixed number done ≡ false → link_numbered number done ≡ Some link
       → list_any first_test (where_named link.central number (link_named line) line) ≡ false
       → list_any (is_opening_line kind) (where_named link.central number (link_named line) line) ≡ false
-  line_none done rest (Took side other count llid body) is is_link none =
-      took_none done rest side other count llid body is is_link none (own_or_not link.central side number other (Took side other count llid body))
-  line_none done rest line is is_link none = other_none line refl
+  line_none done rest (Took side other count llid body) is unmixed is_link none =
+      took_none done rest side other count llid body is unmixed is_link none (own_or_not link.central side number other (Took side other count llid body))
+  line_none done rest line is unmixed is_link none = other_none line refl
 
-  pub lines_none : (done more tail : List Entry) → journal ≡ (done ++ more) ++ tail → link_numbered number done ≡ Some link
+  pub lines_none : (done more tail : List Entry) → journal ≡ (done ++ more) ++ tail → mixed number (done ++ more) ≡ false
+      → link_numbered number done ≡ Some link
       → list_any first_test (ours more) ≡ false → list_any (is_opening_line kind) (ours more) ≡ false
-  lines_none done [] tail is is_link none = refl
-  lines_none done (line ∷ more) tail is is_link none =
+  lines_none done [] tail is unmixed is_link none = refl
+  lines_none done (line ∷ more) tail is unmixed is_link none =
       let here = where_named link.central number (link_named line) line in
       let parts = or_parts (list_any first_test here) (list_any first_test (ours more)) (sym (list_any-append first_test here (ours more)) ∙ none) in
-      let first = line_none done (more ++ tail) line (is ∙ append_assoc done (line ∷ more) tail) is_link parts.0 in
+      let first = line_none done (more ++ tail) line (is ∙ append_assoc done (line ∷ more) tail)
+      (follows.front number done (line ∷ more) unmixed) is_link parts.0 in
       let rest = lines_none (done ++ line ∷ []) more tail (is ∙ ap (λ xs. xs ++ tail) (sym (append_assoc done (line ∷ []) more)))
-      (number_stays number done (line ∷ []) link is_link) parts.1 in
+      (ap (mixed number) (append_assoc done (line ∷ []) more) ∙ unmixed) (number_stays number done (line ∷ []) link is_link) parts.1 in
       list_any-append (is_opening_line kind) here (ours more) ∙ (λ i. first i || rest i)
 
 -- ---- so the indication is of the own procedure
 
 module _ (whole_heard : IsHeardWhole) (understood : IsUnderstood) (taken : AreTaken) (nth : AreNth) (apart : AreApart) (given : Given)
-    (are_pair : IsOfTwo given) (six : HaveAddresses given) (prevail : PrevailInRuns) (unrefused : AreUnrefusedInRuns) where
-  pub all_indicated : NoneIsIndicated (journal_of (history_of (run_of given)))
-  all_indicated front between rest link number count llid body next_count next_llid next p q own is collides indicates_own =
+    (are_pair : IsOfTwo given) (six : HaveAddresses given) (mixed : Mixed) (follows : Follows given mixed) (prevail : PrevailInRuns) (unrefused : AreUnrefusedInRuns) where
+  pub all_indicated : NoneIsIndicated mixed (journal_of (history_of (run_of given)))
+  all_indicated front between rest link number count llid body next_count next_llid next p q own is unmixed_there collides indicates_own =
       by (indication next_llid next own indicates_own) (any_line (takes_first (kind_answered own)) (lines_of link.central number between)) refl
     where
       own_now : (got : IsIndication own next_llid next) → list_any (takes_first (kind_answered own)) (lines_of link.central number between) ≡ false
@@ -219,13 +222,15 @@ module _ (whole_heard : IsHeardWhole) (understood : IsUnderstood) (taken : AreTa
           let at : history_of (run_of given) ≡ call.base ++ Called call.station (PacketHeard heard.octets) ∷ call.after =
           call.called ∙ ap (λ s. call.base ++ Called call.station s ∷ call.after) heard.step_is in
           let far = far_before whole_heard understood taken nth apart given are_pair six call.base call.after call.station heard.octets at call.handle heard.link
-          heard.is_open heard.listens in
-          let unopened = lines_none whole_heard understood taken nth apart given are_pair six unrefused link number got.kind (front ++ took_now ∷ []) between
+          heard.is_open heard.listens heard.unforged in
+          let unmixed = follows.front number front (took_now ∷ between) unmixed_there in
+          let unopened = lines_none whole_heard understood taken nth apart given are_pair six mixed follows unrefused link number got.kind (front ++ took_now ∷ []) between
           (sent_now ∷ rest) (is ∙ ap (λ xs. xs ++ sent_now ∷ rest) (sym (append_assoc front (took_now ∷ []) between)))
+          (ap (mixed number) (append_assoc front (took_now ∷ []) between) ∙ unmixed_there)
           (number_stays number front (took_now ∷ []) link collides.is_link)
           (ap (λ (k : Kind). list_any (takes_first (kind_answered k)) (lines_of link.central number between)) got.kind_is ∙ none) in
           ap (λ (k : Kind). runs_on k link.central number (front ++ took_now ∷ between)) (sym got.kind_is)
-          ∙ owned whole_heard understood taken nth apart given are_pair six prevail front between link number count llid body call heard far p q collides
+          ∙ owned whole_heard understood taken nth apart given are_pair six mixed follows prevail front between link number count llid body call heard far unmixed p q collides
           next_count next_llid next next_call got.kind unopened got.three got.is
 
       by : IsIndication own next_llid next → (found : Bool) → any_line (takes_first (kind_answered own)) (lines_of link.central number between) ≡ found

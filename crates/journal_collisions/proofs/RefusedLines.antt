@@ -1,5 +1,5 @@
 -- Where a peripheral takes the rejection of its procedure, its next line of the link is that the procedure is refused.
-use Rattle.std.proofs.Common.{◌≡◌, ℕ, ◌==◌, ◌⊎◌, inl, inr, arith, Bool, true, false, Option, Some, None, List, [], ◌∷◌, ◌++◌, map, refl, sym, ap, subst, ◌∙◌, append_assoc}
+use Rattle.std.proofs.Common.{◌≡◌, ℕ, ◌==◌, ◌⊎◌, Bool, true, false, Option, Some, None, List, [], ◌∷◌, ◌++◌, map, refl, sym, ap, subst, ◌∙◌, append_assoc}
 use Rattle.std.specs.Prelude.{if◌then◌else◌}
 use Rattle.std.specs.List.{Contains}
 use Rattle.std.proofs.lemmas.Bool.{eq-eqb, eqb-true}
@@ -50,14 +50,18 @@ use Rattle.journal_endings.specs.journal_indications.journal_data.run_model.Link
 use Rattle.journal_endings.specs.journal_indications.journal_data.run_model.Links.{links_of}
 use Rattle.journal_endings.specs.journal_indications.journal_data.run_model.NoteLines.{IsLineInCall, LinkLine, took_line}
 use Rattle.journal_endings.specs.journal_indications.journal_data.run_model.Run.{Given, facts_at, history_of, run_of, setup_at}
+use Rattle.journal_endings.specs.journal_indications.journal_data.Followed.{Follows, Mixed}
+use Rattle.journal_endings.proofs.journal_indications.journal_data.Followed.{AreEndsOf, hear_in_call, is_of_two}
 use Rattle.journal_endings.proofs.journal_indications.journal_data.KeptData.{other_in}
+use Rattle.journal_endings.proofs.journal_indications.journal_data.PairedEnds.{are_ends, far_end, own_end}
+use Rattle.journal_endings.proofs.journal_indications.journal_data.journal_acks.Exchanging.{number_at}
 use Rattle.journal_endings.proofs.journal_indications.journal_data.Mine.{HasFarEnd}
 use Rattle.journal_endings.proofs.journal_indications.journal_data.journal_acks.TwoStations.{IsOfTwo, other_of}
 use Rattle.journal_endings.proofs.journal_indications.journal_data.journal_acks.Worded.{link_worded, worded, worded_here}
 use Rattle.journal_endings.specs.controller_model.host_view.Links.{was_encrypted}
 use Rattle.journal_endings.proofs.journal_indications.journal_data.journal_links.LinkLines.{lines_append, named_here}
 use Rattle.journal_endings.proofs.journal_indications.journal_data.journal_links.LinksBegun.{number_stays}
-use Rattle.journal_endings.proofs.journal_indications.journal_data.journal_links.OfTwo.{are_distinct, of_two_stations}
+use Rattle.journal_endings.proofs.journal_indications.journal_data.journal_links.OfTwo.{are_distinct}
 use Rattle.journal_endings.proofs.journal_indications.journal_data.journal_packets.AccessOrder.{AreNth}
 use Rattle.journal_endings.proofs.journal_indications.journal_data.link_model.Hearing.{IsHeardWhole}
 use Rattle.journal_endings.proofs.journal_indications.journal_data.open_links.Handles.{handle_is}
@@ -68,12 +72,11 @@ use Rattle.journal_endings.proofs.journal_indications.journal_data.run_model.Sta
 use Rattle.journal_endings.proofs.journal_indications.FarEnds.{far_before}
 use Rattle.journal_endings.proofs.journal_indications.InTime.{role_of_end}
 use Rattle.journal_endings.proofs.journal_indications.LineEnds.{IsEndOfLine, end_of_line, in_it}
-use Rattle.journal_endings.proofs.journal_indications.PairedEnds.{are_ends, far_end, own_end}
 use Rattle.journal_endings.proofs.journal_indications.Receptions.{IsReception, listened, reception_of, same_notes}
 use Rattle.run_collisions.specs.Prevailing.{seen}
 use Rattle.run_collisions.specs.Refused.{IsRefused, TakesRejection}
 use Rattle.run_collisions.proofs.OfPairs.{good_taken, hear_before, sent_to_peripheral}
-use Rattle.journal_endings.specs.run_pairs.InTurns.{HasSentNow, HearEachInTurn}
+use Rattle.journal_endings.specs.run_pairs.InTurns.{HasSentNow, HearEachInTurn, HearNoMixed}
 use Rattle.journal_endings.specs.link_runs.link_pairs.Hearing.{received}
 use Rattle.journal_collisions.specs.Collisions.{AllAreRefused, IsRejection, control_in, first_of, first_opcode, kind_begun}
 use Rattle.journal_collisions.proofs.NextLines.{next_line, whole}
@@ -176,14 +179,6 @@ far_peripheral B = refl
 
 -- ---- in each run
 
--- a station of two is one of the list
-pub is_of_two : (given : Given) → IsOfTwo given → (station : ℕ) → is_in station given.stations ≡ true → Contains given.stations station
-is_of_two given are station found = by (of_two_stations given are station found)
-  where
-    by : (station ≡ 0) ⊎ (station ≡ 1) → Contains given.stations station
-    by (inl is) = subst (λ xs. Contains xs station) (sym are) (subst (Contains (0 ∷ 1 ∷ [])) (sym is) (0, omega arith, refl))
-    by (inr is) = subst (λ xs. Contains xs station) (sym are) (subst (Contains (0 ∷ 1 ∷ [])) (sym is) (1, omega arith, refl))
-
 -- a peripheral that takes the rejection of its procedure notes that it is refused
 abbrev pub AreRefusedInRuns : Type 0
 AreRefusedInRuns = (given : Given) (before rest : List Event) (octets : List ℕ) (room : Bool)
@@ -192,6 +187,7 @@ AreRefusedInRuns = (given : Given) (before rest : List Event) (octets : List ℕ
     → Contains given.stations central.station → Contains given.stations peripheral.station
     → history_of (run_of given) ≡ before ++ Called peripheral.station (PacketHeard octets) ∷ rest
     → AreEnds before central peripheral → HearEachInTurn given before central peripheral
+    → HearNoMixed given (before ++ Called peripheral.station (PacketHeard octets) ∷ []) central peripheral
     → IsOpen given before central → IsOpen given before peripheral
     → link_listened (facts_at given peripheral.station before).turn.doing ≡ Some peripheral.handle
     → HasSentNow given before peripheral central (facts_in peripheral.link).event.channel octets
@@ -202,14 +198,14 @@ AreRefusedInRuns = (given : Given) (before rest : List Event) (octets : List ℕ
     (received setup slot octets room (facts_in peripheral.link)) taking.later q code
 
 module _ (whole_heard : IsHeardWhole) (understood : IsUnderstood) (taken : AreTaken) (nth : AreNth) (apart : AreApart) (given : Given)
-    (are_pair : IsOfTwo given) (six : HaveAddresses given) (refuses : AreRefusedInRuns) where
+    (are_pair : IsOfTwo given) (six : HaveAddresses given) (mixed : Mixed) (follows : Follows given mixed) (refuses : AreRefusedInRuns) where
   -- what its call takes, and the far end
   module _ (front rest : List Entry) (side : Side) (number count llid : ℕ) (body : List ℕ)
       (is : journal_of (history_of (run_of given)) ≡ front ++ Took side number count llid body ∷ rest)
       (call : IsLineInCall given front (took_line side number count llid body))
       (heard : IsReception (setup_at given call.station) (facts_at given call.station call.base) call.step call.earlier call.handle count llid
       (record { items = body }))
-      (far : HasFarEnd given call.station call.base call.handle) (link : LinkBegun) (is_link : link_numbered number front ≡ Some link)
+      (far : HasFarEnd given call.station call.base call.handle) (unmixed : mixed number front ≡ false) (link : LinkBegun) (is_link : link_numbered number front ≡ Some link)
       (is_peripheral : role_on link side ≡ Peripheral) (q : Exclusive) (code : ErrCode)
       (ctrl : IsControl llid body (Known (RejectExtInd (opcode_of_kind q) code.0))) where
     abbrev line : LinkLine
@@ -245,7 +241,7 @@ module _ (whole_heard : IsHeardWhole) (understood : IsUnderstood) (taken : AreTa
     role : heard.link.setup.link.role ≡ Peripheral
     role = sym (role_of_end link of.link_begun heard.link.setup.link.role side known of.central_is) ∙ is_peripheral
 
-    two : AreEnds call.base central peripheral
+    two : AreEndsOf call.base (number_at call.station call.handle call.base) central peripheral
     two = are_ends understood taken given are_pair six call.base call.after call.station call.step call.called on call.handle heard.link heard.is_open role far
 
     own : heard.link.setup.link.handle ≡ call.handle
@@ -277,12 +273,14 @@ module _ (whole_heard : IsHeardWhole) (understood : IsUnderstood) (taken : AreTa
         (received heard.link.setup facts.turn.slot heard.octets room (facts_in heard.link)) heard.rest q code
     refused =
         refuses given call.base call.after heard.octets room central peripheral q code distinct six (is_of_two given are_pair (other_of call.station) in_far)
-        (is_of_two given are_pair call.station on) at two
+        (is_of_two given are_pair call.station on) at two.ends
         (hear_before understood taken apart given six distinct (are_two given 0 1 are_pair) call.base
-        (Called call.station (PacketHeard heard.octets) ∷ call.after) heard.octets central peripheral in_far on two at)
+        (Called call.station (PacketHeard heard.octets) ∷ call.after) heard.octets central peripheral in_far on two.ends at)
+        (hear_in_call given mixed follows are_pair front line call unmixed heard.octets heard.step_is (number_at call.station call.handle call.base) central peripheral
+        in_far on two of.number_is)
         far.is_open heard.is_open listens
         (sent_to_peripheral understood taken apart given six distinct (are_two given 0 1 are_pair) call.base call.after heard.octets central peripheral
-        in_far on two at heard.is_open listens
+        in_far on two.ends at heard.is_open listens
         (good_taken heard.link.setup (facts_in heard.link) heard.octets facts.turn.slot room call.earlier heard.rest
         (TookNote call.handle count llid (record { items = body })) heard.notes_are))
         taking
@@ -320,9 +318,9 @@ module _ (whole_heard : IsHeardWhole) (understood : IsUnderstood) (taken : AreTa
   -- the line after that of the rejection
   line_refused : (front rest : List Entry) (number count llid : ℕ) (body : List ℕ) (link : LinkBegun) (p q : Kind)
       → journal_of (history_of (run_of given)) ≡ front ++ Took (other_side link.central) number count llid body ∷ rest
-      → link_numbered number front ≡ Some link → IsBegun q → IsRejection p q llid body
+      → mixed number front ≡ false → link_numbered number front ≡ Some link → IsBegun q → IsRejection p q llid body
       → first_of (lines_of (other_side link.central) number rest) ≡ Some (Refused (other_side link.central) number q (collision_code p q))
-  line_refused front rest number count llid body link p q is is_link begun rejects =
+  line_refused front rest number count llid body link p q is unmixed is_link begun rejects =
       let side = other_side link.central in
       let line = took_line side number count llid body in
       let call = line_in_call given front rest (Took side number count llid body) line refl is in
@@ -333,16 +331,16 @@ module _ (whole_heard : IsHeardWhole) (understood : IsUnderstood) (taken : AreTa
       let at : history_of (run_of given) ≡ base ++ Called station (PacketHeard heard.octets) ∷ call.after =
       call.called ∙ ap (λ s. base ++ Called station s ∷ call.after) heard.step_is in
       let far = far_before whole_heard understood taken nth apart given are_pair six base call.after station heard.octets at call.handle heard.link heard.is_open
-      heard.listens in
+      heard.listens heard.unforged in
       let ctrl = is_control llid body (Known (RejectExtInd (opcode_of_kind begun.q) (collision_code p q).0))
       (rejects ∙ ap (λ n. Some (Known (RejectExtInd n (collision_code p q).0))) begun.opcode_is) in
-      refused_next front rest side number count llid body is call heard far link is_link (far_peripheral link.central) begun.q (collision_code p q) ctrl
+      refused_next front rest side number count llid body is call heard far unmixed link is_link (far_peripheral link.central) begun.q (collision_code p q) ctrl
       ∙ ap (λ kind. Some (Refused side number kind (collision_code p q))) begun.kind_is
 
-  pub all_refused : AllAreRefused (journal_of (history_of (run_of given)))
-  all_refused front between later rest link number count llid body next_count next_llid next p q is collides none rejects =
+  pub all_refused : AllAreRefused mixed (journal_of (history_of (run_of given)))
+  all_refused front between later rest link number count llid body next_count next_llid next p q is unmixed collides none rejects =
       let sent = Sent link.central number next_count next_llid next in
       let took = Took link.central number count llid body in
-      line_refused (front ++ took ∷ between ++ sent ∷ later) rest number next_count next_llid next link p q is
+      line_refused (front ++ took ∷ between ++ sent ∷ later) rest number next_count next_llid next link p q is unmixed
       (number_stays number (front ++ took ∷ between) (sent ∷ later) link (number_stays number front (took ∷ between) link collides.is_link))
       (begun_kind (control_in llid body) q collides.first) rejects

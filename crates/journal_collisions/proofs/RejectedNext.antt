@@ -58,6 +58,7 @@ use Rattle.journal_endings.specs.journal_indications.journal_data.run_model.Link
 use Rattle.journal_endings.specs.journal_indications.journal_data.run_model.NoteLines.{IsLineInCall, LinkLine, sent_line, took_line}
 use Rattle.journal_endings.specs.journal_indications.journal_data.run_model.Numbers.{HasNumber}
 use Rattle.journal_endings.specs.journal_indications.journal_data.run_model.Run.{Given, facts_at, history_of, run_of, setup_at}
+use Rattle.journal_endings.specs.journal_indications.journal_data.Followed.{Follows, Mixed}
 use Rattle.journal_endings.proofs.journal_indications.journal_data.Mine.{HasFarEnd}
 use Rattle.journal_endings.proofs.journal_indications.journal_data.journal_acks.DataCalls.{listens_on_link}
 use Rattle.journal_endings.proofs.journal_indications.journal_data.journal_acks.Exchanging.{number_at}
@@ -96,7 +97,7 @@ use Rattle.journal_ends.proofs.StandingLinks.{older_at}
 use Rattle.journal_endings.proofs.EndingProcedures.{same_ends}
 use Rattle.journal_endings.proofs.journal_indications.InTime.{role_of_end}
 use Rattle.journal_endings.proofs.journal_indications.LineEnds.{IsEndOfLine, end_of_line, in_it, none as none_open}
-use Rattle.journal_endings.proofs.journal_indications.OneNumber.{one_connect}
+use Rattle.journal_endings.proofs.journal_indications.journal_data.OneNumber.{one_connect}
 use Rattle.journal_endings.proofs.journal_indications.FarEnds.{far_before}
 use Rattle.journal_endings.proofs.journal_indications.Receptions.{IsReception, reception_of}
 use Rattle.journal_endings.proofs.journal_indications.journal_data.run_model.NoteLines.{line_in_call}
@@ -240,11 +241,11 @@ no_more known earlier rest now most lines after said one two none less all = ome
 -- ---- a line of a PDU that the central sends, and that of the PDU that it took
 
 module _ (whole_heard : IsHeardWhole) (understood : IsUnderstood) (taken : AreTaken) (nth : AreNth) (apart : AreApart) (given : Given)
-    (are_pair : IsOfTwo given) (six : HaveAddresses given) (prevail : PrevailInRuns) (front between : List Entry) (link : LinkBegun) (number count llid : ℕ)
+    (are_pair : IsOfTwo given) (six : HaveAddresses given) (mixed : Mixed) (follows : Follows given mixed) (prevail : PrevailInRuns) (front between : List Entry) (link : LinkBegun) (number count llid : ℕ)
     (body : List ℕ) (call : IsLineInCall given front (took_line link.central number count llid body))
     (heard : IsReception (setup_at given call.station) (facts_at given call.station call.base) call.step call.earlier call.handle count llid
     (record { items = body }))
-    (far : HasFarEnd given call.station call.base call.handle) (p q : Kind) (collides : Collides front link number llid body p q)
+    (far : HasFarEnd given call.station call.base call.handle) (unmixed : mixed number front ≡ false) (p q : Kind) (collides : Collides front link number llid body p q)
     (next_count next_llid : ℕ) (next : List ℕ)
     (next_call : IsLineInCall given (front ++ Took link.central number count llid body ∷ between) (sent_line link.central number next_count next_llid next)) where
   abbrev took : Entry
@@ -287,24 +288,24 @@ module _ (whole_heard : IsHeardWhole) (understood : IsUnderstood) (taken : AreTa
   distinct = are_distinct given are_pair
 
   is_on : is_in call.station given.stations ≡ true
-  is_on = on whole_heard understood taken nth apart given are_pair six prevail front link number count llid body call heard far p q collides
+  is_on = on whole_heard understood taken nth apart given are_pair six mixed follows prevail front link number count llid body call heard far unmixed p q collides
 
   is_central : heard.link.setup.link.role ≡ Central
-  is_central = role whole_heard understood taken nth apart given are_pair six prevail front link number count llid body call heard far p q collides
+  is_central = role whole_heard understood taken nth apart given are_pair six mixed follows prevail front link number count llid body call heard far unmixed p q collides
 
   -- of its own it runs a procedure that excludes others, and no encryption
   now_alone : has_encryption now.control.table.progress ≡ false
   now_alone =
-      let own = excludes whole_heard understood taken nth apart given are_pair six prevail front link number count llid body call heard far p q collides in
+      let own = excludes whole_heard understood taken nth apart given are_pair six mixed follows prevail front link number count llid body call heard far unmixed p q collides in
       exclusive_alone now.control.table.progress (is_open now.control.table.closing) now.control.table.queue.rejections now.control.table.queue.drafts own.kind
-      (runs_still whole_heard understood taken nth apart given are_pair six prevail front link number count llid body call heard far p q collides)
+      (runs_still whole_heard understood taken nth apart given are_pair six mixed follows prevail front link number count llid body call heard far unmixed p q collides)
 
   now_central : role_of now.control.table.progress ≡ Central
   now_central =
       ap (λ (f : EndFacts). role_of f.control.table.progress) now_past.is ∙ keeps_role end_setup now_past.past ∙ is_central
 
   called : history_of (run_of given) ≡ call.base ++ Called call.station (PacketHeard heard.octets) ∷ call.after
-  called = at whole_heard understood taken nth apart given are_pair six prevail front link number count llid body call heard far p q collides
+  called = at whole_heard understood taken nth apart given are_pair six mixed follows prevail front link number count llid body call heard far unmixed p q collides
 
   -- the link as the turn of the second line begins
   module _ (later : OpenLink) (later_open : link_at next_call.handle (facts_at given next_call.station next_call.base).links ≡ Some later) where
@@ -437,7 +438,7 @@ module _ (whole_heard : IsHeardWhole) (understood : IsUnderstood) (taken : AreTa
         first_lines : sents (lines_of link.central number front) ≡ known + sendings call.earlier
         unfolding known
         first_lines =
-            ap sents (lines_are whole_heard understood taken nth apart given are_pair six prevail front link number count llid body call heard far p q collides)
+            ap sents (lines_are whole_heard understood taken nth apart given are_pair six mixed follows prevail front link number count llid body call heard far unmixed p q collides)
             ∙ lines_sent link.central number (notes_opened_on end_setup heard.link.past ++ call.earlier)
             ∙ sendings_more (notes_opened_on end_setup heard.link.past) call.earlier
             ∙ plus_none (sendings (end_notes_of end_setup heard.link.past)) (sendings call.earlier)
@@ -584,7 +585,7 @@ module _ (whole_heard : IsHeardWhole) (understood : IsUnderstood) (taken : AreTa
             let line_is = line_of link.central number in
             let known = notes_opened_on end_setup heard.link.past ++ call.earlier in
             let notes = heard.rest ++ notes_from end_setup now more_steps in
-            let first = lines_are whole_heard understood taken nth apart given are_pair six prevail front link number count llid body call heard far p q collides in
+            let first = lines_are whole_heard understood taken nth apart given are_pair six mixed follows prevail front link number count llid body call heard far unmixed p q collides in
             let both : map line_is known ++ took ∷ map line_is notes ≡ map line_is known ++ took ∷ lines_of link.central number between =
             sym (map-append line_is known (told ∷ notes)) ∙ ap (map line_is) (sym notes_all) ∙ sym lines_later ∙ lines_parted
             ∙ ap (λ xs. xs ++ took ∷ lines_of link.central number between) first in
@@ -613,7 +614,7 @@ module _ (whole_heard : IsHeardWhole) (understood : IsUnderstood) (taken : AreTa
 
           owes_last : Owes kind (central_of last.control.table)
           owes_last =
-              let all = prevails whole_heard understood taken nth apart given are_pair six prevail front link number count llid body call heard far p q collides in
+              let all = prevails whole_heard understood taken nth apart given are_pair six mixed follows prevail front link number count llid body call heard far unmixed p q collides in
               subst (λ (f : EndFacts). Owes kind (central_of f.control.table)) (sym last_is)
               (steps_owe end_setup now more_steps kind now_past is_central (all.owes kind) kept_none none_opened_since)
 
@@ -644,15 +645,15 @@ module _ (whole_heard : IsHeardWhole) (understood : IsUnderstood) (taken : AreTa
         → next_call.base ≡ call.base ++ Called call.station call.step ∷ mid → (opened : Bool) → is_open (facts_in heard.link).control.table.closing ≡ opened
         → IsRejection p q next_llid next ⊎ IsTermination next_llid next
     by_closing none begins mid base_is true opened =
-        let first = begun whole_heard understood taken nth apart given are_pair six prevail front link number count llid body call heard far p q collides in
-        let own = excludes whole_heard understood taken nth apart given are_pair six prevail front link number count llid body call heard far p q collides in
-        let all = prevails whole_heard understood taken nth apart given are_pair six prevail front link number count llid body call heard far p q collides in
+        let first = begun whole_heard understood taken nth apart given are_pair six mixed follows prevail front link number count llid body call heard far unmixed p q collides in
+        let own = excludes whole_heard understood taken nth apart given are_pair six mixed follows prevail front link number count llid body call heard far unmixed p q collides in
+        let all = prevails whole_heard understood taken nth apart given are_pair six mixed follows prevail front link number count llid body call heard far unmixed p q collides in
         let rejects = all.rejected (ap is_open (closing_by heard.link.setup is_central facts.turn.slot (facts_in heard.link) heard_past
         (good_pdu heard.link.setup (facts_in heard.link) heard.octets)) ∙ opened) in
         inl (written_now rejects.rejection later.setup later_central own.kind first.kind p q next_llid next own.kind_is first.kind_is first.opcode
         rejects.opcode rejects.code (sent_now begins mid base_is none rejects.rejection rejects.next))
     by_closing none begins mid base_is false closed =
-        let all = prevails whole_heard understood taken nth apart given are_pair six prevail front link number count llid body call heard far p q collides in
+        let all = prevails whole_heard understood taken nth apart given are_pair six mixed follows prevail front link number count llid body call heard far unmixed p q collides in
         let same = closing_by heard.link.setup is_central facts.turn.slot (facts_in heard.link) heard_past
         (good_pdu heard.link.setup (facts_in heard.link) heard.octets) in
         let shut = ap is_open same ∙ closed in
@@ -707,10 +708,11 @@ module _ (whole_heard : IsHeardWhole) (understood : IsUnderstood) (taken : AreTa
       next_count next_llid next next_call.step next_call.notes_are)
 
 module _ (whole_heard : IsHeardWhole) (understood : IsUnderstood) (taken : AreTaken) (nth : AreNth) (apart : AreApart) (given : Given)
-    (are_pair : IsOfTwo given) (six : HaveAddresses given) (prevail : PrevailInRuns) where
-  pub all_rejected : AllAreRejectedNext (journal_of (history_of (run_of given)))
-  all_rejected front between rest link number count llid body next_count next_llid next p q is collides none =
+    (are_pair : IsOfTwo given) (six : HaveAddresses given) (mixed : Mixed) (follows : Follows given mixed) (prevail : PrevailInRuns) where
+  pub all_rejected : AllAreRejectedNext mixed (journal_of (history_of (run_of given)))
+  all_rejected front between rest link number count llid body next_count next_llid next p q is unmixed_there collides none =
       let took = Took link.central number count llid body in
+      let unmixed = follows.front number front (took ∷ between) unmixed_there in
       let sent = Sent link.central number next_count next_llid next in
       let call = line_in_call given front (between ++ sent ∷ rest) took (took_line link.central number count llid body) refl
       (is ∙ append_assoc front (took ∷ between) (sent ∷ rest)) in
@@ -720,6 +722,6 @@ module _ (whole_heard : IsHeardWhole) (understood : IsUnderstood) (taken : AreTa
       let at : history_of (run_of given) ≡ call.base ++ Called call.station (PacketHeard heard.octets) ∷ call.after =
       call.called ∙ ap (λ s. call.base ++ Called call.station s ∷ call.after) heard.step_is in
       let far = far_before whole_heard understood taken nth apart given are_pair six call.base call.after call.station heard.octets at call.handle heard.link
-      heard.is_open heard.listens in
-      rejected_or_ending whole_heard understood taken nth apart given are_pair six prevail front between link number count llid body call heard far p q collides
+      heard.is_open heard.listens heard.unforged in
+      rejected_or_ending whole_heard understood taken nth apart given are_pair six mixed follows prevail front between link number count llid body call heard far unmixed p q collides
       next_count next_llid next next_call none

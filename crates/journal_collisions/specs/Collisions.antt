@@ -11,6 +11,7 @@ use Rattle.data_pdu.specs.declared.ctrl.CtrlRead.TheVariants.{Known}
 use Rattle.data_pdu.specs.declared.ctrl.Ctrl.TheVariants.{ConnectionParamReq, PhyReq, RejectExtInd, TerminateInd}
 use Rattle.journal.specs.declared.entries.Entry.{Entry}
 use Rattle.journal.specs.declared.entries.Entry.TheVariants.{Began, Done, Refused, Sent, Took}
+use Rattle.journal_endings.specs.journal_indications.journal_data.Followed.{Mixed}
 use Rattle.journal_endings.specs.journal_indications.journal_data.journal_links.Begun.{LinkBegun, link_numbered}
 use Rattle.journal_endings.specs.journal_indications.journal_data.journal_links.LinkLines.{lines_of}
 use Rattle.procedure_stages.specs.Collisions.{are_incompatible, collision_code}
@@ -89,22 +90,26 @@ any_line test lines = fold (λ found line. found || test line) false lines
 abbrev pub SendsNothing : Side → ℕ → List Entry → Type 0
 SendsNothing side number lines = any_line is_sent (lines_of side number lines) ≡ false
 
--- what the central sends next on the link is the rejection, or LL_TERMINATE_IND
-abbrev pub AllAreRejectedNext : List Entry → Type 0
-AllAreRejectedNext journal = (front between rest : List Entry) (link : LinkBegun) (number count llid : ℕ)
+-- what the central sends next on the link is the rejection, or LL_TERMINATE_IND, as long as no packet of the link is mixed
+abbrev pub AllAreRejectedNext : Mixed → List Entry → Type 0
+AllAreRejectedNext mixed journal = (front between rest : List Entry) (link : LinkBegun) (number count llid : ℕ)
     (body : List ℕ) (next_count next_llid : ℕ) (next : List ℕ) (p q : Kind)
     → journal ≡ front ++ Took link.central number count llid body ∷ between
     ++ Sent link.central number next_count next_llid next ∷ rest
+    → mixed number (front ++ Took link.central number count llid body ∷ between) ≡ false
     → Collides front link number llid body p q → SendsNothing link.central number between
     → IsRejection p q next_llid next ⊎ IsTermination next_llid next
 
--- where the peripheral takes that rejection, its next line of the link is that its procedure is refused with that error
-abbrev pub AllAreRefused : List Entry → Type 0
-AllAreRefused journal = (front between later rest : List Entry) (link : LinkBegun) (number count llid : ℕ)
+-- where the peripheral takes that rejection, its next line of the link is that its procedure is refused with that error, as
+-- long as no packet of the link is mixed
+abbrev pub AllAreRefused : Mixed → List Entry → Type 0
+AllAreRefused mixed journal = (front between later rest : List Entry) (link : LinkBegun) (number count llid : ℕ)
     (body : List ℕ) (next_count next_llid : ℕ) (next : List ℕ) (p q : Kind)
     → journal ≡ front ++ Took link.central number count llid body ∷ between
     ++ Sent link.central number next_count next_llid next ∷ later
     ++ Took (other_side link.central) number next_count next_llid next ∷ rest
+    → mixed number (front ++ Took link.central number count llid body ∷ between
+    ++ Sent link.central number next_count next_llid next ∷ later) ≡ false
     → Collides front link number llid body p q → SendsNothing link.central number between
     → IsRejection p q next_llid next
     → first_of (lines_of (other_side link.central) number rest)

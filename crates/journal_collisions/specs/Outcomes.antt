@@ -8,6 +8,7 @@ use Rattle.data_pdu.specs.declared.ctrl.CtrlRead.TheVariants.{Known}
 use Rattle.data_pdu.specs.declared.ctrl.Ctrl.TheVariants.{ChannelMapInd, ConnectionUpdateInd, PhyUpdateInd}
 use Rattle.journal.specs.declared.entries.Entry.{Entry}
 use Rattle.journal.specs.declared.entries.Entry.TheVariants.{Sent, Took}
+use Rattle.journal_endings.specs.journal_indications.journal_data.Followed.{Mixed}
 use Rattle.journal_endings.specs.journal_indications.journal_data.journal_links.Begun.{LinkBegun}
 use Rattle.journal_endings.specs.journal_indications.journal_data.journal_links.LinkLines.{lines_of}
 use Rattle.journal_collisions.specs.Collisions.{Collides, any_line, control_in, is_kind, kind_begun, runs_on}
@@ -32,12 +33,13 @@ takes_first kind (Took side number count llid body) = is_kind (kind_begun (contr
 takes_first kind line = false
 
 -- an indication that the central sends after it took the first PDU that collides is of its own procedure, in progress
--- then, or answers a first PDU that it took later
-abbrev pub NoneIsIndicated : List Entry → Type 0
-NoneIsIndicated journal = (front between rest : List Entry) (link : LinkBegun) (number count llid : ℕ)
+-- then, or answers a first PDU that it took later. So it is as long as no packet of the link is mixed
+abbrev pub NoneIsIndicated : Mixed → List Entry → Type 0
+NoneIsIndicated mixed journal = (front between rest : List Entry) (link : LinkBegun) (number count llid : ℕ)
     (body : List ℕ) (next_count next_llid : ℕ) (next : List ℕ) (p q own : Kind)
     → journal ≡ front ++ Took link.central number count llid body ∷ between
     ++ Sent link.central number next_count next_llid next ∷ rest
+    → mixed number (front ++ Took link.central number count llid body ∷ between) ≡ false
     → Collides front link number llid body p q → kind_indicated (control_in next_llid next) ≡ Some own
     → (runs_on own link.central number (front ++ Took link.central number count llid body ∷ between) ≡ true)
     ⊎ (any_line (takes_first (kind_answered own)) (lines_of link.central number between) ≡ true)

@@ -4,6 +4,7 @@ ghost use Rattle.std.specs.Prelude.{◌≡◌, ◌∷◌, [], ℕ, List, length}
 ghost use Rattle.radio_replay.specs.Script.{Script};
 ghost use Rattle.journal_collisions.specs.Collisions.{AllAreRefused, AllAreRejectedNext};
 ghost use Rattle.journal_collisions.specs.Outcomes.{NoneIsIndicated};
+ghost use Rattle.journal_endings.specs.journal_indications.journal_data.Followed.{Follows, Mixed};
 ghost use Rattle.journal_endings.specs.journal_indications.journal_data.run_model.Journal.{journal_of};
 ghost use Rattle.journal_endings.specs.journal_indications.journal_data.run_model.LinkEnds.{HaveAddresses};
 ghost use Rattle.journal_endings.specs.journal_indications.journal_data.run_model.Pair.{given_of};
@@ -16,11 +17,13 @@ ghost use Rattle.journal_endings.specs.journal_indications.journal_data.run_mode
 /// kind and 0x2A where they are not, or LL_TERMINATE_IND, as a central sends that is to end the
 /// link (Core 5.2, volume 6 part B, sections 2.4.2.18, 5.1.6 and 5.3).
 pub fn colliding_procedures_are_rejected_next()
-    ensures two_stations { (given : Given) → given.stations ≡ 0 ∷ 1 ∷ [] → HaveAddresses given
-        → AllAreRejectedNext (journal_of (history_of (run_of given))) }
-    ensures pair { (a b : List ℕ) (script : Script)
+    ensures two_stations { (given : Given) (mixed : Mixed) → given.stations ≡ 0 ∷ 1 ∷ []
+        → HaveAddresses given → Follows given mixed
+        → AllAreRejectedNext mixed (journal_of (history_of (run_of given))) }
+    ensures pair { (a b : List ℕ) (script : Script) (mixed : Mixed)
         → length script.a.public ≡ 6 → length script.b.public ≡ 6
-        → AllAreRejectedNext (journal_of (history_of (run_of (given_of a b script)))) }
+        → Follows (given_of a b script) mixed
+        → AllAreRejectedNext mixed (journal_of (history_of (run_of (given_of a b script)))) }
 {
     journal_endings::a_pdu_is_understood();
     advertise::laws::connections_are_taken();
@@ -34,11 +37,13 @@ pub fn colliding_procedures_are_rejected_next()
 /// procedure is refused with the error of the rejection. So it is not done (Core 5.2, volume 6 part
 /// B, sections 2.4.2.18 and 5.3).
 pub fn rejected_procedures_are_refused()
-    ensures two_stations { (given : Given) → given.stations ≡ 0 ∷ 1 ∷ [] → HaveAddresses given
-        → AllAreRefused (journal_of (history_of (run_of given))) }
-    ensures pair { (a b : List ℕ) (script : Script)
+    ensures two_stations { (given : Given) (mixed : Mixed) → given.stations ≡ 0 ∷ 1 ∷ []
+        → HaveAddresses given → Follows given mixed
+        → AllAreRefused mixed (journal_of (history_of (run_of given))) }
+    ensures pair { (a b : List ℕ) (script : Script) (mixed : Mixed)
         → length script.a.public ≡ 6 → length script.b.public ≡ 6
-        → AllAreRefused (journal_of (history_of (run_of (given_of a b script)))) }
+        → Follows (given_of a b script) mixed
+        → AllAreRefused mixed (journal_of (history_of (run_of (given_of a b script)))) }
 {
     journal_endings::a_pdu_is_understood();
     advertise::laws::connections_are_taken();
@@ -53,11 +58,13 @@ pub fn rejected_procedures_are_refused()
 /// by its lines, or answers a first PDU that it took later (Core 5.2, volume 6 part B, sections
 /// 5.1.1, 5.1.2, 5.1.7, 5.1.10 and 5.3).
 pub fn rejected_procedures_are_not_indicated()
-    ensures two_stations { (given : Given) → given.stations ≡ 0 ∷ 1 ∷ [] → HaveAddresses given
-        → NoneIsIndicated (journal_of (history_of (run_of given))) }
-    ensures pair { (a b : List ℕ) (script : Script)
+    ensures two_stations { (given : Given) (mixed : Mixed) → given.stations ≡ 0 ∷ 1 ∷ []
+        → HaveAddresses given → Follows given mixed
+        → NoneIsIndicated mixed (journal_of (history_of (run_of given))) }
+    ensures pair { (a b : List ℕ) (script : Script) (mixed : Mixed)
         → length script.a.public ≡ 6 → length script.b.public ≡ 6
-        → NoneIsIndicated (journal_of (history_of (run_of (given_of a b script)))) }
+        → Follows (given_of a b script) mixed
+        → NoneIsIndicated mixed (journal_of (history_of (run_of (given_of a b script)))) }
 {
     journal_endings::a_pdu_is_understood();
     advertise::laws::connections_are_taken();

@@ -9,6 +9,7 @@ ghost use Rattle.journal_collisions.specs.Rows.{both_begun, done_all_the_same};
 ghost use Rattle.journal_collisions.specs.Rows.{granted_all_the_same, map_octets, map_once_more};
 ghost use Rattle.journal_collisions.specs.Rows.{refused_otherwise, rejected_second, rejection};
 ghost use Rattle.journal_collisions.specs.Rows.{request_octets, sent_next};
+ghost use Rattle.journal_endings.specs.journal_indications.journal_data.Followed.{none_mixed};
 ghost use Rattle.journal_endings.specs.journal_indications.journal_data.journal_links.Rows.{one_link};
 
 /// A channel map of the central and a request of the peripheral cross on a link. The central takes
@@ -24,19 +25,20 @@ pub fn worked_collision()
 
 /// The central rejects with the error of procedures of one kind; with the opcode of the answer; or
 /// only after its own indication. The peripheral says that its procedure is refused with another
-/// error, or that it is done.
+/// error, or that it is done, which is refused only where no packet of the link is mixed before.
 pub fn wrong_collisions_are_refused()
-    ensures error { AllAreRejectedNext (sent_next (rejection 0x0F 0x23)) → ⊥ }
-    ensures opcode { AllAreRejectedNext (sent_next (rejection 0x10 0x2A)) → ⊥ }
-    ensures second { AllAreRejectedNext rejected_second → ⊥ }
-    ensures indication { AllAreRejectedNext (sent_next map_octets) → ⊥ }
-    ensures refused { AllAreRefused refused_otherwise → ⊥ }
-    ensures done { AllAreRefused done_all_the_same → ⊥ }
+    ensures error { AllAreRejectedNext none_mixed (sent_next (rejection 0x0F 0x23)) → ⊥ }
+    ensures opcode { AllAreRejectedNext none_mixed (sent_next (rejection 0x10 0x2A)) → ⊥ }
+    ensures second { AllAreRejectedNext none_mixed rejected_second → ⊥ }
+    ensures indication { AllAreRejectedNext none_mixed (sent_next map_octets) → ⊥ }
+    ensures refused { AllAreRefused none_mixed refused_otherwise → ⊥ }
+    ensures done { AllAreRefused none_mixed done_all_the_same → ⊥ }
+    ensures mixed { AllAreRefused (λ number front. true) done_all_the_same }
 {}
 
 /// The central grants the request that it rejected, by LL_CONNECTION_UPDATE_IND; or sends a channel
 /// map once more, with no such procedure in progress.
 pub fn wrong_outcomes_are_refused()
-    ensures update { NoneIsIndicated granted_all_the_same → ⊥ }
-    ensures map { NoneIsIndicated map_once_more → ⊥ }
+    ensures update { NoneIsIndicated none_mixed granted_all_the_same → ⊥ }
+    ensures map { NoneIsIndicated none_mixed map_once_more → ⊥ }
 {}

@@ -7,7 +7,7 @@ use Rattle.ble_base.specs.declared.roles.Side.{Side}
 use Rattle.hci_cmd.specs.declared.command.Command.{Command}
 use Rattle.journal.specs.declared.entries.Entry.{Entry}
 use Rattle.journal_ends.specs.Answering.{answers_from, answers_if}
-use Rattle.journal_ends.specs.Asked.{is_earlier, step_asked, step_by}
+use Rattle.journal_ends.specs.Asked.{Words, is_earlier, moment_in, step_asked, step_by}
 use Rattle.journal_ends.specs.host_answers.Answered.{accepted_in}
 use Rattle.journal_ends.specs.journal_links.Begun.{LinkBegun, link_numbered}
 use Rattle.journal_ends.specs.journal_links.LinkLines.{lines_of}
@@ -22,7 +22,7 @@ turns_grow front more slot is =
     ap length (flat_map-append pair_openings_in front more) ∙ length-append (turns_of front) (turns_of more) in
     omega (arith, both, is)
 
-module _ (side : Side) (number : ℕ) (link : LinkBegun) where
+module _ (words : Words) (side : Side) (number : ℕ) (link : LinkBegun) where
   late_by : (front more : List Entry) (begun : Option LinkBegun) → link_numbered number front ≡ begun → link_numbered number (front ++ more) ≡ Some link
       → link.slot ≡ turn_now (front ++ more) → is_earlier begun (turn_now front) ≡ false
   late_by front more None is whole slot = refl
@@ -32,13 +32,13 @@ module _ (side : Side) (number : ℕ) (link : LinkBegun) where
       le-ltb one.slot (turn_now front) (turns_grow front more one.slot (ap (λ (l : LinkBegun). l.slot) now ∙ slot))
 
   none_by : (front : List Entry) (commands : List Command) → is_earlier (link_numbered number front) (turn_now front) ≡ false
-      → flat_map (λ command. answers_if (step_asked side number front command)) commands ≡ []
+      → flat_map (λ command. answers_if (step_asked words side number front command)) commands ≡ []
   none_by front [] late = refl
   none_by front (command ∷ commands) late =
-      λ i. answers_if (if late i then step_by (lines_of side number front) (turn_now front) command else None) ++ none_by front commands late i
+      λ i. answers_if (if late i then step_by (lines_of side number front) (moment_in words side front (turn_now front)) command else None) ++ none_by front commands late i
 
   pub none_answered : (front lines : List Entry) → link_numbered number (front ++ lines) ≡ Some link → link.slot ≡ turn_now (front ++ lines)
-      → answers_from side number front lines ≡ []
+      → answers_from words side number front lines ≡ []
   none_answered front [] is slot = refl
   none_answered front (line ∷ lines) is slot =
       let next = front ++ line ∷ [] in

@@ -1,5 +1,6 @@
 -- One end after several steps, by the lines of its notes.
-use Rattle.std.proofs.Common.{◌≡◌, ℕ, ◌&&◌, not, Bool, true, false, Option, Some, None, List, [], ◌∷◌, ◌++◌, fold, map, is_none, refl, sym, ap, ◌∙◌, append-nil, if◌then◌else◌}
+use Rattle.std.proofs.Common.{◌≡◌, ℕ, ◌&&◌, not, Bool, true, false, Option, Some, None, List, [], ◌∷◌, ◌++◌, fold, map, is_none, refl, sym, ap, subst, ◌∙◌, append-nil, if◌then◌else◌}
+use Rattle.ble_base.specs.ErrorCodes.{mic_failure}
 use Rattle.ble_base.specs.declared.error_codes.ErrCode.{ErrCode}
 use Rattle.ble_base.specs.declared.notes.Note.{Note}
 use Rattle.ble_base.specs.declared.notes.Note.TheVariants.{Enter}
@@ -21,8 +22,8 @@ use Rattle.journal_ends.specs.link_model.Events.{applied_notes}
 use Rattle.journal_ends.specs.link_model.Facts.{Facts, keyed_of}
 use Rattle.journal_ends.specs.link_model.KeyedSteps.{keyed_steps_of}
 use Rattle.journal_ends.specs.link_model.Packets.{good_pdu}
-use Rattle.journal_ends.specs.link_model.Receiving.{accepts, acked_kind, acks_control, facts_before_taking, given_if, has_acknowledged, given_notes, kept_given_if, received_notes, refused_notes, taken_notes, took_notes_if}
-use Rattle.journal_ends.specs.link_model.Sending.{sent_notes_if}
+use Rattle.journal_ends.specs.link_model.Receiving.{accepts, acked_kind, acknowledged_if, acks_control, answers_with_control, ended_by_forgery, facts_before_taking, given_if, given_notes, has_acknowledged, heard_in_slot, kept_given_if, keyed_acked_if, received_notes, refused_notes, taken_notes, took_notes_if}
+use Rattle.journal_ends.specs.link_model.Sending.{control_gone_if, sent_notes_if}
 use Rattle.journal_ends.specs.link_model.Setup.{Setup, first_anchor, first_params}
 use Rattle.journal_ends.specs.link_model.Step.{Step, EventEntered, PacketReceived, PacketSent}
 use Rattle.journal_ends.specs.link_model.Verdicts.{pdu_of}
@@ -31,40 +32,33 @@ use Rattle.journal_ends.specs.link_model.control_end.Held.{held_of}
 use Rattle.journal_ends.specs.link_model.control_end.declared.answers.Entry.{Entry}
 use Rattle.journal_ends.specs.link_model.control_end.declared.answers.Taken.{Taken}
 use Rattle.journal_ends.specs.link_model.declared.events.ConnectionEvent.{ConnectionEvent}
+use Rattle.journal_ends.specs.link_model.control_model.Control.{Control, ended}
 use Rattle.journal_ends.specs.link_model.keyed_control.Keyed.{Keyed}
-use Rattle.journal_ends.specs.link_model.keyed_control.KeyedSteps.{keyed_after, phased_step, phased_steps, step_before}
+use Rattle.journal_ends.specs.link_model.keyed_control.KeyedSteps.{KeyedStep, SeesAcknowledged, Sends, keyed_after, phased_step, phased_steps, step_before}
 use Rattle.journal_ends.specs.link_model.keyed_control.declared.material.Response.{Response}
 use Rattle.journal_ends.specs.link_model.phased_control.Phased.{Phased, first_phased}
 use Rattle.journal_ends.specs.link_model.phased_control.Taken.{PhasedStep, phased_after, phased_after_all, phased_moved, role_now}
+use Rattle.journal_ends.specs.link_model.procedure_stages.Kinds.{role_of}
 use Rattle.journal_ends.specs.link_model.procedure_stages.declared.steps.Effect.{Effect}
 use Rattle.journal_ends.specs.link_model.procedure_stages.declared.steps.Effect.TheVariants.{AskHost, Cipher}
 use Rattle.journal_ends.proofs.link_model.KeyedPasts.{keeps_role, past_goes}
+use Rattle.journal_ends.proofs.link_model.KeyedSteps.{gone}
 use Rattle.journal_ends.proofs.link_model.phased_end.keyed_control.Phases.{after_one, moves, phased_once}
 use Rattle.journal_ends.proofs.link_model.phased_end.keyed_control.phased_control.Kept.{tied_now}
-use Rattle.journal_controls.specs.KeyedLines.{Accepts, Does, LineStep, does_some, given_by, keyed_by, keyed_by_all, steps_refusing, steps_taking}
+use Rattle.journal_controls.specs.Hearing.{keyed_hearing}
+use Rattle.journal_controls.specs.KeyedLines.{Accepts, Does, Forges, LineStep, does_if, does_some, given_by, keyed_by, keyed_by_all, keyed_forged, steps_refusing, steps_taking}
 use Rattle.journal_controls.specs.LineSteps.{steps_said, steps_saying}
 use Rattle.journal_controls.specs.OneEnd.{steps_noted}
 use Rattle.journal_controls.specs.SaidLines.{NoneOpens, moved_by}
 use Rattle.journal_controls.specs.Withheld.{Withheld, answer_to, first_answer, key_answer, nothing_withheld, withheld_answer}
+use Rattle.journal_controls.proofs.EndSteps.{does_as}
 use Rattle.journal_controls.proofs.NotedSteps.{joined, noted_both}
 
 -- ---- no step changes the role
 
--- the steps of procedures, parameters and phase among those of lines
-abbrev phased_in : List LineStep → List PhasedStep
-phased_in [] = []
-phased_in (Does step ∷ steps) = step_before (phased_step step) (phased_in steps)
-phased_in (Accepts ∷ steps) = phased_in steps
-
 first_of : (first : Option PhasedStep) (steps : List PhasedStep) (s : Phased) → phased_after_all steps (after_one first s) ≡ phased_after_all (step_before first steps) s
 first_of None steps s = refl
 first_of (Some step) steps s = refl
-
-phased_by : (steps : List LineStep) (k : Keyed) → (keyed_by_all steps k).phased ≡ phased_after_all (phased_in steps) k.phased
-phased_by [] k = refl
-phased_by (Does step ∷ steps) k =
-    phased_by steps (keyed_after step k) ∙ ap (phased_after_all (phased_in steps)) (phased_once step k) ∙ first_of (phased_step step) (phased_in steps) k.phased
-phased_by (Accepts ∷ steps) k = phased_by steps (keyed_by Accepts k)
 
 phased_joined : (steps more : List PhasedStep) (s : Phased) → phased_after_all (steps ++ more) s ≡ phased_after_all more (phased_after_all steps s)
 phased_joined [] more s = refl
@@ -80,9 +74,35 @@ phased_over (step ∷ steps) s is =
 abbrev pub KeepsRole : Role → Keyed → Type 0
 KeepsRole role k = (steps : List PhasedStep) → role_now (phased_after_all steps k.phased) ≡ role
 
+step_keeps : (role : Role) (k : Keyed) (step : KeyedStep) → KeepsRole role k → KeepsRole role (keyed_after step k)
+step_keeps role k step keeps = λ more.
+    ap (λ s. role_now (phased_after_all more s)) (phased_once step k) ∙ ap role_now (first_of (phased_step step) more k.phased)
+    ∙ keeps (step_before (phased_step step) more)
+
+-- a forged packet ends the link
+forged_role : (c : Control) → role_of (ended_by_forgery c).table.progress ≡ role_of c.table.progress
+forged_role c = by (is_none c.ends)
+  where
+    by : (goes : Bool) → role_of (if goes then ended (record { 0 = mic_failure }) c else c).table.progress ≡ role_of c.table.progress
+    by true = refl
+    by false = refl
+
+forged_over : (c : Control) → is_none (ended_by_forgery c).ends ≡ false
+forged_over c = by (is_none c.ends) refl
+  where
+    by : (goes : Bool) → is_none c.ends ≡ goes → is_none (if goes then ended (record { 0 = mic_failure }) c else c).ends ≡ false
+    by true is = refl
+    by false is = is
+
+pub forged_keeps : (role : Role) (k : Keyed) → KeepsRole role k → KeepsRole role (keyed_forged k)
+forged_keeps role k keeps = λ more.
+    ap role_now (phased_over more (keyed_forged k).phased (forged_over k.phased.control)) ∙ forged_role k.phased.control ∙ keeps []
+
 pub role_stays : (role : Role) (k : Keyed) (steps : List LineStep) → KeepsRole role k → KeepsRole role (keyed_by_all steps k)
-role_stays role k steps keeps = λ more.
-    ap (λ s. role_now (phased_after_all more s)) (phased_by steps k) ∙ ap role_now (sym (phased_joined (phased_in steps) more k.phased)) ∙ keeps (phased_in steps ++ more)
+role_stays role k [] keeps = keeps
+role_stays role k (Does step ∷ steps) keeps = role_stays role (keyed_after step k) steps (step_keeps role k step keeps)
+role_stays role k (Accepts ∷ steps) keeps = role_stays role (keyed_by Accepts k) steps keeps
+role_stays role k (Forges ∷ steps) keeps = role_stays role (keyed_forged k) steps (forged_keeps role k keeps)
 
 pub past_keeps : (setup : Setup) (past : List Step) → KeepsRole setup.link.role (keyed_of (facts_of setup past))
 past_keeps setup past = by (goes_on (facts_of setup past)) refl
@@ -107,6 +127,24 @@ past_keeps setup past = by (goes_on (facts_of setup past)) refl
         ap (λ s. role_now (phased_after_all steps s)) phased ∙ ap role_now (sym (phased_joined made steps first))
         ∙ (tied_now role setup.link.max_rx (first_params setup.link.fields) (first_anchor setup) (made ++ steps)).is_role
 
+-- as a packet reaches it
+gone_keeps : (role : Role) (goes : Bool) (slot : ℕ) (facts : Facts) → KeepsRole role (keyed_of facts) → KeepsRole role (keyed_of (control_gone_if goes slot facts))
+gone_keeps role goes slot facts keeps =
+    subst (KeepsRole role) (sym (gone goes slot facts ∙ does_as goes (Sends slot) (keyed_of facts))) (role_stays role (keyed_of facts) (does_if goes (Sends slot)) keeps)
+
+acked_keeps : (role : Role) (acks : Bool) (k : Keyed) → KeepsRole role k → KeepsRole role (keyed_acked_if acks k)
+acked_keeps role true k keeps = step_keeps role k SeesAcknowledged keeps
+acked_keeps role false k keeps = keeps
+
+pub hearing_keeps : (role own : Role) (slot : ℕ) (pdu : Option (List ℕ)) (facts : Facts) → KeepsRole role (keyed_of facts) → KeepsRole role (keyed_hearing own slot pdu facts)
+hearing_keeps role own slot None facts keeps = keeps
+hearing_keeps role own slot (Some pdu) facts keeps =
+    let header = header_in pdu in
+    let heard = heard_in_slot slot header.md facts in
+    let acked = has_acknowledged facts header in
+    let next = acknowledged_if acked heard in
+    gone_keeps role (answers_with_control own next) slot next (acked_keeps role (acks_control acked heard) (keyed_of facts) keeps)
+
 -- so the lines of notes move it by the steps of these notes, where none of them refuses a request
 abbrev pub NoneRefuses : Side → ℕ → Withheld → Response → ℕ → List Note → Type 0
 NoneRefuses side number withheld response slot [] = Unit {0}
@@ -130,7 +168,7 @@ no_key : (ctrl : Ctrl) → key_answer nothing_withheld ctrl ≡ None
 no_key (EncReq rand ediv skd_m iv_m) = refl
 no_key other = refl
 
-no_answer : (effect : Effect) → answer_to nothing_withheld effect ≡ None
+pub no_answer : (effect : Effect) → answer_to nothing_withheld effect ≡ None
 no_answer (AskHost min max latency timeout) = refl
 no_answer (Cipher ctrl) = no_key ctrl
 no_answer other = refl

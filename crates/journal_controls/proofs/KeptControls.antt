@@ -1,9 +1,11 @@
 -- Each step of a run of two stations keeps that each open end is, by the journal, as it is.
-use Rattle.std.proofs.Common.{◌≡◌, ℕ, suc, ◌+◌, ◌-◌, ◌==◌, Bool, true, false, Option, Some, None, List, [], ◌∷◌, ◌++◌, inl, inr, length, replicate, refl, sym, ap, subst, ◌∙◌, append_assoc, arith}
+use Rattle.std.proofs.Common.{◌≡◌, ℕ, suc, ◌+◌, ◌-◌, ◌==◌, ◌&&◌, Bool, true, false, Option, Some, None, List, [], ◌∷◌, ◌++◌, inl, inr, length, replicate, refl, sym, ap, subst, ◌∙◌, append_assoc, arith}
 use Rattle.std.specs.Prelude.{◌⊎◌, map, take, if◌then◌else◌}
 use Rattle.std.proofs.lemmas.Bool.{eqb-true}
 use Rattle.ble_base.specs.declared.roles.Role.{Role}
 use Rattle.ble_base.specs.declared.roles.Role.TheVariants.{Central, Peripheral}
+use Rattle.journal_ends.specs.Asked.{Words}
+use Rattle.journal_ends.specs.GivenWords.{AreKept, GivesWords, GivesWordsIn, draws_in_call, words_next}
 use Rattle.journal_ends.specs.controller_model.Facts.{Facts, Listens, Sends}
 use Rattle.journal_ends.specs.controller_model.Packets.{verdict_of as verdict_at}
 use Rattle.journal_ends.specs.controller_model.Side.{facts_after, facts_of, notes_after}
@@ -15,15 +17,16 @@ use Rattle.journal_ends.specs.link_model.Facts.{keyed_of}
 use Rattle.journal_ends.specs.link_model.Packets.{verdict_of}
 use Rattle.journal_ends.specs.open_links.OpenLinks.{OpenLink, facts_in, link_at}
 use Rattle.journal_ends.specs.run_model.Due.{Each}
-use Rattle.journal_ends.specs.run_model.History.{Event, TurnBegan, HostFed, Called, Hearing, Noted, Transmitted, fates_used, has_received, is_good, packet_received, turns_begun}
+use Rattle.journal_ends.specs.run_model.History.{Event, TurnBegan, HostFed, Called, Hearing, Noted, Transmitted, fates_used, handed_or, is_handed, packet_received, turns_begun}
 use Rattle.journal_ends.specs.run_model.Journal.{journal_of, side_of}
 use Rattle.journal_ends.specs.run_model.LinkEnds.{HaveAddresses}
 use Rattle.journal_ends.specs.run_model.Readers.{station_of, turns_of}
 use Rattle.journal_ends.specs.run_model.Run.{Given, after_call, after_feed, after_octets, facts_at, fate_at, hearings_of, history_of, octets_left, run_of, setup_at, step_of, unseen_in, use_at}
 use Rattle.radio_replay.specs.Damage.{damaged_packet}
 use Rattle.radio_replay.specs.declared.fates.Fate.{Fate}
-use Rattle.journal_ends.proofs.EndsKnown.{AreLined, lined_at}
-use Rattle.journal_ends.proofs.KeptSeen.{AreFed as AreSeenFed, AreSeenAt, apart_from, begin_fed, first_fed, lined_next, lined_octet, octet_asks, octet_fed as seen_fed, octet_next, seen_first, seen_kept}
+use Rattle.journal_ends.proofs.EndsKnown.{AreLined, known_kept, lined_at}
+use Rattle.journal_ends.proofs.GivenFronts.{feed_more, given_at, given_call, given_earlier, given_front, given_kept, given_octet}
+use Rattle.journal_ends.proofs.KeptSeen.{AreFed as AreSeenFed, AreSeenAt, apart_from, begin_fed, first_fed, lined_next, lined_octet, octet_asks, octet_fed as seen_fed, octet_next, seen_first, seen_so_far}
 use Rattle.journal_ends.proofs.SeenCalls.{IsSeenAt, held_at, moved as seen_moved, whole as seen_whole}
 use Rattle.journal_ends.proofs.journal_acks.Counting.{facts_event, moved as count_moved}
 use Rattle.journal_ends.proofs.journal_acks.Exchanging.{exchange_at, number_at, number_called, number_quiet, number_sent}
@@ -32,7 +35,7 @@ use Rattle.journal_ends.proofs.journal_acks.KeptLines.{AreLinedAt, lines_kept}
 use Rattle.journal_ends.proofs.journal_acks.Known.{known_of}
 use Rattle.journal_ends.proofs.journal_acks.LinkPackets.{lines_first}
 use Rattle.journal_ends.proofs.journal_acks.Standing.{PhasedBy, listens_wanted, phased_at, sender_role}
-use Rattle.journal_ends.proofs.journal_acks.TwoStations.{IsOfTwo, hearing_of, judged, one_hearing, other_is, other_of, other_received, own_differs, own_received, same_number, unchanged}
+use Rattle.journal_ends.proofs.journal_acks.TwoStations.{IsOfTwo, hearing_of, one_hearing, other_is, other_of, own_differs, reached}
 use Rattle.journal_ends.proofs.journal_acks.link_calls.CallNotes.{OpensNone, begin_noted, end_noted, opening_none}
 use Rattle.journal_ends.proofs.journal_links.OfTwo.{are_distinct, of_two_stations}
 use Rattle.journal_ends.proofs.journal_packets.AccessOrder.{AreNth}
@@ -46,7 +49,7 @@ use Rattle.journal_ends.proofs.run_laws.OpenSteps.{none_open, open_has}
 use Rattle.journal_ends.proofs.run_laws.TurnPlaces.{Within, at_stage}
 use Rattle.journal_ends.proofs.run_model.Fates.{turns_are}
 use Rattle.journal_ends.proofs.run_model.Fronts.{front_at}
-use Rattle.journal_ends.proofs.run_model.LinkEnds.{AreTaken, IsUnderstood, received_by, received_event, received_packet}
+use Rattle.journal_ends.proofs.run_model.LinkEnds.{AreTaken, IsUnderstood, received_by, received_event}
 use Rattle.journal_ends.proofs.run_model.Places.{each_called, each_event}
 use Rattle.journal_ends.proofs.run_model.Stations.{among, is_in, not_before}
 use Rattle.journal_ends.proofs.run_model.Walk.{AtBegins, AtEnds, AtFeeds, AtListening, AtPackets, IsKept, NoTurn, Place}
@@ -64,58 +67,58 @@ use Rattle.journal_controls.proofs.PassedControls.{no_octet, passes_own}
 -- ---- what is kept
 
 -- each open end of a station is as it is
-abbrev pub AreControlledOf : Given → List Event → ℕ → Type 0
-AreControlledOf given history station =
+abbrev pub AreControlledOf : Words → Given → List Event → ℕ → Type 0
+AreControlledOf words given history station =
     is_in station given.stations ≡ true → (handle : ℕ) (link : OpenLink) → link_at handle (facts_at given station history).links ≡ Some link
-    → keyed_at (number_at station handle history) (side_of station) history ≡ Some (keyed_of (facts_in link))
+    → keyed_at words (number_at station handle history) (side_of station) history ≡ Some (keyed_of (facts_in link))
 
 -- so are those of all stations
-abbrev pub AreControlled : Given → List Event → Type 0
-AreControlled given history = (station : ℕ) → AreControlledOf given history station
+abbrev pub AreControlled : Words → Given → List Event → Type 0
+AreControlled words given history = (station : ℕ) → AreControlledOf words given history station
 
 -- before a call, it is that as the packet of the call has reached the end
-abbrev pub IsControlledBefore : Given → List Event → ℕ → Call → Type 0
-IsControlledBefore given before station step =
+abbrev pub IsControlledBefore : Words → Given → List Event → ℕ → Call → Type 0
+IsControlledBefore words given before station step =
     is_in station given.stations ≡ true → (handle : ℕ) (link : OpenLink) → link_at handle (facts_at given station before).links ≡ Some link
-    → keyed_at (number_at station handle before) (side_of station) before ≡ Some (keyed_next handle (facts_at given station before) step link)
+    → keyed_at words (number_at station handle before) (side_of station) before ≡ Some (keyed_next handle (facts_at given station before) step link)
 
-abbrev pub ControlBefore : Given → List Event → Event → Type 0
-ControlBefore given before (TurnBegan slot radios) = AreControlled given before
-ControlBefore given before (Called station step) = IsControlledBefore given before station step
-ControlBefore given before (HostFed station octets) = Unit {0}
-ControlBefore given before (Noted station note) = Unit {0}
-ControlBefore given before (Transmitted station channel octets hearings) = AreControlled given before
+abbrev pub ControlBefore : Words → Given → List Event → Event → Type 0
+ControlBefore words given before (TurnBegan slot radios) = AreControlled words given before
+ControlBefore words given before (Called station step) = IsControlledBefore words given before station step
+ControlBefore words given before (HostFed station octets) = Unit {0}
+ControlBefore words given before (Noted station note) = Unit {0}
+ControlBefore words given before (Transmitted station channel octets hearings) = AreControlled words given before
 
-pub record AreControlledAt (given : Given) (place : Place) (history : List Event) : Type 0 where
-  pub seen : AreSeenAt given place history
+pub record AreControlledAt (words : Words) (given : Given) (place : Place) (history : List Event) : Type 0 where
+  pub seen : AreSeenAt words given place history
   pub lined : AreLinedAt given (IsBelongingSoFar given) place history
-  pub control : AreControlledSo given history (λ station. packet_received station history)
-  pub each : Each (ControlBefore given) [] history
+  pub control : AreControlledSo words given history (λ station. packet_received station history)
+  pub each : Each (ControlBefore words given) [] history
 
 -- where a station received nothing, all its ends are as they were
-whole_at : (given : Given) (history : List Event) (received : ℕ → Option (List ℕ)) (station handle : ℕ) (link : OpenLink) → is_in station given.stations ≡ true
+whole_at : (words : Words) (given : Given) (history : List Event) (received : ℕ → Option (List ℕ)) (station handle : ℕ) (link : OpenLink) → is_in station given.stations ≡ true
     → link_at handle (facts_at given station history).links ≡ Some link → (listens_under handle (facts_at given station history).turn.doing ≡ true → received station ≡ None)
-    → AreControlledSo given history received → keyed_at (number_at station handle history) (side_of station) history ≡ Some (keyed_of (facts_in link))
-whole_at given history received station handle link in_it at none are =
-    whole (received station) handle (facts_at given station history).turn link (number_at station handle history) (side_of station) history none (are station handle link in_it at)
+    → AreControlledSo words given history received → keyed_at words (number_at station handle history) (side_of station) history ≡ Some (keyed_of (facts_in link))
+whole_at words given history received station handle link in_it at none are =
+    whole words (received station) handle (facts_at given station history).turn link (number_at station handle history) (side_of station) history none (are station handle link in_it at)
 
-pub all_whole : (given : Given) (history : List Event) → ((station : ℕ) → is_in station given.stations ≡ true → packet_received station history ≡ None)
-    → AreControlledSo given history (λ station. packet_received station history) → AreControlled given history
-all_whole given history none are = λ station in_it handle link at.
-    whole_at given history (λ one. packet_received one history) station handle link in_it at (λ on. none station in_it) are
+pub all_whole : (words : Words) (given : Given) (history : List Event) → ((station : ℕ) → is_in station given.stations ≡ true → packet_received station history ≡ None)
+    → AreControlledSo words given history (λ station. packet_received station history) → AreControlled words given history
+all_whole words given history none are = λ station in_it handle link at.
+    whole_at words given history (λ one. packet_received one history) station handle link in_it at (λ on. none station in_it) are
 
 -- a call in which nothing is heard
-whole_before : (given : Given) (history : List Event) (received : ℕ → Option (List ℕ)) (station : ℕ) (step : Call)
+whole_before : (words : Words) (given : Given) (history : List Event) (received : ℕ → Option (List ℕ)) (station : ℕ) (step : Call)
     → ((handle : ℕ) (facts : Facts) (link : OpenLink) → keyed_next handle facts step link ≡ keyed_of (facts_in link)) → received station ≡ None
-    → AreControlledSo given history received → IsControlledBefore given history station step
-whole_before given history received station step deaf none are = λ in_it handle link at.
-    whole_at given history received station handle link in_it at (λ on. none) are ∙ ap Some (sym (deaf handle (facts_at given station history) link))
+    → AreControlledSo words given history received → IsControlledBefore words given history station step
+whole_before words given history received station step deaf none are = λ in_it handle link at.
+    whole_at words given history received station handle link in_it at (λ on. none) are ∙ ap Some (sym (deaf handle (facts_at given station history) link))
 
 -- a call, and all that is noted in it
-call_each : (given : Given) (station : ℕ) (step : Call) (history : List Event) → Each (ControlBefore given) [] history → IsControlledBefore given history station step
-    → Each (ControlBefore given) [] (after_call given station step history)
-call_each given station step history each is =
-    each_called (ControlBefore given) station step (notes_after (setup_at given station) (facts_at given station history) step) history each is (λ before note. tt)
+call_each : (words : Words) (given : Given) (station : ℕ) (step : Call) (history : List Event) → Each (ControlBefore words given) [] history → IsControlledBefore words given history station step
+    → Each (ControlBefore words given) [] (after_call given station step history)
+call_each words given station step history each is =
+    each_called (ControlBefore words given) station step (notes_after (setup_at given station) (facts_at given station history) step) history each is (λ before note. tt)
 
 -- ---- small steps
 
@@ -133,63 +136,66 @@ turn_is history slot is = last_turn (length (turns_of (journal_of history))) slo
 abbrev NoneReceived : ℕ → Option (List ℕ)
 NoneReceived station = None
 
-module _ (heard_whole : IsHeardWhole) (understood : IsUnderstood) (taken : AreTaken) (nth : AreNth) (apart : AreApart) (given : Given) (are_two : IsOfTwo given)
+module _ (words : Words) (heard_whole : IsHeardWhole) (understood : IsUnderstood) (taken : AreTaken) (nth : AreNth) (apart : AreApart) (given : Given) (are_two : IsOfTwo given)
     (six : HaveAddresses given) where
   -- ---- what a host sends
 
   -- while a station is fed
   record AreFed (station begun : ℕ) (history : List Event) : Type 0 where
-    control : AreControlledSo given history NoneReceived
-    each : Each (ControlBefore given) [] history
-    seen : AreSeenFed understood taken nth apart given are_two six station begun history
+    control : AreControlledSo words given history NoneReceived
+    each : Each (ControlBefore words given) [] history
+    seen : AreSeenFed words understood taken nth apart given are_two six station begun history
 
   octet_fed : (station octet begun : ℕ) (history rest : List Event) → is_in station given.stations ≡ true
-      → history_of (run_of given) ≡ history ++ Called station (HostOctet octet) ∷ rest → AreLined given history → AreLined given (after_call given station (HostOctet octet) history)
+      → history_of (run_of given) ≡ history ++ Called station (HostOctet octet) ∷ rest
+      → AreKept words → drawn_at words (side_of station) history ≡ words_next (setup_at given station) (facts_at given station history) → AreLined given history → AreLined given (after_call given station (HostOctet octet) history)
       → AreFed station begun history → AreFed station begun (after_call given station (HostOctet octet) history)
-  octet_fed station octet begun history rest in_it at lined lined_after fed =
+  octet_fed station octet begun history rest in_it at kept words_are lined lined_after fed =
       let step = HostOctet octet in record {
-        control = controlled_call given station step history NoneReceived NoneReceived (apart_from understood taken nth apart given are_two six station in_it) lined lined_after (λ handle link held.
+        control = controlled_call words given station step history NoneReceived NoneReceived kept (apart_from words understood taken nth apart given are_two six station in_it) lined lined_after (λ handle link held.
             let number = number_at station handle history in
-            let asks = octet_asks understood taken nth apart given are_two six station octet begun history rest in_it at lined lined_after fed.seen handle link held in
-            asked_own given station step history in_it lined lined_after handle link held None refl asks.number asks.base asks.was
-            (call_asks given (side_of station) number station step history asks.is.asked (keyed_of (facts_in asks.base)) asks.lines asks.answers
-            (whole_at given history NoneReceived station handle asks.base in_it asks.was (λ on. refl) fed.control)
+            let asks = octet_asks words understood taken nth apart given are_two six station octet begun history rest in_it at words_are lined lined_after fed.seen handle link held in
+            asked_own words given station step history in_it lined lined_after handle link held None refl asks.number asks.base asks.was
+            (call_asks words given (side_of station) number station step history asks.is.asked (keyed_of (facts_in asks.base)) asks.lines asks.answers
+            (whole_at words given history NoneReceived station handle asks.base in_it asks.was (λ on. refl) fed.control)
             ∙ ap Some (end_asked asks.base link asks.is.asked asks.is.by_host asks.is.keyed_is)))
             (λ other is_too differs. refl) fed.control;
-        each = call_each given station step history fed.each (whole_before given history NoneReceived station step (λ handle held link. refl) refl fed.control);
-        seen = seen_fed understood taken nth apart given are_two six station octet begun history rest in_it at lined lined_after fed.seen;
+        each = call_each words given station step history fed.each (whole_before words given history NoneReceived station step (λ handle held link. refl) refl fed.control);
+        seen = seen_fed words understood taken nth apart given are_two six station octet begun history rest in_it at words_are lined lined_after fed.seen;
       }
 
   octets_fed : (station : ℕ) (octets : List ℕ) (begun : ℕ) (history rest : List Event) → is_in station given.stations ≡ true
-      → history_of (run_of given) ≡ after_octets given station octets history ++ rest → AreLined given (after_octets given station octets history)
+      → history_of (run_of given) ≡ after_octets given station octets history ++ rest → GivesWordsIn given words (after_octets given station octets history)
+      → AreLined given (after_octets given station octets history)
       → AreFed station begun history → AreFed station begun (after_octets given station octets history)
-  octets_fed station [] begun history rest in_it is lined fed = fed
-  octets_fed station (octet ∷ octets) begun history rest in_it is lined fed =
+  octets_fed station [] begun history rest in_it is gives lined fed = fed
+  octets_fed station (octet ∷ octets) begun history rest in_it is gives lined fed =
       let next = after_call given station (HostOctet octet) history in
       let now = octet_next given station octet octets history rest is in
-      octets_fed station octets begun next rest in_it is lined
-      (octet_fed station octet begun history now.rest in_it now.at
-      (lined_octet understood taken nth apart given are_two six station octet octets history rest is)
-      (lined_next understood taken nth apart given are_two six station octets next rest is lined) fed)
+      octets_fed station octets begun next rest in_it is gives lined
+      (octet_fed station octet begun history now.rest in_it now.at gives.kept (given_octet words given station octet octets history gives)
+      (lined_octet words understood taken nth apart given are_two six station octet octets history rest is)
+      (lined_next words understood taken nth apart given are_two six station octets next rest is lined) fed)
 
   feed_fed : (station : ℕ) (octets : List ℕ) (begun : ℕ) (history rest : List Event) → is_in station given.stations ≡ true
-      → history_of (run_of given) ≡ after_feed given station octets history ++ rest → AreLined given history → AreLined given (after_feed given station octets history)
+      → history_of (run_of given) ≡ after_feed given station octets history ++ rest → GivesWordsIn given words (after_feed given station octets history)
+      → AreLined given history → AreLined given (after_feed given station octets history)
       → AreFed station begun history → AreFed station begun (after_feed given station octets history)
-  feed_fed station [] begun history rest in_it is lined lined_after fed = fed
-  feed_fed station (octet ∷ octets) begun history rest in_it is lined lined_after fed =
+  feed_fed station [] begun history rest in_it is gives lined lined_after fed = fed
+  feed_fed station (octet ∷ octets) begun history rest in_it is gives lined lined_after fed =
       let event = HostFed station (octet ∷ octets) in
-      octets_fed station (octet ∷ octets) begun (history ++ event ∷ []) rest in_it is lined_after (record {
-        control = controlled_event given history event NoneReceived (λ one. refl) (λ number side. feed_still number side history station (octet ∷ octets))
+      octets_fed station (octet ∷ octets) begun (history ++ event ∷ []) rest in_it is gives lined_after (record {
+        control = controlled_event words given history event NoneReceived (λ one. refl) (λ number side. feed_still words number side history station (octet ∷ octets))
             (λ one handle. number_quiet one handle history event (λ links. refl)) fed.control;
-        each = each_event (ControlBefore given) history event fed.each tt;
-        seen = begin_fed understood taken nth apart given are_two six station octet octets begun history rest is lined fed.seen;
+        each = each_event (ControlBefore words given) history event fed.each tt;
+        seen = begin_fed words understood taken nth apart given are_two six station octet octets begun history rest is lined fed.seen;
       })
 
   -- ---- a packet
 
   -- before it, no end has one to take
   none_before : (phases : ℕ) (done left : List ℕ) (station channel : ℕ) (octets : List ℕ) (history : List Event) → given.stations ≡ done ++ station ∷ left
-      → use_at given station history ≡ Sends channel octets → AreSeenAt given (AtPackets phases done (station ∷ left)) history
+      → use_at given station history ≡ Sends channel octets → AreSeenAt words given (AtPackets phases done (station ∷ left)) history
       → (one handle : ℕ) (link : OpenLink) → is_in one given.stations ≡ true → link_at handle (facts_at given one history).links ≡ Some link
       → listens_under handle (facts_at given one history).turn.doing ≡ true → packet_received one history ≡ None
   none_before phases done left station channel octets history are wanted has = λ one handle link in_one at on. by one handle link in_one at on (one == station) refl
@@ -207,14 +213,14 @@ module _ (heard_whole : IsHeardWhole) (understood : IsUnderstood) (taken : AreTa
           has.silent one station in_one (among given.stations done left station are) differs (not_before given.stations done left station (are_distinct given are_two) are)
 
   pub packet_whole : (phases : ℕ) (done left : List ℕ) (station channel : ℕ) (octets : List ℕ) (history : List Event) → given.stations ≡ done ++ station ∷ left
-      → use_at given station history ≡ Sends channel octets → AreControlledAt given (AtPackets phases done (station ∷ left)) history → AreControlled given history
+      → use_at given station history ≡ Sends channel octets → AreControlledAt words given (AtPackets phases done (station ∷ left)) history → AreControlled words given history
   packet_whole phases done left station channel octets history are wanted has = λ one in_one handle link at.
-      whole_at given history (λ each. packet_received each history) one handle link in_one at
+      whole_at words given history (λ each. packet_received each history) one handle link in_one at
       (none_before phases done left station channel octets history are wanted has.seen one handle link in_one at) has.control
 
   module _ (phases : ℕ) (done left : List ℕ) (station channel : ℕ) (octets : List ℕ) (fates : List Fate) (history : List Event) (stations_are : given.stations ≡ done ++ station ∷ left)
       (wanted : use_at given station history ≡ Sends channel octets)
-      (unseen : unseen_in octets (hearings_of given fates station channel octets history) ≡ None) (has : AreControlledAt given (AtPackets phases done (station ∷ left)) history) where
+      (unseen : unseen_in octets (hearings_of given fates station channel octets history) ≡ None) (has : AreControlledAt words given (AtPackets phases done (station ∷ left)) history) where
     abbrev place_after : Place
     place_after = AtPackets phases (done ++ station ∷ []) left
 
@@ -230,11 +236,11 @@ module _ (heard_whole : IsHeardWhole) (understood : IsUnderstood) (taken : AreTa
     aired_is : after ≡ history ++ Transmitted station channel octets (hearing ∷ []) ∷ []
     aired_is = ap (λ xs. history ++ Transmitted station channel octets xs ∷ []) (one_hearing given are_two fates station channel octets history (among given.stations done left station stations_are))
 
-    -- a packet that an end is to take is good
-    heard_good : (one handle : ℕ) (link : OpenLink) (got : List ℕ) → is_in one given.stations ≡ true → link_at handle (facts_at given one history).links ≡ Some link
+    -- a packet that an end is to take is good or forged
+    heard_handed : (one handle : ℕ) (link : OpenLink) (got : List ℕ) → is_in one given.stations ≡ true → link_at handle (facts_at given one history).links ≡ Some link
         → listens_under handle (facts_at given one history).turn.doing ≡ true → packet_received one after ≡ Some got
-        → is_good (verdict_of link.setup (facts_in link) got) ≡ true
-    heard_good one handle link got in_one at on some = by (one == station) refl
+        → is_handed (verdict_of link.setup (facts_in link) got) ≡ true
+    heard_handed one handle link got in_one at on some = by (one == station) refl
       where
         in_it : is_in station given.stations ≡ true
         in_it = among given.stations done left station stations_are
@@ -242,35 +248,37 @@ module _ (heard_whole : IsHeardWhole) (understood : IsUnderstood) (taken : AreTa
         none : packet_received one history ≡ None
         none = none_before phases done left station channel octets history stations_are wanted has.seen one handle link in_one at on
 
-        aired_so : packet_received one after ≡ (if has_received one (hearing ∷ []) then Some octets else None)
+        left_of : List ℕ
+        left_of = damaged_packet hearing.fate octets
+
+        aired_so : packet_received one after ≡ handed_or None one octets (hearing ∷ [])
         aired_so =
-            received_packet given fates one station channel octets history unseen
-            ∙ (λ i. if has_received one (one_hearing given are_two fates station channel octets history in_it i) then Some octets else none i)
+            received_event one history (Transmitted station channel octets hearings)
+            ∙ (λ i. handed_or (none i) one octets (one_hearing given are_two fates station channel octets history in_it i))
 
-        -- it received what was sent
-        got_it : (good : Bool) → has_received one (hearing ∷ []) ≡ good → (good ≡ true → is_good (verdict_of link.setup (facts_in link) octets) ≡ true)
-            → is_good (verdict_of link.setup (facts_in link) got) ≡ true
-        got_it true is good =
-            let both : Some octets ≡ Some got = sym (ap (λ b. if b then Some octets else None) is) ∙ sym aired_so ∙ some in
-            let same : octets ≡ got = cc in
-            ap (λ heard. is_good (verdict_of link.setup (facts_in link) heard)) (sym same) ∙ good refl
-        got_it false is good = absurd (let h : None ≡ Some got = sym (ap (λ b. if b then Some octets else None) is) ∙ sym aired_so ∙ some in absurd cc)
+        -- it is handed what the radio left
+        picked : (same handed : Bool) → (if same && handed then Some (damaged_packet hearing.fate octets) else None) ≡ Some got
+            → (same ≡ true) × ((handed ≡ true) × (damaged_packet hearing.fate octets ≡ got))
+        picked true true is = let same : damaged_packet hearing.fate octets ≡ got = cc in (refl, (refl, same))
+        picked true false is = absurd cc
+        picked false handed is = absurd cc
 
-        by : (same : Bool) → (one == station) ≡ same → is_good (verdict_of link.setup (facts_in link) got) ≡ true
+        by : (same : Bool) → (one == station) ≡ same → is_handed (verdict_of link.setup (facts_in link) got) ≡ true
         by true same =
-            let off = own_received one hearing (ap (λ n. n == other_of station) (eqb-true one station same) ∙ own_differs station) in
-            got_it false off (λ good. absurd (let h : false ≡ true = good in absurd cc))
+            let off = ap (λ n. n == other_of station) (eqb-true one station same) ∙ own_differs station in
+            let on_it = (picked (one == hearing.listener) (is_handed hearing.verdict) (sym aired_so ∙ some)).0 in
+            absurd (let h : false ≡ true = sym off ∙ on_it in absurd cc)
         by false differs =
             let other = other_is given are_two station one in_it in_one differs in
-            let received = other_received one hearing (ap (λ n. one == n) (sym other) ∙ same_number one) in
-            got_it (is_good hearing.verdict) received (λ good.
+            let is = (picked (one == hearing.listener) (is_handed hearing.verdict) (sym aired_so ∙ some)).1 in
             let fate = fate_at fates (fates_used history) in
-            let changed = unchanged octets hearing (ap (unseen_in octets) (sym (one_hearing given are_two fates station channel octets history in_it)) ∙ unseen) good in
-            let is_judged = judged (use_at given (other_of station) history) fate channel (facts_at given (other_of station) history) (damaged_packet fate octets) good in
-            let own = subst (λ n. is_good (verdict_at (facts_at given n history) (damaged_packet fate octets)) ≡ true) (sym other) is_judged.good in
-            judged_link (facts_at given one history) handle link octets on at (ap (λ heard. is_good (verdict_at (facts_at given one history) heard)) (sym changed) ∙ own))
+            let judged = reached (use_at given (other_of station) history) fate channel (facts_at given (other_of station) history) left_of is.0 in
+            ap (λ heard. is_handed (verdict_of link.setup (facts_in link) heard)) (sym is.1)
+            ∙ ap is_handed (sym (judged_link (facts_at given one history) handle link left_of on at))
+            ∙ ap (λ n. is_handed (verdict_at (facts_at given n history) left_of)) other
+            ∙ ap is_handed (sym judged.verdict_is) ∙ is.0
 
-    packet_controlled : AreSeenAt given place_after after → AreLinedAt given (IsBelongingSoFar given) place_after after → AreControlledSo given after (λ one. packet_received one after)
+    packet_controlled : AreSeenAt words given place_after after → AreLinedAt given (IsBelongingSoFar given) place_after after → AreControlledSo words given after (λ one. packet_received one after)
     packet_controlled seen lined = λ one handle link in_one at.
         let place = AtPackets phases done (station ∷ left) in
         let facts = facts_at given one history in
@@ -287,113 +295,119 @@ module _ (heard_whole : IsHeardWhole) (understood : IsUnderstood) (taken : AreTa
         let received_too = packet_received one after in
         let aired = history ++ Transmitted station channel octets (hearing ∷ []) ∷ [] in
         let front = front_at given place history has.seen.known.front in
-        let moves = packet_moves number side history station channel octets hearing received received_too handle turn link (unsent place one) (unsent place_after one) none
-        (whole_at given history (λ each. packet_received each history) one handle link in_one is_open none has.control)
-        (λ got on some. heard_good one handle link got in_one is_open on some)
-        (seen_whole received handle turn link number side history none (has.seen.seen one handle link in_one is_open))
-        (subst (λ h. IsSeenAt received_too handle turn link number side h) aired_is
-        (seen_moved handle link side after received_too received_too turn_after turn (number_at one handle after) number refl (sym turns) (sym numbers) (seen.seen one handle link in_one at)))
+        let moves = packet_moves words number side history station channel octets hearing received received_too handle turn link (unsent place one) (unsent place_after one) none
+        (whole_at words given history (λ each. packet_received each history) one handle link in_one is_open none has.control)
+        (λ got on some. heard_handed one handle link got in_one is_open on some)
+        (seen_whole words received handle turn link number side history none (has.seen.seen one handle link in_one is_open))
+        (subst (λ h. IsSeenAt words received_too handle turn link number side h) aired_is
+        (seen_moved words handle link side after received_too received_too turn_after turn (number_at one handle after) number refl (sym turns) (sym numbers) (seen.seen one handle link in_one at)))
         (has.lined.counts.counted one handle link in_one is_open)
         (count_moved handle link (unsent place_after one) (unsent place_after one) received_too received_too turn_after turn
         (exchange_at (number_at one handle after) after side) (exchange_at number aired side) refl refl (sym turns) (sym (λ i. exchange_at (numbers i) (aired_is i) side))
         (lined.counts.counted one handle link in_one at))
         (has.lined.lines one handle link in_one is_open)
         (fixed_in given history front.rest one handle link (are_distinct given are_two) in_one front.at is_open).fixes in
-        moved handle link side after received_too received_too turn turn_after number (number_at one handle after) refl turns numbers
-        (subst (λ h. IsControlledAt received_too handle turn link number side h) (sym aired_is) moves)
+        moved words handle link side after received_too received_too turn turn_after number (number_at one handle after) refl turns numbers
+        (subst (λ h. IsControlledAt words received_too handle turn link number side h) (sym aired_is) moves)
 
   -- ---- each step
 
-  pub controls_kept : IsKept given (AreControlledAt given)
-  controls_kept =
+  -- where the words are given up to there
+  pub controls_so_far : IsKept given (λ place history. GivesWordsIn given words history → AreControlledAt words given place history)
+  controls_so_far =
       let distinct = are_distinct given are_two in
-      let sees = seen_kept understood taken nth apart given are_two six in
+      let sees = seen_so_far words understood taken nth apart given are_two six in
       let lines = lines_kept heard_whole given (IsBelongingSoFar given) (known_of understood taken nth apart given are_two six) are_two six distinct in record {
-        on_turn = λ slot plan history begun at has.
-            let event = TurnBegan slot (map plan.radio_of given.stations) in record {
-              seen = sees.on_turn slot plan history begun at has.seen;
+        on_turn = λ slot plan history begun at had gives.
+            let event = TurnBegan slot (map plan.radio_of given.stations) in
+            let has = had (given_front words given history (event ∷ []) gives) in record {
+              seen = sees.on_turn slot plan history begun at (λ so. has.seen) gives;
               lined = lines.on_turn slot plan history begun at has.lined;
-              control = controlled_same given (history ++ event ∷ []) (λ one. packet_received one history) (λ one. packet_received one (history ++ event ∷ []))
+              control = controlled_same words given (history ++ event ∷ []) (λ one. packet_received one history) (λ one. packet_received one (history ++ event ∷ []))
                   (λ one in_it. received_event one history event)
-                  (controlled_event given history event (λ one. packet_received one history) (λ one. refl)
-                  (λ number side. turn_still number side history slot (map plan.radio_of given.stations)) (λ one handle. number_quiet one handle history event (λ links. refl)) has.control);
-              each = each_event (ControlBefore given) history event has.each (all_whole given history has.seen.holds.hearing.hears has.control);
+                  (controlled_event words given history event (λ one. packet_received one history) (λ one. refl)
+                  (λ number side. turn_still words number side history slot (map plan.radio_of given.stations)) (λ one handle. number_quiet one handle history event (λ links. refl)) has.control);
+              each = each_event (ControlBefore words given) history event has.each (all_whole words given history has.seen.holds.hearing.hears has.control);
             };
-        on_feed = λ plan done left station history are some now has.
+        on_feed = λ plan done left station history are some now had gives.
             let octets = take (plan.feed_of station) (octets_left given station history) in
             let after = after_feed given station octets history in
+            let has = had (given_earlier words given history after (feed_more given station octets history) gives) in
             let place = AtFeeds (done ++ station ∷ []) left in
-            let seen = sees.on_feed plan done left station history are some now has.seen in
+            let seen = sees.on_feed plan done left station history are some now (λ so. has.seen) gives in
             let front = front_at given place after seen.known.front in
             let in_it = among given.stations done left station are in
-            let fed = feed_fed station octets (turns_begun history - 1) history front.rest in_it front.at
+            let fed = feed_fed station octets (turns_begun history - 1) history front.rest in_it front.at gives
             (lined_at understood taken given are_two six (AtFeeds done (station ∷ left)) history has.seen.known)
             (lined_at understood taken given are_two six place after seen.known) (record {
-              control = controlled_same given history (λ one. packet_received one history) NoneReceived (λ one in_one. sym (has.seen.holds.hearing.hears one in_one)) has.control;
+              control = controlled_same words given history (λ one. packet_received one history) NoneReceived (λ one in_one. sym (has.seen.holds.hearing.hears one in_one)) has.control;
               each = has.each;
-              seen = first_fed understood taken nth apart given are_two six done left station history in_it has.seen;
+              seen = first_fed words understood taken nth apart given are_two six done left station history in_it has.seen;
             }) in record {
               seen = seen;
               lined = lines.on_feed plan done left station history are some now has.lined;
-              control = controlled_same given after NoneReceived (λ one. packet_received one after) (λ one in_one. seen.holds.hearing.hears one in_one) fed.control;
+              control = controlled_same words given after NoneReceived (λ one. packet_received one after) (λ one in_one. seen.holds.hearing.hears one in_one) fed.control;
               each = fed.each;
             };
-        on_fed = λ history has. record { seen = sees.on_fed history has.seen; lined = lines.on_fed history has.lined; control = has.control; each = has.each };
-        on_begin = λ slot plan done left station history are due has.
+        on_fed = λ history had gives. let has = had gives in record { seen = sees.on_fed history (λ so. has.seen) gives; lined = lines.on_fed history has.lined; control = has.control; each = has.each };
+        on_begin = λ slot plan done left station history are due had gives.
             let on = plan.radio_of station in
             let step = TurnBegins slot on in
+            let has = had (given_call words given station step history gives) in
             let in_it = among given.stations done left station are in
             let setup = setup_at given station in
             let facts = facts_at given station history in
             let after = after_call given station step history in
-            let seen = sees.on_begin slot plan done left station history are due has.seen in
+            let seen = sees.on_begin slot plan done left station history are due (λ so. has.seen) gives in
             let lined = lined_at understood taken given are_two six (AtBegins done (station ∷ left)) history has.seen.known in
             let lined_after = lined_at understood taken given are_two six (AtBegins (done ++ station ∷ []) left) after seen.known in
             let none = has.seen.holds.hearing.hears station in_it in record {
               seen = seen;
               lined = lines.on_begin slot plan done left station history are due has.lined;
-              control = controlled_call given station step history (λ one. packet_received one history) (λ one. packet_received one after) (apart_from understood taken nth apart given are_two six station in_it) lined lined_after (λ handle link at.
+              control = controlled_call words given station step history (λ one. packet_received one history) (λ one. packet_received one after) gives.kept (apart_from words understood taken nth apart given are_two six station in_it) lined lined_after (λ handle link at.
                   let number = number_at station handle history in
-                  let held = held_at given station step history in_it lined lined_after handle link at in
+                  let held = held_at words given station step history in_it lined lined_after handle link at in
                   let next = facts_after setup facts step in
-                  let moves = begin_moves (side_of station) number (withholds_at (side_of station) history) (drawn_at (side_of station) history) slot setup facts on handle link held
+                  let moves = begin_moves (side_of station) number (withholds_at (side_of station) history) (drawn_at words (side_of station) history) slot setup facts on handle link held
                   (λ sends. first_sender 0 link.setup.link.role refl (sender_role 0 next.links next.turn.doing handle link (begins_in setup slot on facts) sends held)) in
-                  moved_own given station step history in_it lined lined_after handle link at (packet_received station after) (seen.holds.hearing.hears station in_it)
-                  (number_called given station step history handle (begin_noted (OpensNone handle) (opening_none handle) setup slot on facts)) moves.base moves.was tt
+                  moved_own words given station step history in_it lined lined_after handle link at (packet_received station after) (seen.holds.hearing.hears station in_it)
+                  (number_called given station step history handle (begin_noted (OpensNone handle) (opening_none handle) setup slot on facts)) moves.base moves.was gives.kept tt
                   (keyed_of (facts_in moves.base))
-                  (subst (λ n. MovesTo (side_of station) number (withholds_at (side_of station) history) (drawn_at (side_of station) history) n moves.base link (keyed_of (facts_in moves.base)))
+                  (subst (λ n. MovesTo (side_of station) number (withholds_at (side_of station) history) (drawn_at words (side_of station) history) n moves.base link (keyed_of (facts_in moves.base)))
                   (sym (turn_is history slot due.slot_is)) moves.is)
-                  (whole_at given history (λ one. packet_received one history) station handle moves.base in_it moves.was (λ listens. none) has.control))
+                  (whole_at words given history (λ one. packet_received one history) station handle moves.base in_it moves.was (λ listens. none) has.control))
                   (λ other is_too differs. received_by given other station step history false differs) has.control;
-              each = call_each given station step history has.each
-                  (whole_before given history (λ one. packet_received one history) station step (λ handle held link. refl) none has.control);
+              each = call_each words given station step history has.each
+                  (whole_before words given history (λ one. packet_received one history) station step (λ handle held link. refl) none has.control);
             };
-        on_begun = λ history has. record { seen = sees.on_begun history has.seen; lined = lines.on_begun history has.lined; control = has.control; each = has.each };
-        on_phase = λ phases history few has. record { seen = sees.on_phase phases history few has.seen; lined = lines.on_phase phases history few has.lined; control = has.control; each = has.each };
-        on_silence = λ phases done left station history are none has. record {
-          seen = sees.on_silence phases done left station history are none has.seen;
+        on_begun = λ history had gives. let has = had gives in record { seen = sees.on_begun history (λ so. has.seen) gives; lined = lines.on_begun history has.lined; control = has.control; each = has.each };
+        on_phase = λ phases history few had gives. let has = had gives in record { seen = sees.on_phase phases history few (λ so. has.seen) gives; lined = lines.on_phase phases history few has.lined; control = has.control; each = has.each };
+        on_silence = λ phases done left station history are none had gives. let has = had gives in record {
+          seen = sees.on_silence phases done left station history are none (λ so. has.seen) gives;
           lined = lines.on_silence phases done left station history are none has.lined;
           control = has.control;
           each = has.each;
         };
-        on_packet = λ phases plan done left station channel octets history are some due has.
-            let seen = sees.on_packet phases plan done left station channel octets history are some due has.seen in
+        on_packet = λ phases plan done left station channel octets history are some due had gives.
+            let has = had (given_front words given history (Transmitted station channel octets (hearings_of given plan.fates station channel octets history) ∷ []) gives) in
+            let seen = sees.on_packet phases plan done left station channel octets history are some due (λ so. has.seen) gives in
             let lined = lines.on_packet phases plan done left station channel octets history are some due has.lined in record {
               seen = seen;
               lined = lined;
               control = packet_controlled phases done left station channel octets plan.fates history are due.is_wanted due.is_seen has seen lined;
-              each = each_event (ControlBefore given) history (Transmitted station channel octets (hearings_of given plan.fates station channel octets history)) has.each
+              each = each_event (ControlBefore words given) history (Transmitted station channel octets (hearings_of given plan.fates station channel octets history)) has.each
                   (packet_whole phases done left station channel octets history are due.is_wanted has);
             };
-        on_air = λ phases history has. record { seen = sees.on_air phases history has.seen; lined = lines.on_air phases history has.lined; control = has.control; each = has.each };
-        on_hearing = λ phases done left station history are some has.
+        on_air = λ phases history had gives. let has = had gives in record { seen = sees.on_air phases history (λ so. has.seen) gives; lined = lines.on_air phases history has.lined; control = has.control; each = has.each };
+        on_hearing = λ phases done left station history are some had gives.
             let received = packet_received station history in
             let step = step_of received in
+            let has = had (given_call words given station step history gives) in
             let in_it = among given.stations done left station are in
             let after = after_call given station step history in
             let facts = facts_at given station history in
             let place = AtListening phases (done ++ station ∷ []) left in
-            let seen = sees.on_hearing phases done left station history are some has.seen in
+            let seen = sees.on_hearing phases done left station history are some (λ so. has.seen) gives in
             let lined = lined_at understood taken given are_two six (AtListening phases done (station ∷ left)) history has.seen.known in
             let lined_after = lined_at understood taken given are_two six place after seen.known in
             let front = front_at given place after seen.known.front in
@@ -407,47 +421,53 @@ module _ (heard_whole : IsHeardWhole) (understood : IsUnderstood) (taken : AreTa
             (no_octet received))) in record {
               seen = seen;
               lined = lines.on_hearing phases done left station history are some has.lined;
-              control = controlled_call given station step history (λ one. packet_received one history) (λ one. packet_received one after) (apart_from understood taken nth apart given are_two six station in_it) lined lined_after
-                  (passes_own understood taken given are_two six station history phases place in_it phased lined lined_after seen.known seen.seen held
-                  (turn_is history facts.turn.slot (sym phased.uses.in_turn.slot_is))
-                  has.control)
+              control = controlled_call words given station step history (λ one. packet_received one history) (λ one. packet_received one after) gives.kept (apart_from words understood taken nth apart given are_two six station in_it) lined lined_after
+                  (passes_own words understood taken given are_two six station history phases place in_it phased lined lined_after seen.known seen.seen held
+                  (turn_is history facts.turn.slot (sym phased.uses.in_turn.slot_is)) gives.kept
+                  (λ octets some. given_at words given station step history (ap draws_in_call (ap step_of some)) gives) has.control)
                   (λ other is_too differs. received_by given other station step history false differs) has.control;
-              each = call_each given station step history has.each (λ in_one handle link at.
+              each = call_each words given station step history has.each (λ in_one handle link at.
                   (has.control station handle link in_it at).keyed ∙ ap Some (taking_next handle facts received link));
             };
-        on_heard = λ phases history has. record { seen = sees.on_heard phases history has.seen; lined = lines.on_heard phases history has.lined; control = has.control; each = has.each };
-        on_phases = λ history has. record { seen = sees.on_phases history has.seen; lined = lines.on_phases history has.lined; control = has.control; each = has.each };
-        on_end = λ done left station history are some has.
+        on_heard = λ phases history had gives. let has = had gives in record { seen = sees.on_heard phases history (λ so. has.seen) gives; lined = lines.on_heard phases history has.lined; control = has.control; each = has.each };
+        on_phases = λ history had gives. let has = had gives in record { seen = sees.on_phases history (λ so. has.seen) gives; lined = lines.on_phases history has.lined; control = has.control; each = has.each };
+        on_end = λ done left station history are some had gives.
             let step = TurnEnds in
+            let has = had (given_call words given station step history gives) in
             let in_it = among given.stations done left station are in
             let setup = setup_at given station in
             let facts = facts_at given station history in
             let after = after_call given station step history in
-            let seen = sees.on_end done left station history are some has.seen in
+            let seen = sees.on_end done left station history are some (λ so. has.seen) gives in
             let lined = lined_at understood taken given are_two six (AtEnds done (station ∷ left)) history has.seen.known in
             let lined_after = lined_at understood taken given are_two six (AtEnds (done ++ station ∷ []) left) after seen.known in
             let none = has.seen.holds.hearing.hears station in_it in record {
               seen = seen;
               lined = lines.on_end done left station history are some has.lined;
-              control = controlled_call given station step history (λ one. packet_received one history) (λ one. packet_received one after) (apart_from understood taken nth apart given are_two six station in_it) lined lined_after (λ handle link at.
-                  let moves = end_moves (side_of station) (number_at station handle history) (withholds_at (side_of station) history) (drawn_at (side_of station) history) (turn_at history) setup facts handle link
-                  (held_at given station step history in_it lined lined_after handle link at) in
-                  moved_own given station step history in_it lined lined_after handle link at (packet_received station after) (seen.holds.hearing.hears station in_it)
-                  (number_called given station step history handle (end_noted (OpensNone handle) (opening_none handle).starts.feeds setup facts)) moves.base moves.was tt
+              control = controlled_call words given station step history (λ one. packet_received one history) (λ one. packet_received one after) gives.kept (apart_from words understood taken nth apart given are_two six station in_it) lined lined_after (λ handle link at.
+                  let moves = end_moves (side_of station) (number_at station handle history) (withholds_at (side_of station) history) (drawn_at words (side_of station) history) (turn_at history) setup facts handle link
+                  (held_at words given station step history in_it lined lined_after handle link at) in
+                  moved_own words given station step history in_it lined lined_after handle link at (packet_received station after) (seen.holds.hearing.hears station in_it)
+                  (number_called given station step history handle (end_noted (OpensNone handle) (opening_none handle).starts.feeds setup facts)) moves.base moves.was gives.kept tt
                   (keyed_of (facts_in moves.base)) moves.is
-                  (whole_at given history (λ one. packet_received one history) station handle moves.base in_it moves.was (λ listens. none) has.control))
+                  (whole_at words given history (λ one. packet_received one history) station handle moves.base in_it moves.was (λ listens. none) has.control))
                   (λ other is_too differs. received_by given other station step history false differs) has.control;
-              each = call_each given station step history has.each
-                  (whole_before given history (λ one. packet_received one history) station step (λ handle held link. refl) none has.control);
+              each = call_each words given station step history has.each
+                  (whole_before words given history (λ one. packet_received one history) station step (λ handle held link. refl) none has.control);
             };
-        on_ended = λ history has. record { seen = sees.on_ended history has.seen; lined = lines.on_ended history has.lined; control = has.control; each = has.each };
+        on_ended = λ history had gives. let has = had gives in record { seen = sees.on_ended history (λ so. has.seen) gives; lined = lines.on_ended history has.lined; control = has.control; each = has.each };
       }
 
+  -- where they are given in all of the run
+  pub controls_kept : GivesWords given words → IsKept given (AreControlledAt words given)
+  controls_kept gives =
+      given_kept words given gives (AreControlledAt words given) (known_kept understood taken given are_two six) (λ place history has. has.seen.known) controls_so_far
+
 -- as a run begins no link is open
-none_controlled : (given : Given) → AreControlledSo given [] (λ station. packet_received station [])
+none_controlled : (words : Words) (given : Given) → AreControlledSo words given [] (λ station. packet_received station [])
 unfolding facts_of
-none_controlled given = λ station handle link in_it at.
+none_controlled words given = λ station handle link in_it at.
     absurd (open_has (λ one. ⊥) 0 handle (replicate (setup_at given station).links None) link (none_open (λ one. ⊥) (setup_at given station).links) at)
 
-pub controls_first : (given : Given) → AreControlledAt given NoTurn []
-controls_first given = record { seen = seen_first given; lined = lines_first given; control = none_controlled given; each = tt }
+pub controls_first : (words : Words) (given : Given) → AreControlledAt words given NoTurn []
+controls_first words given = record { seen = seen_first words given; lined = lines_first given; control = none_controlled words given; each = tt }

@@ -3,11 +3,11 @@ pub mod NotedSteps
 pub mod CentralFixed
 pub mod EndSteps
 pub mod LineFolds
+pub mod EarlyTakings
 pub mod EventMoves
 pub mod EndMoves
 pub mod PeripheralFixed
 pub mod GivenAlike
-pub mod Undrawn
 pub mod Refusing
 pub mod Replies
 pub mod SendsAlike
@@ -15,6 +15,7 @@ pub mod TurnMoves
 pub mod Counted
 pub mod FixedEnds
 pub mod TakingLines
+pub mod AtCentral
 pub mod LinkMoves
 pub mod EarlyAnswers
 pub mod OpenedControls

@@ -8,6 +8,9 @@ use Rattle.ble_base.specs.declared.procedure_kinds.Kind.{Kind}
 use Rattle.ble_base.specs.declared.roles.Role.{Role}
 use Rattle.ble_base.specs.declared.roles.Role.TheVariants.{Central, Peripheral}
 use Rattle.ble_base.specs.declared.roles.Side.{Side}
+use Rattle.ble_base.specs.declared.verdicts.Verdict.{Verdict}
+use Rattle.ble_base.specs.declared.verdicts.Verdict.TheVariants.{Broken, Forged, Good, Missed}
+use Rattle.journal_ends.specs.controller_model.Heard.{or_refusal, refusal_of}
 use Rattle.journal_ends.specs.controller_model.Facts.{Setup, Facts}
 use Rattle.journal_ends.specs.controller_model.Side.{facts_after}
 use Rattle.journal_ends.specs.controller_model.Step.{TurnBegins, TurnEnds}
@@ -25,8 +28,8 @@ use Rattle.journal_ends.specs.link_model.End.{facts_after as end_after, notes_af
 use Rattle.journal_ends.specs.link_model.Entering.{began_notes, done_notes, event_notes, facts_entered}
 use Rattle.journal_ends.specs.link_model.Events.{applied_notes}
 use Rattle.journal_ends.specs.link_model.Facts.{Facts as EndFacts, keyed_of}
-use Rattle.journal_ends.specs.link_model.Packets.{good_pdu}
-use Rattle.journal_ends.specs.link_model.Receiving.{accepts, acknowledged_if, facts_before_taking, facts_received, has_acknowledged, has_ended, heard_in_slot, received_notes, replies_by, replies_of}
+use Rattle.journal_ends.specs.link_model.Packets.{good_pdu, verdict_of}
+use Rattle.journal_ends.specs.link_model.Receiving.{accepts, acknowledged_if, facts_before_taking, facts_received, has_acknowledged, has_ended, heard_in_slot, kept_effect_of, kept_effect_received, received_notes, replies_by, replies_of}
 use Rattle.journal_ends.specs.link_model.Sending.{control_gone_if, sent_notes_if, takes_leave}
 use Rattle.journal_ends.specs.link_model.Setup.{Setup as EndSetup}
 use Rattle.journal_ends.specs.link_model.Step.{Step, DataReported, EventEntered, KeyAnswered, PacketReceived, PacketSent, PduFixed, RequestAnswered, WordsGiven}
@@ -37,28 +40,32 @@ use Rattle.journal_ends.specs.link_model.control_end.declared.answers.Entry.{Ent
 use Rattle.journal_ends.specs.link_model.declared.events.ConnectionEvent.{ConnectionEvent}
 use Rattle.journal_ends.specs.link_model.keyed_control.Keyed.{Keyed}
 use Rattle.journal_ends.specs.link_model.keyed_control.declared.material.Response.{Response}
+use Rattle.journal_ends.specs.link_model.procedure_stages.declared.steps.Effect.TheVariants.{Nothing}
+use Rattle.journal_ends.specs.run_model.History.{is_good, is_handed}
 use Rattle.journal_ends.specs.open_links.Data.{complete_in, link_reported}
 use Rattle.journal_ends.specs.open_links.OpenLinks.{Links, OpenLink, facts_in, link_after, link_at}
 use Rattle.journal_ends.specs.open_links.Turns.{enters_in}
 use Rattle.journal_ends.proofs.journal_acks.link_calls.LinkCalls.{turn_begun_under}
 use Rattle.journal_ends.proofs.journal_acks.link_calls.UnderHandles.{ended_under}
 use Rattle.journal_ends.proofs.GrownLinks.{IsRefusal, refusal_is}
-use Rattle.journal_ends.proofs.WordedLinks.{IsWordedAs, with_response, worded_good}
+use Rattle.journal_ends.proofs.WordedLinks.{IsWordedAs, with_response, worded_good, worded_verdict}
+use Rattle.journal_ends.proofs.link_model.Forging.{forged_effect, forged_facts, forged_notes, forged_reply}
 use Rattle.journal_ends.proofs.link_model.KeyedPasts.{past_in_phase}
-use Rattle.journal_ends.proofs.link_model.KeyedSteps.{one_step}
+use Rattle.journal_ends.proofs.link_model.KeyedSteps.{forged_none, one_step}
 use Rattle.journal_ends.proofs.run_laws.Agreed.{step_facts}
-use Rattle.journal_controls.specs.Hearing.{keyed_hearing}
-use Rattle.journal_controls.specs.KeyedLines.{answer_by, does_some, keyed_by_all}
+use Rattle.journal_controls.specs.Hearing.{keyed_hearing, keyed_if}
+use Rattle.journal_controls.specs.KeyedLines.{answer_by, does_some, keyed_by_all, keyed_forged}
 use Rattle.journal_controls.specs.SaidLines.{moved_by}
 use Rattle.journal_controls.specs.Withheld.{Withheld, withheld_by}
 use Rattle.journal_controls.specs.TurnSteps.{first_if, steps_begun}
 use Rattle.journal_controls.proofs.EndMoves.{KeepsRole, NoneRefuses, moved_noted, past_keeps, refuse_both, role_stays}
 use Rattle.journal_controls.proofs.EndSteps.{good_leave, received_is}
 use Rattle.journal_controls.proofs.FixedEnds.{begun_past, grown_facts}
+use Rattle.journal_controls.proofs.GoodPackets.{forged_is, forged_keyed, good_has, good_keyed}
 use Rattle.journal_controls.proofs.Refusing.{first_some, refused, refused_fold, refused_leave, refused_notes}
 use Rattle.journal_controls.proofs.TakingLines.{answer_where, asked, keyed_answer, moved_more, received_by_lines}
 use Rattle.journal_controls.proofs.TurnMoves.{left_answers, turn_moves}
-use Rattle.journal_controls.proofs.Undrawn.{moved_alike}
+use Rattle.journal_controls.proofs.AtCentral.{moved_alike}
 
 -- more happened to a link, and the lines of it move the end to that of the link
 pub record MovesTo (side : Side) (number : ℕ) (withheld : Withheld) (response : Response) (slot : ℕ) (base after : OpenLink) (from : Keyed) : Type 0 where
@@ -294,6 +301,48 @@ module _ (side : Side) (number : ℕ) (facts : Facts) (handle : ℕ) (room : Boo
             ∙ sym (ap (λ (f : EndFacts). keyed_of f) (grown_facts base after (took ∷ later refusal sends) same past));
       }
 
+-- a forged packet ends the link
+module _ (side : Side) (number : ℕ) (withheld : Withheld) (response : Response) (facts : Facts) (handle : ℕ) (room : Bool) (octets : List ℕ) (base : OpenLink)
+    (forged : verdict_of base.setup (facts_in base) octets ≡ Forged) where
+  abbrev heard_at : ℕ
+  heard_at = facts.turn.slot
+
+  abbrev forging : Step
+  forging = PacketReceived heard_at octets room
+
+  forged_kept : kept_effect_of base.setup (facts_in base) heard_at octets room ≡ Nothing
+  unfolding kept_effect_of
+  forged_kept =
+      ap (λ pdu. kept_effect_received base.setup.link.role heard_at room pdu (facts_in base))
+      (forged_none base.setup (facts_in base) octets (forged_is base.setup (facts_in base) octets forged))
+
+  -- it asks nothing of the host, and there is no answer
+  forged_unasked : refusal_at handle room octets facts base ≡ None
+  forged_unasked =
+      λ i. or_refusal (refusal_of facts.view handle heard_at (forged_effect base.setup (facts_in base) heard_at octets room forged i))
+      (refusal_of facts.view handle heard_at (forged_kept i))
+
+  -- so only that happened to it
+  pub forged_after : (sends : Bool) (after : OpenLink) → sends ≡ replies_of base.setup (facts_in base) heard_at octets room
+      → after ≡ sent_if sends heard_at (base_receiving handle room octets facts base) → after ≡ link_after forging base
+  forged_after sends after replies is =
+      is ∙ (λ i. sent_if (replies i) heard_at (refused_if (forged_unasked i) (link_after forging base)))
+      ∙ ap (λ b. sent_if b heard_at (link_after forging base)) (forged_reply base.setup (facts_in base) heard_at octets room forged)
+
+  pub forged_taken : (sends : Bool) (after : OpenLink) → sends ≡ replies_of base.setup (facts_in base) heard_at octets room
+      → after ≡ sent_if sends heard_at (base_receiving handle room octets facts base)
+      → MovesTo side number withheld response heard_at base after (keyed_forged (keyed_of (facts_in base)))
+  forged_taken sends after replies is =
+      let after_is = forged_after sends after replies is in record {
+        setup_is = ap (λ (l : OpenLink). l.setup) after_is;
+        steps = forging ∷ [];
+        past_is = ap (λ (l : OpenLink). l.past) after_is;
+        moves = ap (λ notes. moved_by withheld response heard_at (map (line_of side number) (notes ++ [])) (keyed_forged (keyed_of (facts_in base))))
+            (forged_notes base.setup (facts_in base) heard_at octets room forged)
+            ∙ sym (ap (λ (f : EndFacts). keyed_of f)
+            (ap (λ (l : OpenLink). facts_in l) after_is ∙ step_facts base forging ∙ forged_facts base.setup (facts_in base) heard_at octets room forged));
+      }
+
 -- ---- with the words that it was given before
 
 module _ (side : Side) (number : ℕ) (withheld : Withheld) (slot : ℕ) where
@@ -313,15 +362,23 @@ module _ (side : Side) (number : ℕ) (withheld : Withheld) (slot : ℕ) where
   worded_moves response setup facts (PeripheralListens handle) link after from is = given_moves response _ _ link after from is
   worded_moves response setup facts doing link after from is = is
 
-  -- what it would draw changes nothing yet
-  pub redrawn : (one other : Response) (base after : OpenLink) (from : Keyed)
+  -- what a central would draw changes nothing
+  pub redrawn : (one other : Response) (base after : OpenLink) (from : Keyed) → KeepsRole base.setup.link.role from → (base.setup.link.role ≡ Peripheral → one ≡ other)
       → MovesTo side number withheld one slot base after from → MovesTo side number withheld other slot base after from
-  redrawn one other base after from is = record {
+  redrawn one other base after from keeps same is = record {
     setup_is = is.setup_is;
     steps = is.steps;
     past_is = is.past_is;
-    moves = moved_alike withheld other one slot (map (line_of side number) (notes_from base.setup (facts_in base) is.steps)) from ∙ is.moves;
+    moves = by base.setup.link.role refl ∙ is.moves;
   }
+    where
+      by : (role : Role) → base.setup.link.role ≡ role
+          → moved_by withheld other slot (map (line_of side number) (notes_from base.setup (facts_in base) is.steps)) from
+          ≡ moved_by withheld one slot (map (line_of side number) (notes_from base.setup (facts_in base) is.steps)) from
+      by Central central =
+          moved_alike withheld other one slot (map (line_of side number) (notes_from base.setup (facts_in base) is.steps)) from (subst (λ r. KeepsRole r from) central keeps)
+      by Peripheral peripheral =
+          ap (λ response. moved_by withheld response slot (map (line_of side number) (notes_from base.setup (facts_in base) is.steps)) from) (sym (same peripheral))
 
 -- as a packet reaches it, it is as it would be without them
 gone_still : (goes : Bool) (slot : ℕ) (facts : EndFacts) (response : Response)
@@ -344,3 +401,27 @@ pub worded_hearing : (link base : OpenLink) → IsWordedAs link base → (slot :
 worded_hearing link base is slot octets =
     (λ i. keyed_hearing (is.setup_is i).link.role slot (worded_good link base is octets i) (is.facts_is i))
     ∙ hearing_still link.setup.link.role slot (good_pdu link.setup (facts_in link) octets) (facts_in link) is.response
+
+-- a packet that a link takes is good or forged
+module _ (side : Side) (number : ℕ) (facts : Facts) (handle : ℕ) (room : Bool) (octets : List ℕ) (link base : OpenLink) (words : IsWordedAs link base) where
+  abbrev IsMovedFrom : OpenLink → Keyed → Type 0
+  IsMovedFrom after k =
+      MovesTo side number (withheld_by (view_masks facts.view)) (facts_in base).encryption.response facts.turn.slot base after k
+
+  pub taken_as : (sends : Bool) (after : OpenLink) → sends ≡ replies_of base.setup (facts_in base) facts.turn.slot octets room
+      → after ≡ sent_if sends facts.turn.slot (base_receiving handle room octets facts base)
+      → (verdict : Verdict) → verdict_of link.setup (facts_in link) octets ≡ verdict → is_handed verdict ≡ true
+      → IsMovedFrom after (keyed_if true facts.turn.slot octets link)
+  taken_as sends after replies is Good judged handed =
+      let slot = facts.turn.slot in
+      let has = good_has link.setup (facts_in link) octets (ap is_good judged) in
+      subst (IsMovedFrom after)
+      (worded_hearing link base words slot octets ∙ (λ i. keyed_hearing link.setup.link.role slot (has.is i) (facts_in link)) ∙ sym (good_keyed slot octets has.pdu link has.is))
+      (taken_moves side number facts handle room octets has.pdu base (worded_good link base words octets ∙ has.is) sends after replies is)
+  taken_as sends after replies is Forged judged handed =
+      subst (IsMovedFrom after)
+      (ap (λ (f : EndFacts). keyed_forged (keyed_of f)) words.facts_is ∙ sym (forged_keyed facts.turn.slot octets link judged))
+      (forged_taken side number (withheld_by (view_masks facts.view)) (facts_in base).encryption.response facts handle room octets base
+      (worded_verdict link base words octets ∙ judged) sends after replies is)
+  taken_as sends after replies is Missed judged handed = absurd cc
+  taken_as sends after replies is Broken judged handed = absurd cc

@@ -9,16 +9,18 @@ use Rattle.ble_base.specs.declared.notes.Note.TheVariants.{Opened as OpenedNote}
 use Rattle.ble_base.specs.declared.roles.Role.{Role}
 use Rattle.ble_base.specs.declared.roles.Role.TheVariants.{Central, Peripheral}
 use Rattle.ble_base.specs.declared.roles.Side.{Side}
+use Rattle.ble_base.specs.declared.verdicts.Verdict.{Verdict}
+use Rattle.ble_base.specs.declared.verdicts.Verdict.TheVariants.{Broken, Forged, Good, Missed}
+use Rattle.journal_ends.specs.Asked.{Words}
 use Rattle.journal_ends.specs.controller_model.Links.{note_opened}
 use Rattle.journal.specs.declared.entries.Entry.{Entry}
 use Rattle.journal.specs.declared.entries.Entry.TheVariants.{Air, Opened}
 use Rattle.journal_ends.specs.Answering.{answers_from, answers_in_line}
-use Rattle.journal_ends.specs.Seen.{Asks, Hears, Says, Seen, asked_in_line, heard_in_line, heard_where, seen_from, seen_in_line, seen_on}
+use Rattle.journal_ends.specs.Seen.{Asks, Hears, HearsForged, Says, Seen, asked_in_line, heard_in_line, heard_where, is_heard_on, seen_from, seen_in_line, seen_on}
 use Rattle.journal_ends.specs.journal_links.Begun.{LinkBegun, link_numbered, links_begun, with_number}
 use Rattle.journal_ends.specs.journal_links.Changes.{role_by}
 use Rattle.journal_ends.specs.journal_links.LinkLines.{line_of, link_named, where_named}
 use Rattle.journal_ends.specs.journal_links.Opened.{central_side}
-use Rattle.journal_ends.specs.journal_acks.Shut.{is_of_link}
 use Rattle.journal_ends.specs.journal_acks.link_calls.Ranges.{HasRanges}
 use Rattle.journal_ends.specs.journal_packets.Belonging.{is_side}
 use Rattle.journal_ends.specs.link_model.Facts.{first_facts, keyed_of}
@@ -49,7 +51,6 @@ use Rattle.journal_ends.proofs.run_model.Journals.{each_front}
 use Rattle.journal_ends.proofs.run_model.OfStations.{OfStations, run_of_stations}
 use Rattle.journal_ends.proofs.run_model.Places.{each_at}
 use Rattle.journal_ends.proofs.run_model.Stations.{is_in}
-use Rattle.journal_controls.specs.KeyedLines.{drawn_by}
 use Rattle.journal_controls.specs.LineSteps.{keyed_begun, keyed_from, keyed_in_line, keyed_on}
 use Rattle.journal_controls.proofs.EarlyAnswers.{none_answered}
 use Rattle.journal_controls.proofs.EventMoves.{keyed_at, turn_at}
@@ -65,38 +66,44 @@ pub none_of : {A : Type 0} (one other : List A) → one ++ other ≡ [] → AreN
 none_of [] other is = record { first = refl; second = is }
 none_of (seen ∷ one) other is = absurd cc
 
-pub quiet_lines : (side : Side) (number : ℕ) (front : List Entry) (before : Option Keyed) (lines : List Entry) → seen_from side number front lines ≡ []
-    → answers_from side number front lines ≡ [] → keyed_from (drawn_by side) side number front before lines ≡ before
-quiet_lines side number front before [] none unanswered = refl
-quiet_lines side number front before (line ∷ lines) none unanswered =
-    let both = none_of (seen_in_line side number front line) (seen_from side number (front ++ line ∷ []) lines) none in
-    let answers = none_of (answers_in_line side number front line) (answers_from side number (front ++ line ∷ []) lines) unanswered in
-    quiet_lines side number (front ++ line ∷ []) (keyed_in_line (drawn_by side) side number front before line) lines both.second answers.second
-    ∙ quiet_line side number front before line both.first answers.first
+pub quiet_lines : (words : Words) (side : Side) (number : ℕ) (front : List Entry) (before : Option Keyed) (lines : List Entry) → seen_from words side number front lines ≡ []
+    → answers_from words side number front lines ≡ [] → keyed_from words side number front before lines ≡ before
+quiet_lines words side number front before [] none unanswered = refl
+quiet_lines words side number front before (line ∷ lines) none unanswered =
+    let both = none_of (seen_in_line words side number front line) (seen_from words side number (front ++ line ∷ []) lines) none in
+    let answers = none_of (answers_in_line words side number front line) (answers_from words side number (front ++ line ∷ []) lines) unanswered in
+    quiet_lines words side number (front ++ line ∷ []) (keyed_in_line words side number front before line) lines both.second answers.second
+    ∙ quiet_line words side number front before line both.first answers.first
 
 -- what is heard in a line
-data IsHeardSo (seen : List Seen) : Type 0 where
+pub data IsHeardSo (seen : List Seen) : Type 0 where
   Unheard : seen ≡ [] → IsHeardSo seen
   Heard : (slot : ℕ) (octets : List ℕ) → seen ≡ Hears slot octets ∷ [] → IsHeardSo seen
+  HeardForged : seen ≡ HearsForged ∷ [] → IsHeardSo seen
 
-heard_so : (side : Side) (number : ℕ) (front : List Entry) (line : Entry) → IsHeardSo (heard_in_line side number front line)
+pub heard_so : (side : Side) (number : ℕ) (front : List Entry) (line : Entry) → IsHeardSo (heard_in_line side number front line)
 heard_so side number front (Air sender channel octets fate verdict) =
-    by (is_of_link number front sender channel octets && (is_side sender (other_side side) && is_good verdict)) (length (turns_of front) - 1)
+    by (is_heard_on number front sender channel octets fate verdict && is_side sender (other_side side)) verdict (length (turns_of front) - 1)
   where
-    by : (heard : Bool) (slot : ℕ) → IsHeardSo (heard_where heard slot octets)
-    by true slot = Heard slot octets refl
-    by false slot = Unheard refl
+    by : (ours : Bool) (verdict : Verdict) (slot : ℕ) → IsHeardSo (heard_where ours verdict slot octets)
+    by true Good slot = Heard slot octets refl
+    by true Forged slot = HeardForged refl
+    by true Missed slot = Unheard refl
+    by true Broken slot = Unheard refl
+    by false verdict slot = Unheard refl
 heard_so side number front line = Unheard refl
 
 same_heard : (heard : List Seen) (named : List Entry) (line one : Entry) → IsHeardSo heard → IsNamed line named → heard ++ map Says named ≡ Says one ∷ [] → line ≡ one
 same_heard heard named line one (Heard slot octets is) name said =
     absurd (let h : Hears slot octets ∷ map Says named ≡ Says one ∷ [] = ap (λ xs. xs ++ map Says named) (sym is) ∙ said in absurd cc)
+same_heard heard named line one (HeardForged is) name said =
+    absurd (let h : HearsForged ∷ map Says named ≡ Says one ∷ [] = ap (λ xs. xs ++ map Says named) (sym is) ∙ said in absurd cc)
 same_heard heard named line one (Unheard none) (Own is) said =
     let h : Says line ∷ [] ≡ Says one ∷ [] = (λ i. sym none i ++ map Says (sym is i)) ∙ said in cc
 same_heard heard named line one (Unheard none) (Others is) said =
     absurd (let h : [] ≡ Says one ∷ [] = (λ i. sym none i ++ map Says (sym is i)) ∙ said in absurd cc)
 
-same_line : (asked heard : List Seen) (named : List Entry) (line one : Entry) → AreAsks asked → IsHeardSo heard → IsNamed line named
+pub same_line : (asked heard : List Seen) (named : List Entry) (line one : Entry) → AreAsks asked → IsHeardSo heard → IsNamed line named
     → asked ++ (heard ++ map Says named) ≡ Says one ∷ [] → line ≡ one
 same_line asked heard named line one are so name said = by are.steps are.is
   where
@@ -106,49 +113,49 @@ same_line asked heard named line one are so name said = by are.steps are.is
         absurd (let h : Asks step ∷ (map Asks steps ++ (heard ++ map Says named)) ≡ Says one ∷ [] = ap (λ xs. xs ++ (heard ++ map Says named)) (sym is) ∙ said in absurd cc)
 
 -- the line that says so, and the end from there on
-record IsOpenedIn (side : Side) (number handle : ℕ) (role : Role) (front : List Entry) (before : Option Keyed) (lines : List Entry) : Type 0 where
+record IsOpenedIn (words : Words) (side : Side) (number handle : ℕ) (role : Role) (front : List Entry) (before : Option Keyed) (lines : List Entry) : Type 0 where
   first : List Entry
   rest : List Entry
   is_at : lines ≡ first ++ Opened side number handle role ∷ rest
-  begins : (link : LinkBegun) → link_numbered number (front ++ first) ≡ Some link → keyed_from (drawn_by side) side number front before lines ≡ keyed_begun side (Some link)
+  begins : (link : LinkBegun) → link_numbered number (front ++ first) ≡ Some link → keyed_from words side number front before lines ≡ keyed_begun side (Some link)
 
-opened_in : (side : Side) (number handle : ℕ) (role : Role) (front : List Entry) (before : Option Keyed) (lines : List Entry)
-    → seen_from side number front lines ≡ Says (Opened side number handle role) ∷ [] → answers_from side number front lines ≡ []
-    → IsOpenedIn side number handle role front before lines
-opened_in side number handle role front before [] said unanswered = absurd cc
-opened_in side number handle role front before (line ∷ lines) said unanswered =
-    by (seen_in_line side number front line) refl (λ later. opened_in side number handle role (front ++ line ∷ []) (keyed_in_line (drawn_by side) side number front before line) lines later answers.second)
+opened_in : (words : Words) (side : Side) (number handle : ℕ) (role : Role) (front : List Entry) (before : Option Keyed) (lines : List Entry)
+    → seen_from words side number front lines ≡ Says (Opened side number handle role) ∷ [] → answers_from words side number front lines ≡ []
+    → IsOpenedIn words side number handle role front before lines
+opened_in words side number handle role front before [] said unanswered = absurd cc
+opened_in words side number handle role front before (line ∷ lines) said unanswered =
+    by (seen_in_line words side number front line) refl (λ later. opened_in words side number handle role (front ++ line ∷ []) (keyed_in_line words side number front before line) lines later answers.second)
   where
-    answers : AreNone (answers_in_line side number front line) (answers_from side number (front ++ line ∷ []) lines)
-    answers = none_of (answers_in_line side number front line) (answers_from side number (front ++ line ∷ []) lines) unanswered
+    answers : AreNone (answers_in_line words side number front line) (answers_from words side number (front ++ line ∷ []) lines)
+    answers = none_of (answers_in_line words side number front line) (answers_from words side number (front ++ line ∷ []) lines) unanswered
 
-    by : (seen : List Seen) → seen_in_line side number front line ≡ seen
-        → (seen_from side number (front ++ line ∷ []) lines ≡ Says (Opened side number handle role) ∷ []
-        → IsOpenedIn side number handle role (front ++ line ∷ []) (keyed_in_line (drawn_by side) side number front before line) lines)
-        → IsOpenedIn side number handle role front before (line ∷ lines)
+    by : (seen : List Seen) → seen_in_line words side number front line ≡ seen
+        → (seen_from words side number (front ++ line ∷ []) lines ≡ Says (Opened side number handle role) ∷ []
+        → IsOpenedIn words side number handle role (front ++ line ∷ []) (keyed_in_line words side number front before line) lines)
+        → IsOpenedIn words side number handle role front before (line ∷ lines)
     by [] none then_on =
-        let later = then_on (ap (λ xs. xs ++ seen_from side number (front ++ line ∷ []) lines) (sym none) ∙ said) in record {
+        let later = then_on (ap (λ xs. xs ++ seen_from words side number (front ++ line ∷ []) lines) (sym none) ∙ said) in record {
           first = line ∷ later.first;
           rest = later.rest;
           is_at = ap (λ xs. line ∷ xs) later.is_at;
           begins = λ link is. later.begins link (ap (link_numbered number) (append_assoc front (line ∷ []) later.first) ∙ is);
         }
     by (one ∷ more) is then_on =
-        let whole : one ∷ (more ++ seen_from side number (front ++ line ∷ []) lines) ≡ Says (Opened side number handle role) ∷ [] =
-        ap (λ xs. xs ++ seen_from side number (front ++ line ∷ []) lines) (sym is) ∙ said in
+        let whole : one ∷ (more ++ seen_from words side number (front ++ line ∷ []) lines) ≡ Says (Opened side number handle role) ∷ [] =
+        ap (λ xs. xs ++ seen_from words side number (front ++ line ∷ []) lines) (sym is) ∙ said in
         let head : one ≡ Says (Opened side number handle role) = cc in
-        let tail : more ++ seen_from side number (front ++ line ∷ []) lines ≡ [] = cc in
-        let both = none_of more (seen_from side number (front ++ line ∷ []) lines) tail in
-        let alone : seen_in_line side number front line ≡ Says (Opened side number handle role) ∷ [] = is ∙ (λ i. head i ∷ both.first i) in
-        let same = same_line (asked_in_line side number front line) (heard_in_line side number front line) (where_named side number (link_named line) line) line
-        (Opened side number handle role) (line_are_asks side number front line) (heard_so side number front line) (named_by side number (link_named line) line) alone in record {
+        let tail : more ++ seen_from words side number (front ++ line ∷ []) lines ≡ [] = cc in
+        let both = none_of more (seen_from words side number (front ++ line ∷ []) lines) tail in
+        let alone : seen_in_line words side number front line ≡ Says (Opened side number handle role) ∷ [] = is ∙ (λ i. head i ∷ both.first i) in
+        let same = same_line (asked_in_line words side number front line) (heard_in_line side number front line) (where_named side number (link_named line) line) line
+        (Opened side number handle role) (line_are_asks words side number front line) (heard_so side number front line) (named_by side number (link_named line) line) alone in record {
           first = [];
           rest = lines;
           is_at = ap (λ l. l ∷ lines) same;
           begins = λ link is_link.
-              quiet_lines side number (front ++ line ∷ []) (keyed_in_line (drawn_by side) side number front before line) lines both.second answers.second
-              ∙ ap (keyed_in_line (drawn_by side) side number front before) same
-              ∙ opened_line side number handle role front before link (ap (link_numbered number) (sym (append-nil front)) ∙ is_link);
+              quiet_lines words side number (front ++ line ∷ []) (keyed_in_line words side number front before line) lines both.second answers.second
+              ∙ ap (keyed_in_line words side number front before) same
+              ∙ opened_line words side number handle role front before link (ap (link_numbered number) (sym (append-nil front)) ∙ is_link);
         }
 
 -- ---- the link of the line
@@ -230,7 +237,7 @@ record HasLink (history : List Event) (number : ℕ) : Type 0 where
 has_early : (number : ℕ) (front : List Entry) (before : List Event) (has : HasLink before number) → front ≡ journal_of before → link_numbered number front ≡ Some has.link
 has_early number front before has is = ap (link_numbered number) is ∙ has.is_link
 
-module _ (understood : IsUnderstood) (taken : AreTaken) (given : Given) (are_two : IsOfTwo given) (six : HaveAddresses given) where
+module _ (words : Words) (understood : IsUnderstood) (taken : AreTaken) (given : Given) (are_two : IsOfTwo given) (six : HaveAddresses given) where
   -- a link has a number as it is opened
   link_before : (before rest : List Event) (number station handle : ℕ) (role : Role) (own peer : Address) → Each IsOfBoth [] before
       → history_of (run_of given) ≡ before ++ Noted station (OpenedNote handle role own peer) ∷ rest → number ≡ (links_of before).last_of station → HasLink before number
@@ -242,12 +249,12 @@ module _ (understood : IsUnderstood) (taken : AreTaken) (given : Given) (are_two
 
   -- what the journal says of a link as it is opened
   record HasOpening (history : List Event) (number : ℕ) (side : Side) (setup : EndSetup) : Type 0 where
-    opened : IsOpenedIn side number setup.link.handle setup.link.role [] None (journal_of history)
+    opened : IsOpenedIn words side number setup.link.handle setup.link.role [] None (journal_of history)
     link : LinkBegun
     early : link_numbered number opened.first ≡ Some link
 
   opening_of : (history rest : List Event) (number : ℕ) (side : Side) (setup : EndSetup) → history_of (run_of given) ≡ history ++ rest → Each IsOfBoth [] history
-      → IsOpenedIn side number setup.link.handle setup.link.role [] None (journal_of history) → HasOpening history number side setup
+      → IsOpenedIn words side number setup.link.handle setup.link.role [] None (journal_of history) → HasOpening history number side setup
   opening_of history rest number side setup at two opened =
       let handle = setup.link.handle in
       let role = setup.link.role in
@@ -265,15 +272,15 @@ module _ (understood : IsUnderstood) (taken : AreTaken) (given : Given) (are_two
   pub opened_control : (history rest : List Event) (number station : ℕ) (link : OpenLink) → history_of (run_of given) ≡ history ++ rest → Each IsOfBoth [] history
       → is_in station given.stations ≡ true → HasNumber history number station link.setup → HasRanges link
       → turn_at history ≡ link.setup.opened
-      → seen_at number (side_of station) history ≡ Says (line_of (side_of station) number (note_opened link.setup.link)) ∷ []
-      → keyed_at number (side_of station) history ≡ Some (keyed_of (first_facts link.setup))
+      → seen_at words number (side_of station) history ≡ Says (line_of (side_of station) number (note_opened link.setup.link)) ∷ []
+      → keyed_at words number (side_of station) history ≡ Some (keyed_of (first_facts link.setup))
   unfolding seen_on keyed_on
   opened_control history rest number station link at two in_it has ranges turn said =
       let side = side_of station in
       let setup = link.setup in
       let of = link_is history number station setup two has (of_two_stations given are_two station in_it) in
-      let unanswered = none_answered side number of.link [] (journal_of history) of.is_link (of.slot ∙ sym turn) in
-      let opening = opening_of history rest number side setup at two (opened_in side number setup.link.handle setup.link.role [] None (journal_of history) said unanswered) in
+      let unanswered = none_answered words side number of.link [] (journal_of history) of.is_link (of.slot ∙ sym turn) in
+      let opening = opening_of history rest number side setup at two (opened_in words side number setup.link.handle setup.link.role [] None (journal_of history) said unanswered) in
       let opened = opening.opened in
       let line = Opened side number setup.link.handle setup.link.role in
       let both : Some opening.link ≡ Some of.link =

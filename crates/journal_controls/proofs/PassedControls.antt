@@ -1,18 +1,26 @@
 -- A phase passes at a station: what its ends are then by the journal.
-use Rattle.std.proofs.Common.{◌≡◌, ℕ, ◌⊎◌, inl, inr, true, false, Option, Some, None, List, [], ◌∷◌, refl, sym, ap, subst, ◌∙◌}
+use Rattle.std.proofs.Common.{◌≡◌, ℕ, ◌⊎◌, inl, inr, Bool, true, false, Option, Some, None, List, [], ◌∷◌, refl, sym, ap, subst, ◌∙◌}
 use Rattle.std.specs.Prelude.{All}
 use Rattle.journal_ends.proofs.controller_model.Always.{IsInTurn}
-use Rattle.journal_ends.specs.controller_model.Facts.{Facts}
+use Rattle.std.proofs.lemmas.Bool.{eqb-true}
+use Rattle.ble_base.specs.declared.roles.Role.TheVariants.{Central, Peripheral}
+use Rattle.journal_ends.specs.Asked.{Words}
+use Rattle.journal_ends.specs.GivenWords.{AreKept, words_next}
+use Rattle.journal_ends.specs.controller_model.Facts.{Facts, Setup}
+use Rattle.journal_ends.specs.controller_model.declared.doing.Doing.{Doing}
+use Rattle.journal_ends.specs.controller_model.declared.doing.Doing.TheVariants.{CentralListens, PeripheralListens}
 use Rattle.journal_ends.specs.controller_model.Heard.{has_room}
 use Rattle.journal_ends.specs.controller_model.Links.{note_opened}
 use Rattle.journal_ends.specs.controller_model.Side.{facts_after, notes_after}
 use Rattle.host_masks.specs.Masks.{view_masks}
 use Rattle.journal_ends.specs.Seen.{Says, seen_of}
 use Rattle.journal_ends.specs.journal_acks.link_calls.Phases.{HasPassed, IsNew, Stays, Takes, link_worded}
-use Rattle.journal_ends.specs.journal_acks.link_calls.Uses.{sends_under}
+use Rattle.journal_ends.specs.journal_acks.link_calls.Uses.{listens_under, sends_under}
 use Rattle.journal_ends.specs.journal_links.LinkLines.{line_of}
 use Rattle.journal_ends.specs.link_model.End.{facts_of}
-use Rattle.journal_ends.specs.link_model.Facts.{first_facts, keyed_of}
+use Rattle.journal_ends.specs.link_model.Facts.{Facts as EndFacts, first_facts, keyed_of}
+use Rattle.journal_ends.specs.link_model.Packets.{good_pdu, is_forged, verdict_of}
+use Rattle.journal_ends.specs.link_model.Step.{WordsGiven}
 use Rattle.journal_ends.specs.open_links.OpenLinks.{OpenLink, facts_in, link_at}
 use Rattle.journal_ends.specs.run_model.Feeding.{is_octet}
 use Rattle.journal_ends.specs.run_model.History.{Event, packet_received, turns_begun}
@@ -20,7 +28,7 @@ use Rattle.journal_ends.specs.run_model.Journal.{side_of}
 use Rattle.journal_ends.specs.run_model.LinkEnds.{HaveAddresses}
 use Rattle.journal_ends.specs.run_model.Run.{Given, after_call, facts_at, setup_at, step_of}
 use Rattle.journal_ends.proofs.EndsKnown.{AreLined}
-use Rattle.journal_ends.proofs.WordedLinks.{worded_as, worded_good}
+use Rattle.journal_ends.proofs.WordedLinks.{worded_as}
 use Rattle.journal_ends.proofs.SeenCalls.{AreSeenSo, held_at, seen_in_link, whole as seen_whole}
 use Rattle.journal_ends.proofs.journal_acks.Exchanging.{number_at, number_called}
 use Rattle.journal_ends.proofs.journal_acks.Standing.{PhasedBy}
@@ -30,19 +38,21 @@ use Rattle.journal_ends.proofs.journal_acks.link_calls.InRange.{ranges_in}
 use Rattle.journal_ends.proofs.journal_acks.link_calls.LinkCalls.{IsOpenedNow, passes_under, phase_quiet}
 use Rattle.journal_ends.proofs.journal_links.OfTwo.{are_distinct}
 use Rattle.journal_ends.proofs.journal_packets.SoFar.{IsBelongingSoFar}
+use Rattle.journal_ends.proofs.run_laws.Agreed.{step_facts}
+use Rattle.journal_ends.proofs.run_laws.LinkPhases.{HasRole, IsInPhase}
 use Rattle.journal_ends.proofs.run_laws.TurnPlaces.{Within, at_stage}
 use Rattle.journal_ends.proofs.run_model.Fronts.{front_at}
 use Rattle.journal_ends.proofs.run_model.LinkEnds.{AreTaken, IsUnderstood, received_by}
 use Rattle.journal_ends.proofs.run_model.Calls.{same_station}
 use Rattle.journal_ends.proofs.run_model.Stations.{is_in}
 use Rattle.journal_ends.proofs.run_model.Walk.{Place}
-use Rattle.journal_controls.specs.Hearing.{keyed_if}
+use Rattle.journal_controls.specs.Hearing.{keyed_forged_if, keyed_hearing, keyed_if}
 use Rattle.journal_controls.specs.Withheld.{withheld_by}
 use Rattle.journal_controls.proofs.ControlledEnds.{AreControlledSo, IsControlledAt, from_whole, keyed_taking, moved_own, whole}
+use Rattle.journal_controls.proofs.EndMoves.{KeepsRole, forged_keeps, hearing_keeps, past_keeps}
 use Rattle.journal_controls.proofs.EventMoves.{call_moving, drawn_at, turn_answers, turn_at, withholds_at}
 use Rattle.journal_controls.proofs.FixedEnds.{sends_replying}
-use Rattle.journal_controls.proofs.GoodPackets.{good_has}
-use Rattle.journal_controls.proofs.LinkMoves.{MovesTo, redrawn, same_moves, taken_moves, worded_hearing, worded_moves}
+use Rattle.journal_controls.proofs.LinkMoves.{MovesTo, redrawn, same_moves, taken_as, worded_moves}
 use Rattle.journal_controls.proofs.OpenedControls.{opened_control}
 
 pub no_octet : (received : Option (List ℕ)) → is_octet (step_of received) ≡ false
@@ -59,15 +69,46 @@ first_is : (link : OpenLink) → link.past ≡ [] → keyed_of (first_facts link
 unfolding facts_of
 first_is link none = ap (λ past. keyed_of (facts_of link.setup past)) (sym none)
 
-module _ (understood : IsUnderstood) (taken : AreTaken) (given : Given) (are_two : IsOfTwo given) (six : HaveAddresses given) (station : ℕ) (history : List Event) (phases : ℕ)
+-- what it would draw is what it was given before
+given_response : (setup : Setup) (facts : Facts) (handle : ℕ) (link : OpenLink) → (facts_in (link_worded setup facts (PeripheralListens handle) link)).encryption.response ≡ words_next setup facts
+given_response setup facts handle link =
+    let next = words_next setup facts in
+    ap (λ (f : EndFacts). f.encryption.response) (step_facts link (WordsGiven next.skd_s next.iv_s))
+
+-- where it is a peripheral
+pub worded_response : (setup : Setup) (facts : Facts) (phases handle : ℕ) (link : OpenLink) (doing : Doing) → IsInPhase phases facts.links doing → listens_under handle doing ≡ true
+    → link_at handle facts.links ≡ Some link → link.setup.link.role ≡ Peripheral → (facts_in (link_worded setup facts doing link)).encryption.response ≡ words_next setup facts
+worded_response setup facts phases handle link (PeripheralListens other) phase on at peripheral = given_response setup facts other link
+worded_response setup facts phases handle link (CentralListens other) phase on at peripheral =
+    absurd (let here = ap (λ n. link_at n facts.links) (eqb-true other handle on) ∙ at in
+    let central : link.setup.link.role ≡ Central = subst (HasRole Central) here phase.1 in
+    let h : Central ≡ Peripheral = sym central ∙ peripheral in absurd cc)
+worded_response setup facts phases handle link doing phase on at peripheral = absurd cc
+
+-- an end that a packet reaches has its role
+pub reaching_keeps : (slot : ℕ) (octets : List ℕ) (link : OpenLink) → KeepsRole link.setup.link.role (keyed_if true slot octets link)
+reaching_keeps slot octets link = by (is_forged link.setup (facts_in link) octets)
+  where
+    keeps : KeepsRole link.setup.link.role (keyed_hearing link.setup.link.role slot (good_pdu link.setup (facts_in link) octets) (facts_in link))
+    keeps = hearing_keeps link.setup.link.role link.setup.link.role slot (good_pdu link.setup (facts_in link) octets) (facts_in link) (past_keeps link.setup link.past)
+
+    by : (forged : Bool) → KeepsRole link.setup.link.role
+        (keyed_forged_if forged (keyed_hearing link.setup.link.role slot (good_pdu link.setup (facts_in link) octets) (facts_in link)))
+    by true = forged_keeps link.setup.link.role (keyed_hearing link.setup.link.role slot (good_pdu link.setup (facts_in link) octets) (facts_in link)) keeps
+    by false = keeps
+
+module _ (words : Words) (understood : IsUnderstood) (taken : AreTaken) (given : Given) (are_two : IsOfTwo given) (six : HaveAddresses given) (station : ℕ) (history : List Event) (phases : ℕ)
     (place : Place) (in_it : is_in station given.stations ≡ true) (phased : PhasedBy given history station (at_stage (Within phases) (turns_begun history)))
     (lined : AreLined given history) (lined_after : AreLined given (after_call given station (step_of (packet_received station history)) history))
     (known : IsBelongingSoFar given place (after_call given station (step_of (packet_received station history)) history))
-    (seen : AreSeenSo given (after_call given station (step_of (packet_received station history)) history)
+    (seen : AreSeenSo words given (after_call given station (step_of (packet_received station history)) history)
     (λ one. packet_received one (after_call given station (step_of (packet_received station history)) history)))
     (held : withholds_at (side_of station) history ≡ withheld_by (view_masks (facts_at given station history).view))
     (slot_is : turn_at history ≡ (facts_at given station history).turn.slot)
-    (are : AreControlledSo given history (λ one. packet_received one history)) where
+    (kept : AreKept words)
+    (gives : (octets : List ℕ) → packet_received station history ≡ Some octets
+    → drawn_at words (side_of station) history ≡ words_next (setup_at given station) (facts_at given station history))
+    (are : AreControlledSo words given history (λ one. packet_received one history)) where
   abbrev received : Option (List ℕ)
   received = packet_received station history
 
@@ -78,7 +119,7 @@ module _ (understood : IsUnderstood) (taken : AreTaken) (given : Given) (are_two
   facts = facts_at given station history
 
   abbrev IsNow : ℕ → OpenLink → Type 0
-  IsNow handle link = IsControlledAt (packet_received station next) handle (facts_at given station next).turn link (number_at station handle next) (side_of station) next
+  IsNow handle link = IsControlledAt words (packet_received station next) handle (facts_at given station next).turn link (number_at station handle next) (side_of station) next
 
   phase_turn : (may : Option (List ℕ)) → IsInTurn (step_of may)
   phase_turn None = tt
@@ -89,7 +130,7 @@ module _ (understood : IsUnderstood) (taken : AreTaken) (given : Given) (are_two
 
   turn_stays : turn_at next ≡ facts.turn.slot
   turn_stays =
-      (call_moving given (number_at station 0 history) (side_of station) station (step_of received) history
+      (call_moving words given (number_at station 0 history) (side_of station) station (step_of received) history kept
       (turn_answers given (side_of station) station (step_of received) history (no_octet received))).turns ∙ slot_is
 
   fresh : (handle : ℕ) (link : OpenLink) → link_at handle (facts_at given station next).links ≡ Some link → link.past ≡ [] → link.setup.opened ≡ facts.turn.slot
@@ -98,10 +139,10 @@ module _ (understood : IsUnderstood) (taken : AreTaken) (given : Given) (are_two
       let number = number_at station handle next in
       let turn = (facts_at given station next).turn in
       let front = front_at given place next known.front in
-      let said = seen_whole (packet_received station next) handle turn link number (side_of station) next (λ on. none_next) (seen station handle link in_it at)
+      let said = seen_whole words (packet_received station next) handle turn link number (side_of station) next (λ on. none_next) (seen station handle link in_it at)
       ∙ first_said number station link none in
-      from_whole (packet_received station next) handle turn link number (side_of station) next (λ on. none_next)
-      (opened_control understood taken given are_two six next front.rest number station link front.at known.asked.sent in_it (known.numbered.numbered station handle link at)
+      from_whole words (packet_received station next) handle turn link number (side_of station) next (λ on. none_next)
+      (opened_control words understood taken given are_two six next front.rest number station link front.at known.asked.sent in_it (known.numbered.numbered station handle link at)
       (ranges_in given next front.rest station handle link (are_distinct given are_two) in_it front.at at) (turn_stays ∙ sym opened) said
       ∙ ap Some (first_is link none))
 
@@ -110,9 +151,9 @@ module _ (understood : IsUnderstood) (taken : AreTaken) (given : Given) (are_two
   passed handle link at number (IsNew end made opened off) = fresh handle link at (ap (λ (l : OpenLink). l.past) made) (ap (λ (l : OpenLink). l.setup.opened) made ∙ opened)
   passed handle link at number (Stays was none nothing listened) =
       let own = number_at station handle history in
-      moved_own given station (step_of received) history in_it lined lined_after handle link at (packet_received station next) none_next number link was (phase_turn received) (keyed_of (facts_in link))
-      (same_moves (side_of station) own (withholds_at (side_of station) history) (drawn_at (side_of station) history) (turn_at history) link)
-      (whole received handle facts.turn link own (side_of station) history nothing (are station handle link in_it was))
+      moved_own words given station (step_of received) history in_it lined lined_after handle link at (packet_received station next) none_next number link was kept (phase_turn received) (keyed_of (facts_in link))
+      (same_moves (side_of station) own (withholds_at (side_of station) history) (drawn_at words (side_of station) history) (turn_at history) link)
+      (whole words received handle facts.turn link own (side_of station) history nothing (are station handle link in_it was))
   passed handle link at number (Takes base octets was some on same) =
       let own = number_at station handle history in
       let side = side_of station in
@@ -121,20 +162,19 @@ module _ (understood : IsUnderstood) (taken : AreTaken) (given : Given) (are_two
       let sends = sends_under handle (facts_after setup facts (step_of received)).turn.doing in
       let from = keyed_if true facts.turn.slot octets base in
       let worded = link_worded setup facts facts.turn.doing base in
-      let words = worded_as setup facts facts.turn.doing base in
+      let worded_is = worded_as setup facts facts.turn.doing base in
       let response = (facts_in worded).encryption.response in
       let withheld = withheld_by (view_masks facts.view) in
       let before = are station handle base in_it was in
-      let has = good_has base.setup (facts_in base) octets (before.good octets on some) in
-      let good = worded_good base worded words octets ∙ has.is in
-      let there = taken_moves side own facts handle room octets has.pdu worded good sends link (sends_replying setup facts received handle base octets was some on) same in
       let moves : MovesTo side own withheld response facts.turn.slot base link from =
       worded_moves side own withheld facts.turn.slot response setup facts facts.turn.doing base link from
-      (subst (λ k. MovesTo side own withheld response facts.turn.slot worded link k) (worded_hearing base worded words facts.turn.slot octets) there) in
-      moved_own given station (step_of received) history in_it lined lined_after handle link at (packet_received station next) none_next number base was (phase_turn received) from
-      (subst (λ w. MovesTo side own w (drawn_at side history) (turn_at history) base link from) (sym held)
-      (subst (λ n. MovesTo side own withheld (drawn_at side history) n base link from) (sym slot_is)
-      (redrawn side own withheld facts.turn.slot response (drawn_at side history) base link from moves)))
+      (taken_as side own facts handle room octets base worded worded_is sends link (sends_replying setup facts received handle base octets was some on) same
+      (verdict_of base.setup (facts_in base) octets) refl (before.handed octets on some)) in
+      moved_own words given station (step_of received) history in_it lined lined_after handle link at (packet_received station next) none_next number base was kept (phase_turn received) from
+      (subst (λ w. MovesTo side own w (drawn_at words side history) (turn_at history) base link from) (sym held)
+      (subst (λ n. MovesTo side own withheld (drawn_at words side history) n base link from) (sym slot_is)
+      (redrawn side own withheld facts.turn.slot response (drawn_at words side history) base link from (reaching_keeps facts.turn.slot octets base)
+      (λ peripheral. worded_response setup facts phases handle base facts.turn.doing phased.phase on was peripheral ∙ sym (gives octets some)) moves)))
       (before.keyed ∙ (λ i. Some (keyed_taking (on i) (some i) facts.turn.slot base)))
 
   pub passes_own : (handle : ℕ) (link : OpenLink) → link_at handle (facts_at given station next).links ≡ Some link → IsNow handle link
@@ -145,7 +185,7 @@ module _ (understood : IsUnderstood) (taken : AreTaken) (given : Given) (are_two
           → IsOpenedNow (facts_at given station history).turn.slot one) → IsNow handle link
       by (inl quiet) =
           passed handle link at (number_called given station (step_of received) history handle quiet)
-          (passes_under (setup_at given station) facts received handle link phased.uses.in_turn.listens (held_at given station (step_of received) history in_it lined lined_after handle link at))
+          (passes_under (setup_at given station) facts received handle link phased.uses.in_turn.listens (held_at words given station (step_of received) history in_it lined lined_after handle link at))
       by (inr new) =
-          let now = new link (held_at given station (step_of received) history in_it lined lined_after handle link at) in
+          let now = new link (held_at words given station (step_of received) history in_it lined lined_after handle link at) in
           fresh handle link at now.past now.opened

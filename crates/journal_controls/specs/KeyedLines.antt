@@ -3,14 +3,12 @@
 use Rattle.std.specs.Prelude.{ℕ, Bool, true, List, [], ◌∷◌, ◌++◌, Option, Some, None, is_some, if◌then◌else◌}
 use Rattle.ble_base.specs.declared.roles.Role.{Role}
 use Rattle.ble_base.specs.declared.roles.Role.TheVariants.{Central, Peripheral}
-use Rattle.ble_base.specs.declared.roles.Side.{Side}
-use Rattle.journal.specs.declared.entries.Entry.{Entry}
 use Rattle.journal_ends.specs.link_model.Acknowledgement.{Pdu}
 use Rattle.journal_ends.specs.link_model.Controls.{is_procedure_pdu, read_of}
 use Rattle.journal_ends.specs.link_model.Data.{is_data}
-use Rattle.journal_ends.specs.link_model.Facts.{no_response}
 use Rattle.journal_ends.specs.link_model.Hosts.{key_step}
 use Rattle.journal_ends.specs.link_model.Payload.{end_accepting}
+use Rattle.journal_ends.specs.link_model.Receiving.{ended_by_forgery}
 use Rattle.journal_ends.specs.link_model.Step.{Step, KeyAnswered, RequestAnswered}
 use Rattle.journal_ends.specs.link_model.control_end.Answers.{next_ctrl}
 use Rattle.journal_ends.specs.link_model.control_end.Held.{held_of}
@@ -31,10 +29,16 @@ pub data LineStep : Type 0 where
   -- a new PDU that is not empty is accepted: where it is sealed it takes its counter. A line has its body as it was opened
   -- (part E, section 2.1)
   Accepts : LineStep
+  -- a packet that it judges forged ends the link, and does nothing else (part B, section 5.1.3.1)
+  Forges : LineStep
+
+abbrev pub keyed_forged : Keyed → Keyed
+keyed_forged k = record k { phased = record k.phased { control = ended_by_forgery k.phased.control } }
 
 abbrev pub keyed_by : LineStep → Keyed → Keyed
 keyed_by (Does step) k = keyed_after step k
 keyed_by Accepts k = record k { end = end_accepting true k.end }
+keyed_by Forges k = keyed_forged k
 
 abbrev pub keyed_by_all : List LineStep → Keyed → Keyed
 keyed_by_all [] k = k
@@ -53,11 +57,6 @@ abbrev pub answering : Step → List LineStep
 answering (RequestAnswered answer) = Does (Answers answer) ∷ []
 answering (KeyAnswered key slot) = Does (key_step key) ∷ []
 answering step = []
-
--- what a side would draw to answer LL_ENC_REQ after these lines: no end draws anything yet, whichever words it is given
--- (our choice)
-abbrev pub drawn_by : Side → List Entry → Response
-drawn_by side front = no_response
 
 -- ---- a new PDU that is not empty is sent, and takes its counter where it is sealed
 

@@ -12,7 +12,8 @@ use Rattle.host_masks.specs.Masks.{masks_of}
 use Rattle.journal.specs.declared.entries.Entry.{Entry}
 use Rattle.journal.specs.declared.entries.Entry.TheVariants.{Enter, Opened, Sent, Shut, Took}
 use Rattle.journal_ends.specs.Answering.{answers_in_line}
-use Rattle.journal_ends.specs.Seen.{Asks as IsAsked, Hears, Says, Seen, seen_in_line}
+use Rattle.journal_ends.specs.Asked.{Words}
+use Rattle.journal_ends.specs.Seen.{Asks as IsAsked, Hears, HearsForged, Says, Seen, seen_in_line}
 use Rattle.journal_ends.specs.journal_acks.Carried.{carried_of}
 use Rattle.journal_ends.specs.journal_acks.Exchange.{Exchanged, exchange_of}
 use Rattle.journal_ends.specs.journal_links.Begun.{LinkBegun, link_numbered}
@@ -29,9 +30,9 @@ use Rattle.journal_ends.specs.link_model.keyed_control.KeyedSteps.{Asks, Disconn
 use Rattle.journal_ends.specs.link_model.keyed_control.declared.material.Response.{Response}
 use Rattle.journal_ends.specs.link_model.phased_control.Taken.{role_now}
 use Rattle.journal_ends.specs.link_model.procedure_values.declared.asks.Ask.{Ask}
-use Rattle.journal_ends.specs.link_model.procedure_values.declared.asks.Ask.TheVariants.{Encrypt, Map}
+use Rattle.journal_ends.specs.link_model.procedure_values.declared.asks.Ask.TheVariants.{Map}
 use Rattle.journal_ends.specs.run_model.Readers.{fed_to_side, turns_of}
-use Rattle.journal_controls.specs.KeyedLines.{Does, LineStep, answering, does_if, drawn_by, has_next, keyed_by_all, steps_refusing, steps_sending, steps_taking}
+use Rattle.journal_controls.specs.KeyedLines.{Does, Forges, LineStep, answering, does_if, has_next, keyed_by_all, steps_refusing, steps_sending, steps_taking}
 use Rattle.journal_controls.specs.Withheld.{Withheld, withheld_by}
 
 -- ---- its host
@@ -43,10 +44,9 @@ map_coming control =
     (or_else (map_queued control.table.queue.drafts)
     (or_else (map_waiting control.track.waits) control.track.params.map))
 
--- a map that it is to have already changes nothing; nor does an encryption, since no link encrypts yet
+-- a map that it is to have already changes nothing
 abbrev pub is_coming : Ask → Control → Bool
 is_coming (Map map) control = map == map_coming control
-is_coming (Encrypt rand ediv ltk skd_m iv_m) control = true
 is_coming ask control = false
 
 -- the steps of what a host asks of an end, or answers
@@ -100,21 +100,21 @@ steps_heard role slot before after last waits =
 abbrev pub turn_now : List Entry → ℕ
 turn_now front = length (turns_of front) - 1
 
--- the steps of what it says, hears or is asked in a line that comes after these; `words` is what its side would draw after
--- any lines
-abbrev pub steps_seen : (List Entry → Response) → Side → ℕ → List Entry → Entry → Keyed → Seen → List LineStep
+-- the steps of what it says, hears or is asked in a line that comes after these
+abbrev pub steps_seen : Words → Side → ℕ → List Entry → Entry → Keyed → Seen → List LineStep
 steps_seen words side number front line k (Says own) =
-    steps_said (withholds side front) (words front) (turn_now front) k own
+    steps_said (withholds side front) (words side front) (turn_now front) k own
 steps_seen words side number front line k (Hears slot octets) =
     steps_heard (role_now k.phased) slot (exchange_of number front side)
     (exchange_of number (front ++ line ∷ []) side) (carried_of number front side) (has_next k)
+steps_seen words side number front line k HearsForged = Forges ∷ []
 steps_seen words side number front line k (IsAsked step) = steps_asking k step
 
 -- and of what its host answers in that line
-abbrev pub steps_in_line : (List Entry → Response) → Side → ℕ → List Entry → Entry → Keyed → List LineStep
+abbrev pub steps_in_line : Words → Side → ℕ → List Entry → Entry → Keyed → List LineStep
 steps_in_line words side number front line k =
-    flat_map answering (answers_in_line side number front line)
-    ++ flat_map (steps_seen words side number front line k) (seen_in_line side number front line)
+    flat_map answering (answers_in_line words side number front line)
+    ++ flat_map (steps_seen words side number front line k) (seen_in_line words side number front line)
 
 -- ---- line by line
 
@@ -128,25 +128,25 @@ keyed_begun side None = None
 keyed_begun side (Some link) =
     Some (first_keyed (role_on link side) most_received (first_params link.fields) (anchor_begun link))
 
-abbrev pub moved_in_line : (List Entry → Response) → Side → ℕ → List Entry → Entry → Keyed → Keyed
+abbrev pub moved_in_line : Words → Side → ℕ → List Entry → Entry → Keyed → Keyed
 moved_in_line words side number front line k = keyed_by_all (steps_in_line words side number front line k) k
 
-abbrev pub keyed_in_line : (List Entry → Response) → Side → ℕ → List Entry → Option Keyed → Entry → Option Keyed
+abbrev pub keyed_in_line : Words → Side → ℕ → List Entry → Option Keyed → Entry → Option Keyed
 keyed_in_line words side number front before (Opened other link handle role) =
     if is_side other side && link == number then keyed_begun side (link_numbered number front) else before
 keyed_in_line words side number front before (Shut other link reason) =
     if is_side other side && link == number then None else before
 keyed_in_line words side number front before line = option_map (moved_in_line words side number front line) before
 
-abbrev pub keyed_from : (List Entry → Response) → Side → ℕ → List Entry → Option Keyed → List Entry → Option Keyed
+abbrev pub keyed_from : Words → Side → ℕ → List Entry → Option Keyed → List Entry → Option Keyed
 keyed_from words side number front before [] = before
 keyed_from words side number front before (line ∷ lines) =
     keyed_from words side number (front ++ line ∷ []) (keyed_in_line words side number front before line) lines
 
 -- the end of a side on the link with this number, while the link is open at that side
-unfoldable pub keyed_on : Side → ℕ → List Entry → Option Keyed
-keyed_on side number journal = keyed_from (drawn_by side) side number [] None journal
+unfoldable pub keyed_on : Words → Side → ℕ → List Entry → Option Keyed
+keyed_on words side number journal = keyed_from words side number [] None journal
 
 -- its procedures and its parameters
-unfoldable pub control_on : Side → ℕ → List Entry → Option Control
-control_on side number journal = option_map (λ (k : Keyed). k.phased.control) (keyed_on side number journal)
+unfoldable pub control_on : Words → Side → ℕ → List Entry → Option Control
+control_on words side number journal = option_map (λ (k : Keyed). k.phased.control) (keyed_on words side number journal)

@@ -5,7 +5,8 @@ use Rattle.ble_base.specs.declared.notes.Note.{Note}
 use Rattle.ble_base.specs.declared.roles.Side.{Side}
 use Rattle.journal.specs.declared.entries.Entry.{Entry}
 use Rattle.journal.specs.declared.entries.Entry.TheVariants.{Began, Done, Enter, Refused, Took}
-use Rattle.journal_ends.specs.Seen.{Asks, Hears, Says, Seen, seen_in_line}
+use Rattle.journal_ends.specs.Asked.{Words}
+use Rattle.journal_ends.specs.Seen.{Asks, Hears, HearsForged, Says, Seen, seen_in_line}
 use Rattle.journal_ends.specs.journal_acks.Carried.{carried_of}
 use Rattle.journal_ends.specs.journal_acks.Exchange.{exchange_of}
 use Rattle.journal_ends.specs.journal_links.LinkLines.{line_of}
@@ -22,7 +23,7 @@ use Rattle.journal_ends.specs.link_model.keyed_control.Keyed.{Keyed}
 use Rattle.journal_ends.specs.link_model.keyed_control.declared.material.Response.{Response}
 use Rattle.journal_ends.specs.link_model.phased_control.Phased.{is_quiet_now}
 use Rattle.journal_ends.specs.link_model.phased_end.declared.taking.TakenKeyed.{TakenKeyed}
-use Rattle.journal_controls.specs.KeyedLines.{drawn_by, given_by}
+use Rattle.journal_controls.specs.KeyedLines.{given_by}
 use Rattle.journal_controls.specs.LineSteps.{is_more_acked, keyed_on, turn_now}
 
 -- ---- by what an end says and hears, as it is before
@@ -64,30 +65,31 @@ due_saying side number response slot k due line = []
 
 -- ---- line by line
 
-abbrev pub due_seen : Side → ℕ → List Entry → Entry → Keyed → List Entry → Seen → List Entry
-due_seen side number front line k due (Says own) =
-    due_saying side number (drawn_by side front) (turn_now front) k due own
-due_seen side number front line k due (Hears slot octets) =
+abbrev pub due_seen : Words → Side → ℕ → List Entry → Entry → Keyed → List Entry → Seen → List Entry
+due_seen words side number front line k due (Says own) =
+    due_saying side number (words side front) (turn_now front) k due own
+due_seen words side number front line k due (Hears slot octets) =
     due_hearing side number
     (is_more_acked (exchange_of number front side) (exchange_of number (front ++ line ∷ []) side)
     && is_control (carried_of number front side)) k.phased.control
-due_seen side number front line k due (Asks step) = due
+due_seen words side number front line k due HearsForged = due
+due_seen words side number front line k due (Asks step) = due
 
 -- no line of a procedure is due where the link is not open
-abbrev pub due_with : Side → ℕ → List Entry → Entry → List Entry → Option Keyed → List Entry
-due_with side number front line due None = []
-due_with side number front line due (Some k) =
-    fold (due_seen side number front line k) due (seen_in_line side number front line)
+abbrev pub due_with : Words → Side → ℕ → List Entry → Entry → List Entry → Option Keyed → List Entry
+due_with words side number front line due None = []
+due_with words side number front line due (Some k) =
+    fold (due_seen words side number front line k) due (seen_in_line words side number front line)
 
-abbrev pub due_from : Side → ℕ → List Entry → List Entry → List Entry → List Entry
-due_from side number front due [] = due
-due_from side number front due (line ∷ lines) =
-    due_from side number (front ++ line ∷ [])
-    (due_with side number front line due (keyed_on side number front)) lines
+abbrev pub due_from : Words → Side → ℕ → List Entry → List Entry → List Entry → List Entry
+due_from words side number front due [] = due
+due_from words side number front due (line ∷ lines) =
+    due_from words side number (front ++ line ∷ [])
+    (due_with words side number front line due (keyed_on words side number front)) lines
 
 -- the lines of procedures that are due to the end of a side on the link with this number, in this order
-unfoldable pub lines_due : Side → ℕ → List Entry → List Entry
-lines_due side number journal = due_from side number [] [] journal
+unfoldable pub lines_due : Words → Side → ℕ → List Entry → List Entry
+lines_due words side number journal = due_from words side number [] [] journal
 
 -- ---- an indication comes into force
 
@@ -96,5 +98,5 @@ applied_with slot None = None
 applied_with slot (Some k) = (entry_by slot k).applied
 
 -- the number of the indication of which the line is due just before the line of the event that an end enters next
-abbrev pub applied_due : Side → ℕ → List Entry → Option ℕ
-applied_due side number front = applied_with (turn_now front) (keyed_on side number front)
+abbrev pub applied_due : Words → Side → ℕ → List Entry → Option ℕ
+applied_due words side number front = applied_with (turn_now front) (keyed_on words side number front)

@@ -6,6 +6,8 @@ ghost use Rattle.ble_base.specs.declared.roles.Side.{Side};
 ghost use Rattle.journal_ends.specs.controller_model.Step.{Step as Call};
 ghost use Rattle.journal.specs.declared.entries.Entry.{Entry};
 ghost use Rattle.journal_ends.specs.host_answers.Calls.{call_lines};
+ghost use Rattle.journal_ends.specs.Asked.{Words};
+ghost use Rattle.journal_ends.specs.GivenWords.{AreKept};
 ghost use Rattle.journal_ends.specs.Answering.{answers_from, answers_if};
 ghost use Rattle.journal_ends.specs.Seen.{asked_if, seen_from};
 ghost use Rattle.journal_ends.specs.journal_links.LinkLines.{line_of, lines_of};
@@ -19,7 +21,7 @@ ghost use Rattle.journal_ends.specs.run_model.Feeding.{is_octet};
 ghost use Rattle.journal_ends.specs.run_model.History.{Event};
 ghost use Rattle.journal_ends.specs.run_model.Journal.{journal_of};
 ghost use Rattle.journal_ends.specs.run_model.Run.{Given, after_call};
-ghost use Rattle.journal_controls.specs.KeyedLines.{drawn_by, keyed_by_all};
+ghost use Rattle.journal_controls.specs.KeyedLines.{keyed_by_all};
 ghost use Rattle.journal_controls.specs.LineSteps.{keyed_on, turn_now, withholds};
 ghost use Rattle.journal_controls.specs.OneEnd.{steps_noted};
 ghost use Rattle.journal_controls.specs.SaidLines.{NoneOpens, after_asking, moved_by};
@@ -31,21 +33,21 @@ ghost use Rattle.journal_controls.specs.Withheld.{nothing_withheld};
 /// the lines of which nothing else is seen of an end than what its host asks, or answers, moves them
 /// by that (Core 5.2, volume 6 part B, sections 5.1, 5.1.3 and 5.1.7).
 pub fn a_call_moves_the_control_part_by_its_lines()
-    ensures turn { (given : Given) (side : Side) (number station : ℕ) (call : Call)
-        (history : List Event) (more : List Entry) (k : Keyed) → is_octet call ≡ false
+    ensures turn { (words : Words) (given : Given) (side : Side) (number station : ℕ) (call : Call)
+        (history : List Event) (more : List Entry) (k : Keyed) → AreKept words → is_octet call ≡ false
         → lines_of side number (journal_of (after_call given station call history))
         ≡ lines_of side number (journal_of history) ++ more
-        → NoneOpens more → keyed_on side number (journal_of history) ≡ Some k
-        → keyed_on side number (journal_of (after_call given station call history))
+        → NoneOpens more → keyed_on words side number (journal_of history) ≡ Some k
+        → keyed_on words side number (journal_of (after_call given station call history))
         ≡ Some (moved_by (withholds side (journal_of history))
-        (drawn_by side (journal_of history)) (turn_now (journal_of history)) more k) }
-    ensures asked { (given : Given) (side : Side) (number station : ℕ) (call : Call)
+        (words side (journal_of history)) (turn_now (journal_of history)) more k) }
+    ensures asked { (words : Words) (given : Given) (side : Side) (number station : ℕ) (call : Call)
         (history : List Event) (asked : Option Step) (k : Keyed)
-        → seen_from side number (journal_of history) (call_lines given station call history)
+        → seen_from words side number (journal_of history) (call_lines given station call history)
         ≡ asked_if asked
-        → answers_from side number (journal_of history) (call_lines given station call history)
-        ≡ answers_if asked → keyed_on side number (journal_of history) ≡ Some k
-        → keyed_on side number (journal_of (after_call given station call history))
+        → answers_from words side number (journal_of history) (call_lines given station call history)
+        ≡ answers_if asked → keyed_on words side number (journal_of history) ≡ Some k
+        → keyed_on words side number (journal_of (after_call given station call history))
         ≡ Some (after_asking asked k) }
 {}
 

@@ -1,8 +1,9 @@
 //! Laws of one end of a link: what moves its control part, its phase and its keys is what its lines
 //! say, and what they say of the packets that it hears. The bodies are empty: the contracts are the laws.
-ghost use Rattle.std.specs.Prelude.{◌≡◌, ◌+◌, ℕ, Bool, List, Option, Some, length};
+ghost use Rattle.std.specs.Prelude.{◌≡◌, ◌+◌, ℕ, Bool, List, [], Option, Some, length};
 ghost use Rattle.ble_base.specs.declared.roles.Role.{Role};
 ghost use Rattle.ble_base.specs.declared.roles.Side.{Side};
+ghost use Rattle.ble_base.specs.declared.verdicts.Verdict.TheVariants.{Forged};
 ghost use Rattle.journal_ends.specs.controller_model.Heard.{most_received};
 ghost use Rattle.data_pdu.specs.Header.{header_in};
 ghost use Rattle.journal_ends.specs.journal_acks.Carried.{SentLine, pdu_carried};
@@ -12,12 +13,12 @@ ghost use Rattle.journal_ends.specs.journal_links.Changes.{role_on};
 ghost use Rattle.journal_ends.specs.link_model.Acknowledgement.{Pdu};
 ghost use Rattle.journal_ends.specs.link_model.End.{facts_after, facts_of, notes_after};
 ghost use Rattle.journal_ends.specs.link_model.Facts.{Facts, first_facts, keyed_of};
-ghost use Rattle.journal_ends.specs.link_model.Packets.{good_pdu};
+ghost use Rattle.journal_ends.specs.link_model.Packets.{good_pdu, verdict_of};
 ghost use Rattle.journal_ends.specs.link_model.Setup.{Setup};
 ghost use Rattle.journal_ends.specs.link_model.Step.{Step, EventEntered, PacketReceived};
 ghost use Rattle.journal_ends.specs.link_model.Step.{PacketSent};
 ghost use Rattle.journal_ends.specs.link_model.keyed_control.declared.material.Response.{Response};
-ghost use Rattle.journal_controls.specs.KeyedLines.{has_next, keyed_by_all};
+ghost use Rattle.journal_controls.specs.KeyedLines.{Forges, has_next, keyed_by, keyed_by_all};
 ghost use Rattle.journal_controls.specs.LineSteps.{keyed_begun, steps_heard};
 ghost use Rattle.journal_controls.specs.OneEnd.{IsToldOf, steps_noted};
 
@@ -66,6 +67,18 @@ pub fn a_good_packet_moves_the_control_part_by_its_lines()
         (keyed_by_all
         (steps_heard setup.link.role slot before after last (has_next (keyed_of facts)))
         (keyed_of facts)) }
+{}
+
+/// A packet that an end judges forged ends its link, and moves nothing else of its control part, its
+/// phase and its keys; the end says no line then (Core 5.2, volume 6 part B, section 5.1.3.1).
+pub fn a_forged_packet_ends_the_control_part()
+    ensures moves { (setup : Setup) (facts : Facts) (slot : ℕ) (octets : List ℕ) (room : Bool)
+        → verdict_of setup facts octets ≡ Forged
+        → keyed_of (facts_after setup facts (PacketReceived slot octets room))
+        ≡ keyed_by Forges (keyed_of facts) }
+    ensures says_none { (setup : Setup) (facts : Facts) (slot : ℕ) (octets : List ℕ)
+        (room : Bool) → verdict_of setup facts octets ≡ Forged
+        → notes_after setup facts (PacketReceived slot octets room) ≡ [] }
 {}
 
 /// Where a journal counts what an end has sent, and how many of it are acknowledged, before a good

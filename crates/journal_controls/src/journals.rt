@@ -5,6 +5,7 @@ ghost use Rattle.ble_base.specs.declared.roles.Role.{Role};
 ghost use Rattle.ble_base.specs.declared.roles.Side.{Side};
 ghost use Rattle.journal.specs.declared.entries.Entry.{Entry};
 ghost use Rattle.journal.specs.declared.entries.Entry.TheVariants.{Opened};
+ghost use Rattle.journal_ends.specs.Asked.{Words};
 ghost use Rattle.journal_ends.specs.Answering.{answers_in_line};
 ghost use Rattle.journal_ends.specs.Seen.{seen_in_line};
 ghost use Rattle.journal_ends.specs.journal_links.Begun.{LinkBegun, link_numbered};
@@ -16,15 +17,15 @@ ghost use Rattle.journal_controls.specs.LineSteps.{control_on, keyed_begun, keye
 /// answers nothing to the peer, leaves them as they are. What a journal says of its control part alone
 /// is that part of it.
 pub fn only_what_an_end_says_and_hears_moves_its_control_part()
-    ensures begins { (side : Side) (number handle : ℕ) (role : Role) (journal : List Entry)
+    ensures begins { (words : Words) (side : Side) (number handle : ℕ) (role : Role) (journal : List Entry)
         (link : LinkBegun) → link_numbered number journal ≡ Some link
-        → keyed_on side number (journal ++ Opened side number handle role ∷ [])
+        → keyed_on words side number (journal ++ Opened side number handle role ∷ [])
         ≡ keyed_begun side (Some link) }
-    ensures stays { (side : Side) (number : ℕ) (journal : List Entry) (line : Entry)
-        → seen_in_line side number journal line ≡ []
-        → answers_in_line side number journal line ≡ []
-        → keyed_on side number (journal ++ line ∷ []) ≡ keyed_on side number journal }
-    ensures part { (side : Side) (number : ℕ) (journal : List Entry)
-        → control_on side number journal
-        ≡ option_map (λ (k : Keyed). k.phased.control) (keyed_on side number journal) }
+    ensures stays { (words : Words) (side : Side) (number : ℕ) (journal : List Entry) (line : Entry)
+        → seen_in_line words side number journal line ≡ []
+        → answers_in_line words side number journal line ≡ []
+        → keyed_on words side number (journal ++ line ∷ []) ≡ keyed_on words side number journal }
+    ensures part { (words : Words) (side : Side) (number : ℕ) (journal : List Entry)
+        → control_on words side number journal
+        ≡ option_map (λ (k : Keyed). k.phased.control) (keyed_on words side number journal) }
 {}

@@ -17,7 +17,7 @@ pub use crate::calls::{
     the_lines_of_an_end_move_the_control_part_by_its_notes,
 };
 pub use crate::ends::{
-    a_good_packet_moves_the_control_part_by_its_lines,
+    a_forged_packet_ends_the_control_part, a_good_packet_moves_the_control_part_by_its_lines,
     a_sending_moves_the_control_part_by_its_lines, an_end_begins_with_the_control_part_of_its_link,
     an_entry_moves_the_control_part_by_its_lines, counts_tell_of_an_end_that_hears,
 };

@@ -18,6 +18,7 @@ use Rattle.journal_collisions.specs.journal_endings.controller_model.Since.{note
 use Rattle.journal_collisions.specs.journal_links.Begun.{LinkBegun, link_numbered}
 use Rattle.journal_collisions.specs.journal_links.Changes.{role_by}
 use Rattle.journal_collisions.specs.journal_links.LinkLines.{lines_of}
+use Rattle.journal_collisions.specs.journal_data.Followed.{Follows, Mixed}
 use Rattle.journal_collisions.specs.journal_data.link_model.End.{facts_of, notes_of}
 use Rattle.journal_collisions.specs.journal_data.link_model.Packets.{good_pdu}
 use Rattle.journal_collisions.specs.journal_data.link_model.Setup.{Setup}
@@ -40,7 +41,7 @@ use Rattle.journal_collisions.proofs.journal_endings.journal_indications.journal
 use Rattle.journal_collisions.proofs.journal_endings.journal_indications.journal_data.run_laws.DistinctAccess.{AreApart}
 use Rattle.journal_collisions.proofs.journal_endings.journal_indications.journal_data.run_model.LinkEnds.{AreTaken, IsUnderstood}
 use Rattle.journal_collisions.proofs.journal_endings.journal_indications.journal_data.run_model.NoteLines.{line_in_call}
-use Rattle.journal_crossing.specs.Crossing.{IsPlainControl, NoneIsTakenAfterTermination}
+use Rattle.journal_crossing.specs.Crossing.{IsKnownControl, NoneIsTakenAfterTermination}
 use Rattle.journal_crossing.proofs.EndLines.{IsOfEither, IsTookAt, OfFirst, OfSecond, of_either, took_at}
 use Rattle.journal_crossing.proofs.OneTaken.{none_before, opened_none, received_tooks, same_tooks}
 use Rattle.journal_crossing.proofs.TakingCalls.{AreKnownInRuns, heard, lasts_here, lines_are, of}
@@ -59,9 +60,10 @@ far_peripheral A = refl
 far_peripheral B = refl
 
 module _ (whole_heard : IsHeardWhole) (understood : IsUnderstood) (taken : AreTaken) (nth : AreNth) (apart : AreApart) (given : Given)
-    (are_pair : IsOfTwo given) (six : HaveAddresses given) (known : AreKnownInRuns) (over : AreOverAfterTermination) where
+    (are_pair : IsOfTwo given) (six : HaveAddresses given) (mixed : Mixed) (follows : Follows given mixed) (known : AreKnownInRuns) (over : AreOverAfterTermination) where
   module _ (before between : List Entry) (link : LinkBegun) (number count llid later_count later_llid : ℕ) (body later : List ℕ)
-      (is_link : link_numbered number before ≡ Some link) (ends : IsTermination llid body) (plain : IsPlainControl later_llid later)
+      (unmixed : mixed number (before ++ Took (other_side link.central) number count llid body ∷ between) ≡ false)
+      (is_link : link_numbered number before ≡ Some link) (ends : IsTermination llid body) (control : IsKnownControl later_llid later)
       (call : IsLineInCall given (before ++ Took (other_side link.central) number count llid body ∷ between)
       (took_line (other_side link.central) number later_count later_llid later)) where
     abbrev side : Side
@@ -88,8 +90,8 @@ module _ (whole_heard : IsHeardWhole) (understood : IsUnderstood) (taken : AreTa
 
     lasts : is_lasting (facts_of reception.link.setup reception.link.past) ≡ true
     lasts =
-        let ctrl = is_control later_llid later (Known plain.ctrl) plain.is in
-        lasts_here whole_heard understood taken nth apart given are_pair six front side number later_count later_llid later call known ctrl.llid_is plain
+        let ctrl = is_control later_llid later (Known control.ctrl) control.is in
+        lasts_here whole_heard understood taken nth apart given are_pair six front side number later_count later_llid later call mixed follows unmixed known ctrl.llid_is control
         ctrl.is role
 
     -- the note of the termination
@@ -123,9 +125,9 @@ module _ (whole_heard : IsHeardWhole) (understood : IsUnderstood) (taken : AreTa
     none_taken = by_place (of_either (notes_opened_on reception.link.setup reception.link.past) call.earlier noted.first noted.later
         (TookNote noted.handle count llid (record { items = body })) noted.is)
 
-  pub none_after : NoneIsTakenAfterTermination (journal_of (history_of (run_of given)))
-  none_after before between rest link number count llid later_count later_llid body later is is_link ends plain =
+  pub none_after : NoneIsTakenAfterTermination mixed (journal_of (history_of (run_of given)))
+  none_after before between rest link number count llid later_count later_llid body later is unmixed is_link ends control =
       let side = other_side link.central in
-      none_taken before between link number count llid later_count later_llid body later is_link ends plain
+      none_taken before between link number count llid later_count later_llid body later unmixed is_link ends control
       (line_in_call given (before ++ Took side number count llid body ∷ between) rest (Took side number later_count later_llid later)
       (took_line side number later_count later_llid later) refl is)

@@ -9,6 +9,7 @@ use Rattle.journal.specs.declared.entries.Entry.{Entry}
 use Rattle.journal.specs.declared.entries.Entry.TheVariants.{Sent, Took}
 use Rattle.journal_collisions.specs.Collisions.{is_sent}
 use Rattle.journal_collisions.specs.journal_links.LinkLines.{lines_of}
+use Rattle.journal_collisions.specs.journal_data.Followed.{Follows, Mixed}
 use Rattle.journal_collisions.specs.journal_data.link_model.Data.{is_empty}
 use Rattle.journal_collisions.specs.journal_data.open_links.OpenLinks.{OpenLink, facts_in}
 use Rattle.journal_collisions.specs.journal_data.run_model.Journal.{journal_of}
@@ -24,28 +25,28 @@ use Rattle.journal_collisions.proofs.journal_endings.journal_indications.journal
 use Rattle.journal_collisions.proofs.journal_endings.journal_indications.journal_data.run_model.LinkEnds.{AreTaken, IsUnderstood}
 use Rattle.journal_collisions.proofs.journal_endings.journal_indications.journal_data.run_model.NoteLines.{line_in_call}
 use Rattle.data_pdu.specs.declared.ctrl.CtrlRead.TheVariants.{Known}
-use Rattle.journal_crossing.specs.Crossing.{AllControlsAreTaken, IsPlainControl, count_sent, count_taken}
+use Rattle.journal_crossing.specs.Crossing.{AllControlsAreTaken, IsKnownControl, count_sent, count_taken}
 use Rattle.journal_crossing.proofs.CountedLines.{counted, is_taken}
 use Rattle.journal_crossing.proofs.EndLines.{IsSentAt, sent_at, sent_lines, taken_lines}
 use Rattle.journal_crossing.proofs.TakenPdus.{control_taken}
 use Rattle.journal_crossing.proofs.TakingCalls.{AreKnownInRuns, IsTakenThere, far, far_lines, heard, lines_are, none_sent, taken_there}
 
 module _ (whole_heard : IsHeardWhole) (understood : IsUnderstood) (taken : AreTaken) (nth : AreNth) (apart : AreApart) (given : Given)
-    (are_pair : IsOfTwo given) (six : HaveAddresses given) (known : AreKnownInRuns) where
+    (are_pair : IsOfTwo given) (six : HaveAddresses given) (mixed : Mixed) (follows : Follows given mixed) (known : AreKnownInRuns) where
   module _ (before between : List Entry) (side : Side) (number sent_count count llid : ℕ) (sent_body body : List ℕ)
       (call : IsLineInCall given (before ++ Sent side number sent_count 3 sent_body ∷ between) (took_line side number count llid body))
-      (plain : IsPlainControl llid body) where
+      (unmixed : mixed number (before ++ Sent side number sent_count 3 sent_body ∷ between) ≡ false) (control : IsKnownControl llid body) where
     abbrev sent : Entry
     sent = Sent side number sent_count 3 sent_body
 
     abbrev front : List Entry
     front = before ++ Sent side number sent_count 3 sent_body ∷ between
 
-    there : IsTakenThere whole_heard understood taken nth apart given are_pair six front side number count llid body call known
-        (is_control llid body (Known plain.ctrl) plain.is).llid_is plain (is_control llid body (Known plain.ctrl) plain.is).is
+    there : IsTakenThere whole_heard understood taken nth apart given are_pair six front side number count llid body call mixed follows unmixed known
+        (is_control llid body (Known control.ctrl) control.is).llid_is control (is_control llid body (Known control.ctrl) control.is).is
     there =
-        taken_there whole_heard understood taken nth apart given are_pair six front side number count llid body call known
-        (is_control llid body (Known plain.ctrl) plain.is).llid_is plain (is_control llid body (Known plain.ctrl) plain.is).is
+        taken_there whole_heard understood taken nth apart given are_pair six front side number count llid body call mixed follows unmixed known
+        (is_control llid body (Known control.ctrl) control.is).llid_is control (is_control llid body (Known control.ctrl) control.is).is
 
     abbrev own_end : OpenLink
     own_end = (heard whole_heard understood taken nth apart given are_pair six front side number count llid body call).link
@@ -84,8 +85,8 @@ module _ (whole_heard : IsHeardWhole) (understood : IsUnderstood) (taken : AreTa
         let all = control_taken (facts_in own_end).acknowledgement (facts_in far_end).acknowledgement pdu.before sent_body there.agree there.last
         pdu.after pdu.is in omega (arith, ours, theirs, place, all)
 
-  pub all_taken : AllControlsAreTaken (journal_of (history_of (run_of given)))
-  all_taken before between rest link side number sent_count count llid sent_body body is is_link plain =
+  pub all_taken : AllControlsAreTaken mixed (journal_of (history_of (run_of given)))
+  all_taken before between rest link side number sent_count count llid sent_body body is unmixed is_link control =
       is_taken_there before between side number sent_count count llid sent_body body
       (line_in_call given (before ++ Sent side number sent_count 3 sent_body ∷ between) rest (Took side number count llid body)
-      (took_line side number count llid body) refl is) plain
+      (took_line side number count llid body) refl is) unmixed control

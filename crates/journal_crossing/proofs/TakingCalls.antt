@@ -14,7 +14,7 @@ use Rattle.journal_collisions.specs.journal_endings.controller_model.Facts.{Fact
 use Rattle.journal_collisions.specs.journal_endings.controller_model.Heard.{has_room}
 use Rattle.journal_collisions.specs.journal_endings.controller_model.Since.{notes_opened_on}
 use Rattle.journal_collisions.specs.journal_endings.controller_model.Step.{PacketHeard}
-use Rattle.journal_collisions.specs.journal_endings.run_pairs.InTurns.{HasSentNow, HearEachInTurn}
+use Rattle.journal_collisions.specs.journal_endings.run_pairs.InTurns.{HasSentNow, HearEachInTurn, HearNoMixed}
 use Rattle.journal_collisions.specs.journal_links.LinkLines.{line_of, lines_of}
 use Rattle.journal_collisions.specs.journal_data.link_model.Controls.{is_procedure_pdu}
 use Rattle.journal_collisions.specs.journal_data.link_model.End.{notes_after as end_notes, notes_of as end_notes_of}
@@ -24,7 +24,7 @@ use Rattle.journal_collisions.specs.journal_data.link_model.Packets.{good_pdu}
 use Rattle.journal_collisions.specs.journal_data.link_model.Setup.{Setup as EndSetup}
 use Rattle.journal_collisions.specs.journal_data.link_model.Step.{PacketReceived}
 use Rattle.journal_collisions.specs.journal_data.open_links.OpenLinks.{OpenLink, facts_in}
-use Rattle.journal_collisions.specs.journal_data.run_laws.Ends.{AreEnds, HaveOneConnectInd, IsOpen, OpenEnd, link_listened}
+use Rattle.journal_collisions.specs.journal_data.run_laws.Ends.{AreEnds, IsOpen, OpenEnd, link_listened}
 use Rattle.journal_collisions.specs.journal_data.run_model.Feeding.{AreDistinct, HasNoted}
 use Rattle.journal_collisions.specs.journal_data.run_model.History.{Called, Event, Noted, noted_by, past_of}
 use Rattle.journal_collisions.specs.journal_data.run_model.Journal.{journal_from, journal_of, side_of}
@@ -36,19 +36,21 @@ use Rattle.journal_collisions.specs.link_pairs.Ends.{is_lasting}
 use Rattle.journal_collisions.specs.run_collisions.Taking.{TakesControl}
 use Rattle.journal_collisions.proofs.CollidingLines.{central_ends}
 use Rattle.journal_collisions.proofs.EndLines.{end_lines, first_on, rest_on, under_all}
-use Rattle.journal_collisions.proofs.RefusedLines.{is_of_two}
 use Rattle.journal_collisions.proofs.journal_endings.controller_model.EndNotes.{received_each}
 use Rattle.journal_collisions.proofs.journal_endings.controller_model.Handles.{own_handles}
 use Rattle.journal_collisions.proofs.journal_endings.controller_model.UnderNotes.{AreOn, end_on}
 use Rattle.journal_collisions.proofs.journal_endings.link_calls.run_laws.TwoStations.{are_two}
 use Rattle.journal_collisions.proofs.journal_endings.journal_indications.FarEnds.{far_before}
 use Rattle.journal_collisions.proofs.journal_endings.journal_indications.LineEnds.{IsEndOfLine, end_of_line, in_it}
-use Rattle.journal_collisions.proofs.journal_endings.journal_indications.PairedEnds.{are_ends, far_end, far_side, own_end}
 use Rattle.journal_collisions.proofs.journal_endings.journal_indications.Receptions.{IsReception, listened, reception_of}
+use Rattle.journal_collisions.specs.journal_data.Followed.{Follows, Mixed}
+use Rattle.journal_collisions.proofs.journal_endings.journal_indications.journal_data.Followed.{AreEndsOf, hear_fewer, hear_in_call, is_of_two}
 use Rattle.journal_collisions.proofs.journal_endings.journal_indications.journal_data.KeptData.{other_in}
+use Rattle.journal_collisions.proofs.journal_endings.journal_indications.journal_data.PairedEnds.{are_ends, far_end, far_side, own_end}
+use Rattle.journal_collisions.proofs.journal_endings.journal_indications.journal_data.journal_acks.Exchanging.{number_at}
 use Rattle.journal_collisions.proofs.journal_endings.journal_indications.journal_data.Mine.{HasFarEnd}
 use Rattle.journal_collisions.proofs.journal_endings.journal_indications.journal_data.OneCall.{other_not}
-use Rattle.journal_collisions.proofs.journal_endings.journal_indications.journal_data.journal_acks.TwoStations.{IsOfTwo, other_of, own_differs}
+use Rattle.journal_collisions.proofs.journal_endings.journal_indications.journal_data.journal_acks.TwoStations.{IsOfTwo, other_of}
 use Rattle.journal_collisions.proofs.journal_endings.journal_indications.journal_data.journal_links.LineNotes.{lines_of_end}
 use Rattle.journal_collisions.proofs.journal_endings.journal_indications.journal_data.journal_links.LinkLines.{IsApart, lines_append, none_since}
 use Rattle.journal_collisions.proofs.journal_endings.journal_indications.journal_data.journal_links.OfTwo.{are_distinct, two_apart}
@@ -56,12 +58,8 @@ use Rattle.journal_collisions.proofs.journal_endings.journal_indications.journal
 use Rattle.journal_collisions.proofs.journal_endings.journal_indications.journal_data.link_model.Hearing.{IsHeardWhole}
 use Rattle.journal_collisions.proofs.journal_endings.journal_indications.journal_data.link_model.Pasts.{notes_grow}
 use Rattle.journal_collisions.proofs.journal_endings.journal_indications.journal_data.open_links.Handles.{handle_is}
-use Rattle.journal_collisions.proofs.journal_endings.journal_indications.journal_data.run_laws.Agreed.{Agree}
+use Rattle.journal_collisions.proofs.journal_endings.journal_indications.journal_data.run_laws.Agreed.{exchange}
 use Rattle.journal_collisions.proofs.journal_endings.journal_indications.journal_data.run_laws.DistinctAccess.{AreApart}
-use Rattle.journal_collisions.proofs.journal_endings.journal_indications.journal_data.run_laws.InAgreement.{WithAll}
-use Rattle.journal_collisions.proofs.journal_endings.journal_indications.journal_data.run_laws.OpenSteps.{open_has}
-use Rattle.journal_collisions.proofs.journal_endings.journal_indications.journal_data.run_laws.SameEvent.{one_connect_ind}
-use Rattle.journal_collisions.proofs.journal_endings.journal_indications.journal_data.run_laws.TwoEnds.{all_agree}
 use Rattle.journal_collisions.proofs.journal_endings.journal_indications.journal_data.run_model.Calls.{noted_called}
 use Rattle.journal_collisions.proofs.journal_endings.journal_indications.journal_data.run_model.LinkEnds.{AreTaken, IsUnderstood}
 use Rattle.journal_collisions.proofs.journal_endings.journal_indications.journal_data.run_model.Notes.{NotedBefore, run_noted}
@@ -70,7 +68,7 @@ use Rattle.journal_collisions.proofs.journal_endings.journal_indications.journal
 use Rattle.journal_collisions.proofs.journal_endings.journal_indications.journal_data.run_model.Places.{each_at}
 use Rattle.journal_collisions.proofs.journal_endings.journal_indications.journal_data.run_model.Stations.{is_in}
 use Rattle.journal_collisions.proofs.run_collisions.OfPairs.{good_taken, hear_before, sent_to_central, sent_to_peripheral}
-use Rattle.journal_crossing.specs.Crossing.{IsPlainControl}
+use Rattle.journal_crossing.specs.Crossing.{IsKnownControl}
 
 -- ---- each run
 
@@ -81,6 +79,7 @@ OfCentrals P = (given : Given) (before rest : List Event) (octets : List ℕ) (r
     → Contains given.stations central.station → Contains given.stations peripheral.station
     → history_of (run_of given) ≡ before ++ Called central.station (PacketHeard octets) ∷ rest
     → AreEnds before central peripheral → HearEachInTurn given before central peripheral
+    → HearNoMixed given (before ++ Called central.station (PacketHeard octets) ∷ []) central peripheral
     → IsOpen given before central → IsOpen given before peripheral
     → link_listened (facts_at given central.station before).turn.doing ≡ Some central.handle
     → HasSentNow given before central peripheral (facts_in central.link).event.channel octets
@@ -93,6 +92,7 @@ OfPeripherals P = (given : Given) (before rest : List Event) (octets : List ℕ)
     → Contains given.stations central.station → Contains given.stations peripheral.station
     → history_of (run_of given) ≡ before ++ Called peripheral.station (PacketHeard octets) ∷ rest
     → AreEnds before central peripheral → HearEachInTurn given before central peripheral
+    → HearNoMixed given (before ++ Called peripheral.station (PacketHeard octets) ∷ []) central peripheral
     → IsOpen given before central → IsOpen given before peripheral
     → link_listened (facts_at given peripheral.station before).turn.doing ≡ Some peripheral.handle
     → HasSentNow given before peripheral central (facts_in peripheral.link).event.channel octets
@@ -105,11 +105,23 @@ LastIsTaken own far =
     is_procedure_pdu (facts_in own).acknowledgement.last ≡ true
     → length (facts_in far).acknowledgement.accepted ≡ length (facts_in own).acknowledgement.sent
 
+-- both ends agree
+abbrev pub OfEnds : Type 0
+OfEnds = (given : Given) (before rest : List Event) (central peripheral : OpenEnd)
+    → AreDistinct given.stations → HaveAddresses given
+    → Contains given.stations central.station → Contains given.stations peripheral.station
+    → history_of (run_of given) ≡ before ++ rest
+    → AreEnds before central peripheral → HearEachInTurn given before central peripheral
+    → HearNoMixed given before central peripheral
+    → IsOpen given before central → IsOpen given before peripheral
+    → AreInAgreement (facts_in central.link).acknowledgement (facts_in peripheral.link).acknowledgement
+
 -- what each law says of runs
 pub record AreKnownInRuns : Type 0 where
   pub central : OfCentrals (λ central peripheral. LastIsTaken central.link peripheral.link)
   pub peripheral : OfPeripherals (λ central peripheral. LastIsTaken peripheral.link central.link)
   pub lasts : OfPeripherals (λ central peripheral. is_lasting (facts_in peripheral.link) ≡ true)
+  pub agree : OfEnds
 
 -- ---- notes of what is received
 
@@ -148,7 +160,7 @@ module _ (whole_heard : IsHeardWhole) (understood : IsUnderstood) (taken : AreTa
 
   pub far : HasFarEnd given call.station call.base call.handle
   far = far_before whole_heard understood taken nth apart given are_pair six call.base call.after call.station heard.octets at call.handle heard.link
-      heard.is_open heard.listens
+      heard.is_open heard.listens heard.unforged
 
   abbrev distinct : AreDistinct given.stations
   distinct = are_distinct given are_pair
@@ -243,15 +255,8 @@ module _ (whole_heard : IsHeardWhole) (understood : IsUnderstood) (taken : AreTa
   listens : link_listened facts.turn.doing ≡ Some call.handle
   listens = listened call.handle facts.turn.doing heard.listens
 
-  agreed : HaveOneConnectInd heard.link.setup far.far.setup → AreInAgreement (facts_in heard.link).acknowledgement (facts_in far.far).acknowledgement
-  agreed one =
-      let others = (facts_at given (other_of call.station) call.base).links in
-      let all = all_agree whole_heard understood taken apart given six distinct (are_two given 0 1 are_pair) call.base
-      (Called call.station call.step ∷ call.after) call.called call.station (other_of call.station) on in_far (own_differs call.station) in
-      open_has (λ (l : OpenLink). Agree heard.link l) 0 far.far_handle others far.far
-      (open_has (WithAll others) 0 call.handle facts.links heard.link all heard.is_open) far.is_open one
-
-  module _ (known : AreKnownInRuns) (three : llid ≡ 3) (plain : IsPlainControl llid body) (is : ctrl_of body ≡ Known plain.ctrl) where
+  module _ (mixed : Mixed) (follows : Follows given mixed) (unmixed : mixed number front ≡ false) (known : AreKnownInRuns) (three : llid ≡ 3)
+      (control : IsKnownControl llid body) (is : ctrl_of body ≡ Known control.ctrl) where
     abbrev taking : TakesControl heard.link.setup (facts_in heard.link) facts.turn.slot heard.octets room
     taking = record {
       earlier = call.earlier;
@@ -259,38 +264,64 @@ module _ (whole_heard : IsHeardWhole) (understood : IsUnderstood) (taken : AreTa
       body = body;
       later = heard.rest;
       notes = heard.notes_are ∙ (λ i. call.earlier ++ TookNote (sym own i) count (three i) (record { items = body }) ∷ heard.rest);
-      ctrl = plain.ctrl;
+      ctrl = control.ctrl;
       is = is;
-      plain = plain.plain;
     }
 
+    abbrev own_number : ℕ
+    own_number = number_at call.station call.handle call.base
+
+    -- two ends of the link have heard no packet that is mixed
+    no_mixed : (central peripheral : OpenEnd) → is_in central.station given.stations ≡ true → is_in peripheral.station given.stations ≡ true
+        → AreEndsOf call.base own_number central peripheral
+        → HearNoMixed given (call.base ++ Called call.station (PacketHeard heard.octets) ∷ []) central peripheral
+    no_mixed central peripheral in_it in_too two =
+        hear_in_call given mixed follows are_pair front line call unmixed heard.octets heard.step_is own_number central peripheral in_it in_too two of.number_is
+
+    in_turn : (central peripheral : OpenEnd) → is_in central.station given.stations ≡ true → is_in peripheral.station given.stations ≡ true
+        → AreEndsOf call.base own_number central peripheral → HearEachInTurn given call.base central peripheral
+    in_turn central peripheral in_it in_too two =
+        hear_before understood taken apart given six distinct (are_two given 0 1 are_pair) call.base
+        (Called call.station (PacketHeard heard.octets) ∷ call.after) heard.octets central peripheral in_it in_too two.ends at
+
+    agreed : (central peripheral : OpenEnd) → is_in central.station given.stations ≡ true → is_in peripheral.station given.stations ≡ true
+        → AreEndsOf call.base own_number central peripheral → IsOpen given call.base central → IsOpen given call.base peripheral
+        → AreInAgreement (facts_in central.link).acknowledgement (facts_in peripheral.link).acknowledgement
+    agreed central peripheral in_it in_too two is_open is_open_too =
+        known.agree given call.base (Called call.station (PacketHeard heard.octets) ∷ call.after) central peripheral distinct six
+        (is_of_two given are_pair central.station in_it) (is_of_two given are_pair peripheral.station in_too) at two.ends (in_turn central peripheral in_it in_too two)
+        (hear_fewer given call.base (Called call.station (PacketHeard heard.octets) ∷ []) central peripheral (no_mixed central peripheral in_it in_too two))
+        is_open is_open_too
+
     -- of a central
+    central_here : heard.link.setup.link.role ≡ Central → AreEndsOf call.base own_number own_open far_open
+    central_here role =
+        central_ends understood taken given are_pair six call.base call.after call.station call.step call.called on call.handle heard.link heard.is_open role far
+
     of_central : (P : OpenEnd → OpenEnd → Type 0) → OfCentrals P → heard.link.setup.link.role ≡ Central → P own_open far_open
     of_central P law role =
-        let two = central_ends understood taken given are_pair six call.base call.after call.station call.step call.called on call.handle heard.link
-        heard.is_open role far in
+        let two = central_here role in
         law given call.base call.after heard.octets room own_open far_open distinct six
-        (is_of_two given are_pair call.station on) (is_of_two given are_pair (other_of call.station) in_far) at two
-        (hear_before understood taken apart given six distinct (are_two given 0 1 are_pair) call.base
-        (Called call.station (PacketHeard heard.octets) ∷ call.after) heard.octets own_open far_open on in_far two at)
-        heard.is_open far.is_open listens
+        (is_of_two given are_pair call.station on) (is_of_two given are_pair (other_of call.station) in_far) at two.ends
+        (in_turn own_open far_open on in_far two) (no_mixed own_open far_open on in_far two) heard.is_open far.is_open listens
         (sent_to_central understood taken apart given six distinct (are_two given 0 1 are_pair) call.base call.after heard.octets own_open far_open
-        on in_far two at heard.is_open listens
+        on in_far two.ends at heard.is_open listens
         (good_taken heard.link.setup (facts_in heard.link) heard.octets facts.turn.slot room call.earlier heard.rest note heard.notes_are))
         taking
 
     -- of a peripheral
+    peripheral_here : heard.link.setup.link.role ≡ Peripheral → AreEndsOf call.base own_number far_open own_open
+    peripheral_here role =
+        are_ends understood taken given are_pair six call.base call.after call.station call.step call.called on call.handle heard.link heard.is_open role far
+
     of_peripheral : (P : OpenEnd → OpenEnd → Type 0) → OfPeripherals P → heard.link.setup.link.role ≡ Peripheral → P far_open own_open
     of_peripheral P law role =
-        let two = are_ends understood taken given are_pair six call.base call.after call.station call.step call.called on call.handle heard.link
-        heard.is_open role far in
+        let two = peripheral_here role in
         law given call.base call.after heard.octets room far_open own_open distinct six
-        (is_of_two given are_pair (other_of call.station) in_far) (is_of_two given are_pair call.station on) at two
-        (hear_before understood taken apart given six distinct (are_two given 0 1 are_pair) call.base
-        (Called call.station (PacketHeard heard.octets) ∷ call.after) heard.octets far_open own_open in_far on two at)
-        far.is_open heard.is_open listens
+        (is_of_two given are_pair (other_of call.station) in_far) (is_of_two given are_pair call.station on) at two.ends
+        (in_turn far_open own_open in_far on two) (no_mixed far_open own_open in_far on two) far.is_open heard.is_open listens
         (sent_to_peripheral understood taken apart given six distinct (are_two given 0 1 are_pair) call.base call.after heard.octets far_open own_open
-        in_far on two at heard.is_open listens
+        in_far on two.ends at heard.is_open listens
         (good_taken heard.link.setup (facts_in heard.link) heard.octets facts.turn.slot room call.earlier heard.rest note heard.notes_are))
         taking
 
@@ -300,21 +331,15 @@ module _ (whole_heard : IsHeardWhole) (understood : IsUnderstood) (taken : AreTa
       pub last : LastIsTaken heard.link far.far
 
     there_by : (role : Role) → heard.link.setup.link.role ≡ role → IsTakenThere
-    there_by Central role =
-        let two = central_ends understood taken given are_pair six call.base call.after call.station call.step call.called on call.handle heard.link
-        heard.is_open role far in
-        record {
-          agree = agreed (one_connect_ind call.base own_open far_open two);
-          last = of_central (λ central peripheral. LastIsTaken central.link peripheral.link) known.central role;
-        }
-    there_by Peripheral role =
-        let two = are_ends understood taken given are_pair six call.base call.after call.station call.step call.called on call.handle heard.link
-        heard.is_open role far in
-        let one = one_connect_ind call.base far_open own_open two in
-        record {
-          agree = agreed (record { fields = sym one.fields; opened = sym one.opened });
-          last = of_peripheral (λ central peripheral. LastIsTaken peripheral.link central.link) known.peripheral role;
-        }
+    there_by Central role = record {
+      agree = agreed own_open far_open on in_far (central_here role) heard.is_open far.is_open;
+      last = of_central (λ central peripheral. LastIsTaken central.link peripheral.link) known.central role;
+    }
+    there_by Peripheral role = record {
+      agree = exchange (facts_in far.far).acknowledgement (facts_in heard.link).acknowledgement
+          (agreed far_open own_open in_far on (peripheral_here role) far.is_open heard.is_open);
+      last = of_peripheral (λ central peripheral. LastIsTaken peripheral.link central.link) known.peripheral role;
+    }
 
     pub taken_there : IsTakenThere
     taken_there = there_by heard.link.setup.link.role refl

@@ -26,7 +26,7 @@ use Rattle.journal_data.proofs.Submitting.{call_submits}
 
 -- ---- a front of the notes of a call
 
-data IsFront (station : ℕ) (step : Step) (notes : List Note) (mid : List Event) : Type 0 where
+pub data IsFront (station : ℕ) (step : Step) (notes : List Note) (mid : List Event) : Type 0 where
   nothing : mid ≡ [] → IsFront station step notes mid
   noted : (front back : List Note) → mid ≡ Called station step ∷ map (Noted station) front → notes ≡ front ++ back → IsFront station step notes mid
 
@@ -51,7 +51,7 @@ front_noted station (note ∷ notes) (event ∷ mid) rest is =
       notes_are = ap (λ (all : List Note). note ∷ all) parts.notes_are;
     }
 
-front_called : (station : ℕ) (step : Step) (notes : List Note) (mid rest : List Event)
+pub front_called : (station : ℕ) (step : Step) (notes : List Note) (mid rest : List Event)
     → Called station step ∷ map (Noted station) notes ≡ mid ++ rest → IsFront station step notes mid
 front_called station step notes [] rest is = nothing refl
 front_called station step notes (event ∷ mid) rest is =

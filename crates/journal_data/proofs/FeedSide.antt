@@ -24,7 +24,7 @@ use Rattle.journal_data.proofs.EachLine.{lines_at}
 use Rattle.journal_data.proofs.Ends.{IsWell, end_at, end_of, from_end, sound}
 use Rattle.journal_data.proofs.Feeds.{feed_is_fed}
 use Rattle.journal_data.proofs.NotedStays.{noted_feed}
-use Rattle.journal_data.proofs.Sides.{AreAhead, AreArriving, End, idle_arrives}
+use Rattle.journal_data.proofs.Sides.{AreAhead, AreArriving, End, IsStillFollowed, idle_arrives}
 use Rattle.journal_data.proofs.StationLines.{KeepsFeed, feed_kept, numbers_event, octet_number}
 use Rattle.journal_data.proofs.Submitting.{AreInStep, feed_fed, feed_submitted, in_step}
 
@@ -99,18 +99,23 @@ module _ (given : Given) (few : (station : ℕ) → (setup_at given station).lin
 
   -- ---- both directions
 
-  ahead_after : (far_lines : Lines) → AreAhead (end_at given station history) far_lines → AreAhead (end_at given station then_on) far_lines
-  ahead_after far_lines ahead handle end is =
+  ahead_after : (Before After : ℕ → Type 0) → IsStillFollowed Before After → (far_lines : Lines) → AreAhead Before (end_at given station history) far_lines
+      → AreAhead After (end_at given station then_on) far_lines
+  ahead_after Before After still far_lines ahead handle end is now =
       let of = from_end given station then_on handle end is in
       let there = feed_there given station octets history handle of.link of.at in
+      let same = feed_number given station octets history handle in
+      let before : Before (number_at station handle history) =
+      subst Before same (still (number_at station handle then_on) (subst (λ (e : End). After e.link) (sym of.is) now)) in
       let was : IsAhead (number_at station handle history) (ack_of there.link) far_lines =
-      ahead handle (end_of station handle history given there.link) (ap (option_map (end_of station handle history given)) there.was) in
+      ahead handle (end_of station handle history given there.link) (ap (option_map (end_of station handle history given)) there.was) before in
       subst (λ (e : End). IsAhead e.link e.facts.acknowledgement far_lines) of.is
-      (subst (λ n. IsAhead n (ack_of of.link) far_lines) (sym (feed_number given station octets history handle))
+      (subst (λ n. IsAhead n (ack_of of.link) far_lines) (sym same)
       (subst (λ (a : Acknowledgement). IsAhead (number_at station handle history) a far_lines) (sym there.ack) was))
 
-  pub feed_arrives : (far_lines : Lines) (peer : ℕ → Option End) → AreArriving (lines_at station history) far_lines (end_at given station history) peer
-      → AreArriving (lines_at station then_on) far_lines (end_at given station then_on) peer
-  feed_arrives far_lines peer arriving =
-      idle_arrives (lines_at station history) (lines_at station then_on) far_lines (end_at given station history) (end_at given station then_on) peer
-      (feed_is_fed given station octets history (few station) (eight station) feed_step well.booked well.submitted) (ahead_after far_lines arriving.ahead) arriving
+  pub feed_arrives : (Before After : ℕ → Type 0) → IsStillFollowed Before After → (far_lines : Lines) (peer : ℕ → Option End)
+      → AreArriving Before (lines_at station history) far_lines (end_at given station history) peer
+      → AreArriving After (lines_at station then_on) far_lines (end_at given station then_on) peer
+  feed_arrives Before After still far_lines peer arriving =
+      idle_arrives Before After still (lines_at station history) (lines_at station then_on) far_lines (end_at given station history) (end_at given station then_on) peer
+      (feed_is_fed given station octets history (few station) (eight station) feed_step well.booked well.submitted) (ahead_after Before After still far_lines arriving.ahead) arriving

@@ -228,7 +228,7 @@ pub held_of_two : IsHeardWhole → IsUnderstood → AreTaken → AreNth → AreA
     → AreDistinct given.stations → ((station : ℕ) → (setup_at given station).host_buffers ≡ 8) → LinesAreOfOpenLinks (journal_of (history_of (run_of given)))
 held_of_two whole understood taken nth apart given two few addresses distinct eight =
     let each = run_held whole given (IsBelongingSoFar given) (known_of understood taken nth apart given two addresses) two few addresses distinct
-    eight (first_data given).is in
+    eight (first_data given) in
     let entry = held_entry (history_of (run_of given)) each in record {
       sent = λ front rest side link number llid body is. entry front rest (Sent side link number llid body) is;
       took = λ front rest side link number llid body is. entry front rest (Took side link number llid body) is;

@@ -1,5 +1,5 @@
--- Each step of a run of a pair keeps that the data of both sides arrives in order.
-use Rattle.std.proofs.Common.{◌≡◌, ℕ, suc, ◌-◌, ◌==◌, ◌⊎◌, inl, inr, Bool, true, false, Option, Some, None, List, [], ◌∷◌, ◌++◌, refl, sym, ap, subst, ◌∙◌, append-nil, append_assoc}
+-- Each step of a run of a pair keeps what is known of the lines of each side.
+use Rattle.std.proofs.Common.{◌≡◌, ℕ, ◌-◌, ◌==◌, ◌⊎◌, inl, inr, Bool, true, false, Option, Some, None, List, [], ◌∷◌, ◌++◌, refl, sym, ap, subst, ◌∙◌, append-nil, append_assoc}
 use Rattle.std.specs.Prelude.{map, take, if◌then◌else◌}
 use Rattle.std.proofs.lemmas.Bool.{eqb-true}
 use Rattle.ble_base.specs.declared.notes.Note.TheVariants.{Opened}
@@ -21,37 +21,29 @@ use Rattle.journal_acks.proofs.run_model.Parts.{journal_event}
 use Rattle.journal_acks.proofs.run_model.Stations.{is_in, among, not_before}
 use Rattle.journal_acks.proofs.run_model.Walk.{Place, AtFeeds, AtBegins, AtListening, AtEnds, IsKept}
 use Rattle.journal_acks.proofs.run_laws.InAgreement.{differs_back}
-use Rattle.journal_acks.proofs.run_laws.TurnPlaces.{Between, Within, at_stage}
+use Rattle.journal_acks.proofs.run_laws.TurnPlaces.{Between, at_stage}
 use Rattle.journal_acks.specs.journal_links.LinkLines.{lines_of}
 use Rattle.journal_acks.specs.journal_packets.Belonging.{is_side}
 use Rattle.journal_acks.proofs.Counting.{AreKnown, HaveOwnNumbers, apart_numbers}
 use Rattle.journal_acks.proofs.KeptCounts.{AreCountedAt, counts_kept}
-use Rattle.journal_acks.proofs.Standing.{PhasedBy, phased_at}
-use Rattle.journal_acks.proofs.TwoStations.{IsOfTwo, other_apart, other_is, other_of, own_differs}
+use Rattle.journal_acks.proofs.TwoStations.{IsOfTwo, other_apart, other_of}
 use Rattle.journal_data.proofs.ClearLines.{IsClearOn, clear_lines, opened_is_first}
 use Rattle.journal_data.proofs.Credits.{AreFew, few_begin, few_end, few_pass}
 use Rattle.journal_data.proofs.EachLine.{lines_at}
-use Rattle.journal_data.proofs.Ends.{IsWell, end_at}
+use Rattle.journal_data.proofs.Ends.{IsWell}
 use Rattle.journal_data.proofs.FedInRuns.{between_standing}
-use Rattle.journal_data.proofs.FeedSide.{feed_arrives, feed_well}
-use Rattle.journal_data.proofs.Mine.{AreMine, other_back, packet_mine}
+use Rattle.journal_data.proofs.FeedSide.{feed_well}
+use Rattle.journal_data.proofs.Mine.{AreMine, packet_mine}
 use Rattle.journal_data.proofs.MineKept.{heard_none_mine, hearing_mine}
-use Rattle.journal_data.proofs.EndCalls.{IsEndMade, end_arriving, end_well}
-use Rattle.journal_data.proofs.Moves.{begin_moves, phase_moves}
-use Rattle.journal_data.proofs.OneCall.{EachAt, HasMoved, IsCallMade, arriving_after, well_after, far_side}
+use Rattle.journal_data.proofs.EndCalls.{IsEndMade, end_well}
+use Rattle.journal_data.proofs.OneCall.{IsCallMade, well_after}
 use Rattle.journal_data.proofs.Openness.{past_noted}
 use Rattle.journal_data.proofs.FewLinks.{HaveFewLinks}
-use Rattle.journal_data.proofs.SameView.{SeesSame, same_end, same_well, sees_other_call, sees_other_feed, sees_packet, sees_turn}
-use Rattle.journal_data.proofs.Sides.{AreArriving}
+use Rattle.journal_data.proofs.SameView.{SeesSame, same_well, sees_other_call, sees_other_feed, sees_packet, sees_turn}
 
-abbrev IsArriving : Given → ℕ → ℕ → List Event → Type 0
-IsArriving given station other history =
-    AreArriving (lines_at station history) (lines_at other history) (end_at given station history) (end_at given other history)
-
--- what is known of all stations
+-- what is known of the lines of all stations
 pub record AreWell (given : Given) (history : List Event) : Type 0 where
   pub well : (station : ℕ) → is_in station given.stations ≡ true → IsWell given station history
-  pub arriving : (station : ℕ) → is_in station given.stations ≡ true → IsArriving given station (other_of station) history
 
 pub record IsDataAt (given : Given) (Q : Place → List Event → Type 0) (place : Place) (history : List Event) : Type 0 where
   pub counted : AreCountedAt given Q place history
@@ -60,32 +52,15 @@ pub record IsDataAt (given : Given) (Q : Place → List Event → Type 0) (place
 
 -- ---- events that are of no call
 
-same_arriving : (given : Given) (station other : ℕ) (history after : List Event) → SeesSame station history after → SeesSame other history after
-    → IsArriving given station other history → IsArriving given station other after
-same_arriving given station other history after own far arriving =
-    subst (λ lines. AreArriving lines (lines_at other after) (end_at given station after) (end_at given other after)) (sym own.lines)
-    (subst (λ lines. AreArriving (lines_at station history) lines (end_at given station after) (end_at given other after)) (sym far.lines)
-    (subst (λ end. AreArriving (lines_at station history) (lines_at other history) end (end_at given other after)) (sym (same_end given station history after own))
-    (subst (AreArriving (lines_at station history) (lines_at other history) (end_at given station history)) (sym (same_end given other history after far)) arriving)))
-
 all_same : (given : Given) (history after : List Event) → ((station : ℕ) → SeesSame station history after) → AreWell given history → AreWell given after
 all_same given history after sees are = record {
   well = λ station is. same_well given station history after (sees station) (are.well station is);
-  arriving = λ station is. same_arriving given station (other_of station) history after (sees station) (sees (other_of station)) (are.arriving station is);
 }
 
 -- ---- a change of one station
 
 abbrev pub IsBetween : Given → ℕ → List Event → Type 0
 IsBetween given station history = is_between_turns (past_of station history) ≡ true
-
-other_way : (given : Given) (station other : ℕ) (history : List Event) → IsArriving given station other history → IsArriving given other station history
-other_way given station other history arriving =
-    record { out = arriving.in_; in_ = arriving.out; ahead = arriving.behind; behind = arriving.ahead }
-
-record IsOwn (given : Given) (station : ℕ) (after : List Event) : Type 0 where
-  well : IsWell given station after
-  arriving : IsArriving given station (other_of station) after
 
 module _ (given : Given) (are_two : IsOfTwo given) where
   pub other_in : (station : ℕ) → is_in station given.stations ≡ true → is_in (other_of station) given.stations ≡ true
@@ -97,25 +72,15 @@ module _ (given : Given) (are_two : IsOfTwo given) where
 
   own_all : (station : ℕ) (history after : List Event) → is_in station given.stations ≡ true
       → ((one : ℕ) → is_side (side_of station) (side_of one) ≡ false → SeesSame one history after)
-      → IsOwn given station after → AreWell given history → AreWell given after
-  own_all station history after is sees own are = record {
-    well = λ one in_it. well_by one in_it (one == station) refl;
-    arriving = λ one in_it. arriving_by one in_it (one == station) refl;
-  }
+      → IsWell given station after → AreWell given history → AreWell given after
+  own_all station history after is sees own are = record { well = λ one in_it. well_by one in_it (one == station) refl }
     where
       apart : (one : ℕ) → is_in one given.stations ≡ true → (one == station) ≡ false → is_side (side_of station) (side_of one) ≡ false
       apart one in_it differs = other_apart given are_two one station in_it is (differs_back one station differs)
 
       well_by : (one : ℕ) → is_in one given.stations ≡ true → (same : Bool) → (one == station) ≡ same → IsWell given one after
-      well_by one in_it true same = subst (λ n. IsWell given n after) (sym (eqb-true one station same)) own.well
+      well_by one in_it true same = subst (λ n. IsWell given n after) (sym (eqb-true one station same)) own
       well_by one in_it false differs = same_well given one history after (sees one (apart one in_it differs)) (are.well one in_it)
-
-      arriving_by : (one : ℕ) → is_in one given.stations ≡ true → (same : Bool) → (one == station) ≡ same → IsArriving given one (other_of one) after
-      arriving_by one in_it true same = subst (λ n. IsArriving given n (other_of n) after) (sym (eqb-true one station same)) own.arriving
-      arriving_by one in_it false differs =
-          subst (λ n. IsArriving given n (other_of n) after) (sym (other_is given are_two station one is in_it differs))
-          (subst (λ n. IsArriving given (other_of station) n after) (sym (other_back given are_two station is))
-          (other_way given station (other_of station) after own.arriving))
 
 -- the open links of a station have numbers of their own
 pub own_numbers : (given : Given) (Q : Place → List Event → Type 0) → AreKnown given Q → (place : Place) (history : List Event) (station : ℕ)
@@ -128,9 +93,12 @@ pass_in_turn None = tt
 pass_in_turn (Some octets) = tt
 
 -- and it is not the end of the turn
-pass_goes_on : (received : Option (List ℕ)) → step_of received ≡ TurnEnds → ⊥
+pub pass_goes_on : (received : Option (List ℕ)) → step_of received ≡ TurnEnds → ⊥
 pass_goes_on None is = let h : NothingHeard ≡ TurnEnds = is in absurd cc
 pass_goes_on (Some octets) is = let h : PacketHeard octets ≡ TurnEnds = is in absurd cc
+
+pub begin_goes_on : (slot : ℕ) (on : Bool) → TurnBegins slot on ≡ TurnEnds → ⊥
+begin_goes_on slot on is = absurd cc
 
 -- ---- each step
 
@@ -156,79 +124,50 @@ module _ (whole : IsHeardWhole) (given : Given) (Q : Place → List Event → Ty
       (sym (λ i. lines_of side (last_by_call station step [] history station i) ((journal_event history (Called station step) ∙ append-nil (journal_of history)) i))
       ∙ known.fresh place (after_call given station step history) counted.known station first.handle first.role first.own first.peer called (map (Noted station) first.rest) is at)
 
-  call_well : (station : ℕ) (step : Step) (history : List Event) (before place : Place) → is_in station given.stations ≡ true → IsInTurn step → (step ≡ TurnEnds → ⊥)
-      → C before history → C place (after_call given station step history)
-      → EachAt given station (after_call given station step history) (HasMoved given station history)
+  -- what is known as a call is made
+  pub call_made : (station : ℕ) (step : Step) (history : List Event) (before place : Place) → is_in station given.stations ≡ true → IsInTurn step
+      → (step ≡ TurnEnds → ⊥) → C before history → C place (after_call given station step history)
       → (AreFew given station history → AreFew given station (after_call given station step history))
-      → AreMine given history → AreWell given history → AreWell given (after_call given station step history)
-  call_well station step history before place is in_turn goes_on was counted moved few mine are =
-      let after = after_call given station step history in
-      let other = other_of station in
-      let far = other_in given are_two station is in
-      let made : IsCallMade given station step history = record {
+      → AreWell given history → IsCallMade given station step history
+  call_made station step history before place is in_turn goes_on was counted few are =
+      record {
         well = are.well station is;
-        far_well = are.well other far;
         clear = opened_clear station step history place is counted;
-        arriving = are.arriving station is;
-        mine = mine station is;
         own = own_numbers given Q known before history station is was.known;
-        own_after = own_numbers given Q known place after station is counted.known;
-        begun = λ handle link at. known.begun place after counted.known station handle link is at;
-        far_begun = λ handle link at. known.begun place after counted.known other handle link far at;
-        agree = known.agree whole place after counted.known station other is far (own_differs station);
-        moved = moved;
+        own_after = own_numbers given Q known place (after_call given station step history) station is counted.known;
         few = few (are.well station is).few;
         in_turn = in_turn;
         goes_on = goes_on;
-      } in
-      own_all given are_two station history after is (λ one differs. sees_other_call given one station step history differs) (record {
-        well = well_after given few_links.links eight station step history made;
-        arriving = arriving_after given few_links.links eight station step history made;
-      }) are
+      }
 
-  end_well_kept : (station : ℕ) (history : List Event) (before place : Place) → is_in station given.stations ≡ true → C before history
-      → C place (after_call given station TurnEnds history) → AreWell given history → AreWell given (after_call given station TurnEnds history)
-  end_well_kept station history before place is was counted are =
-      let after = after_call given station TurnEnds history in
-      let other = other_of station in
-      let far = other_in given are_two station is in
-      let made : IsEndMade given station history = record {
+  call_well : (station : ℕ) (step : Step) (history : List Event) → is_in station given.stations ≡ true → IsCallMade given station step history
+      → AreWell given history → AreWell given (after_call given station step history)
+  call_well station step history is made are =
+      own_all given are_two station history (after_call given station step history) is (λ one differs. sees_other_call given one station step history differs)
+      (well_after given few_links.links eight station step history made) are
+
+  pub end_made : (station : ℕ) (history : List Event) (before place : Place) → is_in station given.stations ≡ true → C before history
+      → C place (after_call given station TurnEnds history) → AreWell given history → IsEndMade given station history
+  end_made station history before place is was counted are =
+      record {
         well = are.well station is;
-        far_well = are.well other far;
         clear = opened_clear station TurnEnds history place is counted;
-        arriving = are.arriving station is;
         own = own_numbers given Q known before history station is was.known;
-        own_after = own_numbers given Q known place after station is counted.known;
-        begun = λ handle link at. known.begun before history was.known station handle link is at;
-        far_begun = λ handle link at. known.begun before history was.known other handle link far at;
-        agree = known.agree whole before history was.known station other is far (own_differs station);
+        own_after = own_numbers given Q known place (after_call given station TurnEnds history) station is counted.known;
         few = few_end given station history (are.well station is).few;
-      } in
-      own_all given are_two station history after is (λ one differs. sees_other_call given one station TurnEnds history differs) (record {
-        well = end_well given few_links.links eight station history made;
-        arriving = end_arriving given few_links.links eight station history made;
-      }) are
+      }
+
+  end_well_kept : (station : ℕ) (history : List Event) → is_in station given.stations ≡ true → IsEndMade given station history
+      → AreWell given history → AreWell given (after_call given station TurnEnds history)
+  end_well_kept station history is made are =
+      own_all given are_two station history (after_call given station TurnEnds history) is
+      (λ one differs. sees_other_call given one station TurnEnds history differs) (end_well given few_links.links eight station history made) are
 
   feed_kept : (station : ℕ) (octets : List ℕ) (history : List Event) (place : Place) → is_in station given.stations ≡ true → C place history → IsBetween given station history
       → AreWell given history → AreWell given (after_feed given station octets history)
   feed_kept station octets history place is counted between are =
-      let after = after_feed given station octets history in
-      let other = other_of station in
-      let own = own_numbers given Q known place history station is counted.known in
-      own_all given are_two station history after is (λ one differs. sees_other_feed given one station octets history differs) (record {
-        well = feed_well given few_links.links eight station octets history own (are.well station is) between;
-        arriving = fed_arriving station octets history is own between are;
-      }) are
-    where
-      fed_arriving : (station : ℕ) (octets : List ℕ) (history : List Event) → is_in station given.stations ≡ true → HaveOwnNumbers given station history
-          → IsBetween given station history → AreWell given history → IsArriving given station (other_of station) (after_feed given station octets history)
-      fed_arriving station octets history is own between are =
-          let after = after_feed given station octets history in
-          let other = other_of station in
-          let far = sees_other_feed given other station octets history (far_side station) in
-          subst (λ lines. AreArriving (lines_at station after) lines (end_at given station after) (end_at given other after)) (sym far.lines)
-          (subst (AreArriving (lines_at station after) (lines_at other history) (end_at given station after)) (sym (same_end given other history after far))
-          (feed_arrives given few_links.links eight station octets history own (are.well station is) between (lines_at other history) (end_at given other history) (are.arriving station is)))
+      own_all given are_two station history (after_feed given station octets history) is (λ one differs. sees_other_feed given one station octets history differs)
+      (feed_well given few_links.links eight station octets history (own_numbers given Q known place history station is counted.known) (are.well station is) between) are
 
   pub data_kept : IsKept given (IsDataAt given Q)
   data_kept = let kept = counts_kept whole given Q known are_two six distinct in record {
@@ -261,8 +200,9 @@ module _ (whole : IsHeardWhole) (given : Given) (Q : Place → List Event → Ty
         record {
           counted = counted;
           mine = heard_none_mine given after counted.holds.hearing.hears;
-          are = call_well station step history (AtBegins done (station ∷ left)) place in_it tt (λ ends. let h : TurnBegins slot on ≡ TurnEnds = ends in absurd cc) is.counted counted (begin_moves given station slot on history)
-              (few_begin given station slot on history) is.mine is.are;
+          are = call_well station step history in_it
+              (call_made station step history (AtBegins done (station ∷ left)) place in_it tt (begin_goes_on slot on) is.counted counted (few_begin given station slot on history)
+              is.are) is.are;
         };
     on_begun = λ history is. record { counted = kept.on_begun history is.counted; mine = is.mine; are = is.are };
     on_phase = λ phases history few is. record { counted = kept.on_phase phases history few is.counted; mine = is.mine; are = is.are };
@@ -284,16 +224,12 @@ module _ (whole : IsHeardWhole) (given : Given) (Q : Place → List Event → Ty
         let after = after_call given station step history in
         let place = AtListening phases (done ++ station ∷ []) left in
         let counted = kept.on_hearing phases done left station history are some is.counted in
-        let in_it = among given.stations done left station are in
-        let before : PhasedBy given history station (at_stage (Within phases) (turns_begun history)) =
-        subst (λ b. PhasedBy given history station (if b then at_stage (Within (suc phases)) (turns_begun history) else at_stage (Within phases) (turns_begun history)))
-        (not_before given.stations done left station distinct are) (phased_at given (AtListening phases done (station ∷ left)) history is.counted.holds.hearing.stand station in_it) in
-        record {
+        let in_it = among given.stations done left station are in record {
           counted = counted;
           mine = hearing_mine given are_two station history in_it is.mine;
-          are = call_well station step history (AtListening phases done (station ∷ left)) place in_it (pass_in_turn received) (pass_goes_on received) is.counted counted
-              (λ handle link at. phase_moves given station history handle link before.uses.in_turn.listens at)
-              (few_pass given station received history) is.mine is.are;
+          are = call_well station step history in_it
+              (call_made station step history (AtListening phases done (station ∷ left)) place in_it (pass_in_turn received) (pass_goes_on received) is.counted counted
+              (few_pass given station received history) is.are) is.are;
         };
     on_heard = λ phases history is. record { counted = kept.on_heard phases history is.counted; mine = is.mine; are = is.are };
     on_phases = λ history is. record { counted = kept.on_phases history is.counted; mine = is.mine; are = is.are };
@@ -305,7 +241,7 @@ module _ (whole : IsHeardWhole) (given : Given) (Q : Place → List Event → Ty
         record {
           counted = counted;
           mine = heard_none_mine given after counted.holds.hearing.hears;
-          are = end_well_kept station history (AtEnds done (station ∷ left)) place in_it is.counted counted is.are;
+          are = end_well_kept station history in_it (end_made station history (AtEnds done (station ∷ left)) place in_it is.counted counted is.are) is.are;
         };
     on_ended = λ history is. record { counted = kept.on_ended history is.counted; mine = is.mine; are = is.are };
   }

@@ -33,14 +33,20 @@ mod HandedPieces
 pub mod FedInRuns
 pub mod Ends
 pub mod ClearLines
-mod SameView
+pub mod SameView
 mod NotedStays
 pub mod EndedLinks
+pub mod Followed
 pub mod OneCall
 mod EndCalls
 pub mod Moves
 mod FeedSide
 pub mod KeptData
+pub mod OneNumber
+pub mod NumberedEnds
+pub mod PairedEnds
+mod AgreedEnds
+mod KeptArriving
 mod Fronts
 pub mod CallMiddle
 mod DataInRuns
@@ -55,3 +61,4 @@ pub use Rattle.journal_acks.proofs.link_model as link_model
 pub use Rattle.journal_acks.proofs.open_links as open_links
 pub use Rattle.journal_acks.proofs.run_laws as run_laws
 pub use Rattle.journal_acks.proofs.run_model as run_model
+pub use Rattle.run_pairs.proofs as run_pairs

@@ -1,15 +1,18 @@
 -- A station takes a packet on a link only where the other station has the other end of that link open.
-use Rattle.std.proofs.Common.{◌≡◌, ℕ, ◌==◌, ◌⊎◌, inl, inr, Bool, true, false, not, Some, None, List, [], ◌∷◌, ◌++◌, refl, sym, ap, subst, ◌∙◌, if◌then◌else◌}
+use Rattle.std.proofs.Common.{◌≡◌, ℕ, ◌==◌, ◌⊎◌, inl, inr, Bool, true, false, not, Some, None, List, [], ◌∷◌, ◌++◌, refl, sym, ap, subst, ◌∙◌}
 use Rattle.std.proofs.lemmas.Bool.{eqb-true}
 use Rattle.journal_acks.proofs.link_model.Hearing.{IsHeardWhole}
 use Rattle.journal_acks.specs.open_links.OpenLinks.{OpenLink, link_at}
 use Rattle.journal_acks.specs.controller_model.Facts.{Facts, Sends}
+use Rattle.journal_acks.specs.controller_model.Packets.{verdict_of}
+use Rattle.radio_replay.specs.Damage.{damaged_packet}
 use Rattle.radio_replay.specs.declared.fates.Fate.{Fate}
 use Rattle.journal_acks.specs.run_model.Feeding.{AreDistinct}
-use Rattle.journal_acks.specs.run_model.History.{Event, Hearing, Transmitted, has_received, packet_received}
+use Rattle.journal_acks.specs.run_model.History.{Event, Hearing, Transmitted, has_received, is_good, packet_received}
 use Rattle.journal_acks.specs.run_model.LinkEnds.{HaveAddresses}
 use Rattle.journal_acks.specs.run_model.Run.{Given, facts_at, hearings_of, unseen_in, use_at}
-use Rattle.journal_acks.proofs.run_model.LinkEnds.{received_own, received_packet}
+use Rattle.journal_acks.proofs.run_model.Handing.{IsUnforged}
+use Rattle.journal_acks.proofs.run_model.LinkEnds.{received_own}
 use Rattle.journal_acks.proofs.run_model.Stations.{is_in, among}
 use Rattle.journal_acks.proofs.run_model.Walk.{Place, AtPackets}
 use Rattle.journal_acks.proofs.run_laws.ByCalls.{Holds}
@@ -18,8 +21,9 @@ use Rattle.journal_acks.proofs.run_model.Journals.{two}
 use Rattle.journal_acks.proofs.AirCounts.{packet_far}
 use Rattle.journal_acks.proofs.Counting.{AreCountedSo, AreKnown, facts_event}
 use Rattle.journal_acks.proofs.Exchanging.{number_at, number_sent}
+use Rattle.journal_acks.proofs.HandedOn.{IsHandedOn, WasForged, WasGood, WasNone, handed_on, heard_it}
 use Rattle.journal_acks.specs.link_calls.Uses.{listens_under}
-use Rattle.journal_acks.proofs.TwoStations.{IsOfTwo, other_is, other_of}
+use Rattle.journal_acks.proofs.TwoStations.{IsOfTwo, hearing_of, other_is, other_of}
 
 -- the other station has an open end of the link of a station under a handle
 pub record HasFarEnd (given : Given) (station : ℕ) (history : List Event) (handle : ℕ) : Type 0 where
@@ -28,13 +32,14 @@ pub record HasFarEnd (given : Given) (station : ℕ) (history : List Event) (han
   pub is_open : link_at far_handle (facts_at given (other_of station) history).links ≡ Some far
   pub same : number_at (other_of station) far_handle history ≡ number_at station handle history
 
--- a station that is to take a packet on that link
+-- a station that is to take a packet on that link, which is not forged to it
 pub record IsTaking (given : Given) (station : ℕ) (history : List Event) (handle : ℕ) : Type 0 where
   pub octets : List ℕ
   pub received : packet_received station history ≡ Some octets
   pub link : OpenLink
   pub is_open : link_at handle (facts_at given station history).links ≡ Some link
   pub listens : listens_under handle (facts_at given station history).turn.doing ≡ true
+  pub unforged : IsUnforged (facts_at given station history) octets
 
 abbrev pub AreMine : Given → List Event → Type 0
 AreMine given history = (station : ℕ) → is_in station given.stations ≡ true → (handle : ℕ) → IsTaking given station history handle → HasFarEnd given station history handle
@@ -64,6 +69,9 @@ module _ (whole : IsHeardWhole) (given : Given) (Q : Place → List Event → Ty
   abbrev hearings : List Hearing
   hearings = hearings_of given fates station channel octets history
 
+  abbrev hearing : Hearing
+  hearing = hearing_of given fates station channel octets history
+
   abbrev event : Event
   event = Transmitted station channel octets hearings
 
@@ -90,6 +98,7 @@ module _ (whole : IsHeardWhole) (given : Given) (Q : Place → List Event → Ty
     link = taking.link;
     is_open = ap (λ (f : Facts). link_at handle f.links) (sym (facts_same one)) ∙ taking.is_open;
     listens = ap (λ (f : Facts). listens_under handle f.turn.doing) (sym (facts_same one)) ∙ taking.listens;
+    unforged = λ forged. taking.unforged (ap (λ (f : Facts). verdict_of f taking.octets) (facts_same one) ∙ forged);
   }
 
   far_after : (one handle : ℕ) → HasFarEnd given one history handle → HasFarEnd given one next handle
@@ -106,13 +115,10 @@ module _ (whole : IsHeardWhole) (given : Given) (Q : Place → List Event → Ty
   station_back : other_of other ≡ station
   station_back = other_back given are_two station is
 
-  -- the listener
-  heard_far : (handle : ℕ) (got : Bool) → has_received other hearings ≡ got → is_in other given.stations ≡ true → (other == station) ≡ false → AreMine given history
+  -- the listener, which receives it
+  received_far : is_in other given.stations ≡ true → (other == station) ≡ false → has_received other hearings ≡ true → (handle : ℕ)
       → IsTaking given other next handle → HasFarEnd given other next handle
-  heard_far handle false got is_too differs mine taking =
-      far_after other handle (mine other is_too handle (taking_before other handle taking
-      (received_packet given fates other station channel octets history seen ∙ ap (λ b. if b then Some octets else packet_received other history) got)))
-  heard_far handle true got is_too differs mine taking =
+  received_far is_too differs got handle taking =
       let here : link_at handle (facts_at given other history).links ≡ Some taking.link = ap (λ (f : Facts). link_at handle f.links) (sym (facts_same other)) ∙ taking.is_open in
       let listens : listens_under handle (facts_at given other history).turn.doing ≡ true = ap (λ (f : Facts). listens_under handle f.turn.doing) (sym (facts_same other)) ∙ taking.listens in
       let far = packet_far whole given Q known are_two six distinct phases done left station channel octets fates history are wanted q holds counted
@@ -125,6 +131,21 @@ module _ (whole : IsHeardWhole) (given : Given) (Q : Place → List Event → Ty
         same = ap (λ n. number_at n far.far_handle next) station_back ∙ number_same station far.far_handle ∙ far.same ∙ sym (number_same other handle);
       }
 
+  heard_far : (handle : ℕ) → is_in other given.stations ≡ true → (other == station) ≡ false → AreMine given history
+      → IsTaking given other next handle → HasFarEnd given other next handle
+  heard_far handle is_too differs mine taking = by (handed_on given are_two fates station channel octets history is seen)
+    where
+      by : IsHandedOn octets (damaged_packet hearing.fate octets) hearing.verdict (packet_received other history) (packet_received other next)
+          (facts_at given other history) (use_at given other history) channel → HasFarEnd given other next handle
+      by (WasGood judged handed) =
+          received_far is_too differs (heard_it given are_two fates station channel octets history is ∙ ap is_good judged) handle taking
+      by (WasForged judged handed forged listens) =
+          let octets_are : damaged_packet hearing.fate octets ≡ taking.octets =
+          (let same : Some (damaged_packet hearing.fate octets) ≡ Some taking.octets = sym handed ∙ taking.received in cc) in
+          absurd (taking.unforged (ap (λ (f : Facts). verdict_of f taking.octets) (facts_same other)
+          ∙ ap (verdict_of (facts_at given other history)) (sym octets_are) ∙ forged))
+      by (WasNone bad handed) = far_after other handle (mine other is_too handle (taking_before other handle taking handed))
+
   by_station : (one handle : ℕ) → is_in one given.stations ≡ true → (same : Bool) → (one == station) ≡ same → AreMine given history → IsTaking given one next handle
       → HasFarEnd given one next handle
   by_station one handle in_it true same mine taking =
@@ -134,7 +155,7 @@ module _ (whole : IsHeardWhole) (given : Given) (Q : Place → List Event → Ty
   by_station one handle in_it false differs mine taking =
       let equal = other_is given are_two station one is in_it differs in
       subst (λ n. HasFarEnd given n next handle) (sym equal)
-      (heard_far handle (has_received other hearings) refl (subst (λ n. is_in n given.stations ≡ true) equal in_it) (subst (λ n. (n == station) ≡ false) equal differs) mine
+      (heard_far handle (subst (λ n. is_in n given.stations ≡ true) equal in_it) (subst (λ n. (n == station) ≡ false) equal differs) mine
       (subst (λ n. IsTaking given n next handle) equal taking))
 
   pub packet_mine : AreMine given history → AreMine given next

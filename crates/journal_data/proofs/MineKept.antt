@@ -8,6 +8,7 @@ use Rattle.journal_acks.specs.open_links.OpenLinks.{Links, OpenLink, link_at, ne
 use Rattle.journal_acks.specs.controller_model.Facts.{Facts, Setup}
 use Rattle.journal_acks.specs.controller_model.Heard.{facts_with_words, has_room, link_heard, link_taken, opens as opening, scanner_heard}
 use Rattle.journal_acks.specs.controller_model.Outcome.{Outcome, facts_passed}
+use Rattle.journal_acks.specs.controller_model.Packets.{verdict_of}
 use Rattle.journal_acks.specs.controller_model.Side.{facts_after, notes_after}
 use Rattle.journal_acks.proofs.controller_model.Always.{opening_is}
 use Rattle.journal_acks.proofs.controller_model.OpenPlaces.{opens, sent_opens, received_opens}
@@ -127,6 +128,7 @@ module _ (given : Given) (are_two : IsOfTwo given) (station : ℕ) (history : Li
         link = taking.link;
         is_open = ap (λ (f : Facts). link_at handle f.links) (sym same) ∙ taking.is_open;
         listens = ap (λ (f : Facts). listens_under handle f.turn.doing) (sym same) ∙ taking.listens;
+        unforged = λ forged. taking.unforged (ap (λ (f : Facts). verdict_of f taking.octets) same ∙ forged);
       }
 
   far_after : (one handle : ℕ) → (one == station) ≡ false → other_of one ≡ station → HasFarEnd given one history handle → HasFarEnd given one after handle

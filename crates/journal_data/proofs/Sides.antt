@@ -70,16 +70,31 @@ found many ends link few = by (find_end many ends link)
     by (inl is) = is
     by (inr below) = Nowhere (λ handle end at. below handle end (few handle end at) at)
 
--- what is acknowledged to these ends, the lines took
-abbrev pub AreAhead : (ℕ → Option End) → Lines → Type 0
-AreAhead ends lines = (handle : ℕ) (end : End) → ends handle ≡ Some end → IsAhead end.link end.facts.acknowledgement lines
+-- what is acknowledged to these ends of the links that are followed, the lines took
+abbrev pub AreAhead : (ℕ → Type 0) → (ℕ → Option End) → Lines → Type 0
+AreAhead Followed ends lines =
+    (handle : ℕ) (end : End) → ends handle ≡ Some end → Followed end.link → IsAhead end.link end.facts.acknowledgement lines
 
--- both directions of all links, and what is acknowledged to the open ends
-pub record AreArriving (one other : Lines) (own peer : ℕ → Option End) : Type 0 where
-  pub out : (link : ℕ) → ArrivesInOrder link one other
-  pub in_ : (link : ℕ) → ArrivesInOrder link other one
-  pub ahead : AreAhead own other
-  pub behind : AreAhead peer one
+-- both directions of all links that are followed, and what is acknowledged to their open ends
+pub record AreArriving (Followed : ℕ → Type 0) (one other : Lines) (own peer : ℕ → Option End) : Type 0 where
+  pub out : (link : ℕ) → Followed link → ArrivesInOrder link one other
+  pub in_ : (link : ℕ) → Followed link → ArrivesInOrder link other one
+  pub ahead : AreAhead Followed own other
+  pub behind : AreAhead Followed peer one
+
+-- a link that is followed after a step was followed before it
+abbrev pub IsStillFollowed : (ℕ → Type 0) → (ℕ → Type 0) → Type 0
+IsStillFollowed Before After = (link : ℕ) → After link → Before link
+
+-- of fewer links
+pub still_arriving : (Before After : ℕ → Type 0) → IsStillFollowed Before After → (one other : Lines) (own peer : ℕ → Option End)
+    → AreArriving Before one other own peer → AreArriving After one other own peer
+still_arriving Before After still one other own peer arriving = record {
+  out = λ link now. arriving.out link (still link now);
+  in_ = λ link now. arriving.in_ link (still link now);
+  ahead = λ handle end is now. arriving.ahead handle end is (still end.link now);
+  behind = λ handle end is now. arriving.behind handle end is (still end.link now);
+}
 
 -- ---- a link of which the lines say nothing more but what its host submits
 
@@ -92,19 +107,21 @@ ahead_fed link ack before after fed ahead =
     }
 
 -- what is acknowledged to its own ends does not grow, or they are gone
-pub idle_arrives : (before after other : Lines) (own then_own peer : ℕ → Option End) → ((link : ℕ) → IsFed link before after) → AreAhead then_own other
-    → AreArriving before other own peer → AreArriving after other then_own peer
-idle_arrives before after other own then_own peer fed ahead arriving = record {
-  out = λ link. from_fed link before after other (fed link) (arriving.out link);
-  in_ = λ link. to_fed link before after other (fed link) (arriving.in_ link);
+pub idle_arrives : (Before After : ℕ → Type 0) → IsStillFollowed Before After → (before after other : Lines) (own then_own peer : ℕ → Option End)
+    → ((link : ℕ) → IsFed link before after) → AreAhead After then_own other
+    → AreArriving Before before other own peer → AreArriving After after other then_own peer
+idle_arrives Before After still before after other own then_own peer fed ahead arriving = record {
+  out = λ link now. from_fed link before after other (fed link) (arriving.out link (still link now));
+  in_ = λ link now. to_fed link before after other (fed link) (arriving.in_ link (still link now));
   ahead = ahead;
-  behind = λ handle end is. ahead_fed end.link end.facts.acknowledgement before after (fed end.link) (arriving.behind handle end is);
+  behind = λ handle end is now.
+      ahead_fed end.link end.facts.acknowledgement before after (fed end.link) (arriving.behind handle end is (still end.link now));
 }
 
 -- ---- a link that changes
 
 -- where the other side has an open end of the same link, both are in agreement; else nothing is taken, and no more is
--- acknowledged than the other side took
+-- acknowledged than the other side took. So it is of a link that is followed
 pub record IsBusy (before after other : Lines) (end : End) (peer : ℕ → Option End) : Type 0 where
   pub sound : IsSound end after
   pub sends : Grows (pdus_on end.link before.sent) (pdus_on end.link after.sent)
@@ -121,8 +138,8 @@ record Arrived (link : ℕ) (after other : Lines) (ack : Acknowledgement) (peer 
   ahead : IsAhead link ack other
   behind : (handle : ℕ) (far : End) → peer handle ≡ Some far → far.link ≡ link → IsAhead link far.facts.acknowledgement after
 
-module _ (before after other : Lines) (own : ℕ → Option End) (end : End) (peer : ℕ → Option End) (busy : IsBusy before after other end peer)
-    (arriving : AreArriving before other own peer) where
+module _ (Before : ℕ → Type 0) (before after other : Lines) (own : ℕ → Option End) (end : End) (peer : ℕ → Option End)
+    (busy : IsBusy before after other end peer) (was : Before end.link) (arriving : AreArriving Before before other own peer) where
   -- an end of it is open at the other side
   module _ (handle : ℕ) (far : End) (is : peer handle ≡ Some far) (same : far.link ≡ end.link) where
     one_link : IsEndBooked end.link other far.facts far.waiting
@@ -141,9 +158,9 @@ module _ (before after other : Lines) (own : ℕ → Option End) (end : End) (pe
 
     arrived_alone : Arrived end.link after other end.facts.acknowledgement peer
     arrived_alone = record {
-      out = from_alone end.link before after other end.facts end.waiting (arriving.out end.link) busy.sound.booked busy.sound.order busy.sound.one_out
+      out = from_alone end.link before after other end.facts end.waiting (arriving.out end.link was) busy.sound.booked busy.sound.order busy.sound.one_out
           (busy.alone none).1 busy.sends data_same;
-      in_ = to_alone end.link other before after end.facts end.waiting (arriving.in_ end.link) busy.sound.booked (busy.alone none).0;
+      in_ = to_alone end.link other before after end.facts end.waiting (arriving.in_ end.link was) busy.sound.booked (busy.alone none).0;
       ahead = (busy.alone none).1;
       behind = λ handle far is same. absurd (none handle far is same);
     }
@@ -159,30 +176,34 @@ module _ (before after other : Lines) (own : ℕ → Option End) (end : End) (pe
 
 -- ---- a call of a side
 
--- each link of which it has an open end changes so, and of the others nothing is said
-pub call_arrives : (before after other : Lines) (own then_own peer : ℕ → Option End) → ((link : ℕ) → IsFound then_own link) → ((link : ℕ) → IsFound peer link)
-    → ((handle : ℕ) (end : End) → then_own handle ≡ Some end → IsBusy before after other end peer)
+-- each link of which it has an open end changes so where it is followed, and of the others nothing is said
+pub call_arrives : (Before After : ℕ → Type 0) → IsStillFollowed Before After → (before after other : Lines) (own then_own peer : ℕ → Option End)
+    → ((link : ℕ) → IsFound then_own link) → ((link : ℕ) → IsFound peer link)
+    → ((handle : ℕ) (end : End) → then_own handle ≡ Some end → After end.link → IsBusy before after other end peer)
     → ((link : ℕ) → ((handle : ℕ) (end : End) → then_own handle ≡ Some end → end.link ≢ link) → IsFed link before after)
-    → AreArriving before other own peer → AreArriving after other then_own peer
-call_arrives before after other own then_own peer finds peer_finds busy fed arriving = record {
-  out = λ link. out_by link (finds link);
-  in_ = λ link. in_by link (finds link);
-  ahead = λ handle end is. (one handle end is).ahead;
-  behind = λ handle far is. behind_by handle far is (finds far.link);
+    → AreArriving Before before other own peer → AreArriving After after other then_own peer
+call_arrives Before After still before after other own then_own peer finds peer_finds busy fed arriving = record {
+  out = λ link now. out_by link now (finds link);
+  in_ = λ link now. in_by link now (finds link);
+  ahead = λ handle end is now. (one handle end is now).ahead;
+  behind = λ handle far is now. behind_by handle far is now (finds far.link);
 }
   where
-    one : (handle : ℕ) (end : End) → then_own handle ≡ Some end → Arrived end.link after other end.facts.acknowledgement peer
-    one handle end is = arrived before after other own end peer (busy handle end is) arriving (peer_finds end.link)
+    one : (handle : ℕ) (end : End) → then_own handle ≡ Some end → After end.link → Arrived end.link after other end.facts.acknowledgement peer
+    one handle end is now = arrived Before before after other own end peer (busy handle end is now) (still end.link now) arriving (peer_finds end.link)
 
-    out_by : (link : ℕ) → IsFound then_own link → ArrivesInOrder link after other
-    out_by link (Here handle end is same) = subst (λ n. ArrivesInOrder n after other) same (one handle end is).out
-    out_by link (Nowhere none) = from_fed link before after other (fed link none) (arriving.out link)
+    out_by : (link : ℕ) → After link → IsFound then_own link → ArrivesInOrder link after other
+    out_by link now (Here handle end is same) = subst (λ n. ArrivesInOrder n after other) same (one handle end is (subst After (sym same) now)).out
+    out_by link now (Nowhere none) = from_fed link before after other (fed link none) (arriving.out link (still link now))
 
-    in_by : (link : ℕ) → IsFound then_own link → ArrivesInOrder link other after
-    in_by link (Here handle end is same) = subst (λ n. ArrivesInOrder n other after) same (one handle end is).in_
-    in_by link (Nowhere none) = to_fed link before after other (fed link none) (arriving.in_ link)
+    in_by : (link : ℕ) → After link → IsFound then_own link → ArrivesInOrder link other after
+    in_by link now (Here handle end is same) = subst (λ n. ArrivesInOrder n other after) same (one handle end is (subst After (sym same) now)).in_
+    in_by link now (Nowhere none) = to_fed link before after other (fed link none) (arriving.in_ link (still link now))
 
-    behind_by : (handle : ℕ) (far : End) → peer handle ≡ Some far → IsFound then_own far.link → IsAhead far.link far.facts.acknowledgement after
-    behind_by handle far is (Here own_handle end at same) =
-        subst (λ n. IsAhead n far.facts.acknowledgement after) same ((one own_handle end at).behind handle far is (sym same))
-    behind_by handle far is (Nowhere none) = ahead_fed far.link far.facts.acknowledgement before after (fed far.link none) (arriving.behind handle far is)
+    behind_by : (handle : ℕ) (far : End) → peer handle ≡ Some far → After far.link → IsFound then_own far.link
+        → IsAhead far.link far.facts.acknowledgement after
+    behind_by handle far is now (Here own_handle end at same) =
+        subst (λ n. IsAhead n far.facts.acknowledgement after) same
+        ((one own_handle end at (subst After (sym same) now)).behind handle far is (sym same))
+    behind_by handle far is now (Nowhere none) =
+        ahead_fed far.link far.facts.acknowledgement before after (fed far.link none) (arriving.behind handle far is (still far.link now))

@@ -1,11 +1,12 @@
 -- What one side of a link takes, hands up and is credited, against what the other side sent and its host submitted (Core
 -- 5.2, volume 4 part E, section 4.1; volume 6 part B, section 4.5.9).
-use Rattle.std.specs.Prelude.{◌≡◌, ◌++◌, ℕ, ◌+◌, ◌≤◌, List, length, take}
+use Rattle.std.specs.Prelude.{◌≡◌, ◌++◌, ℕ, ◌+◌, ◌≤◌, false, List, length, take}
 use Rattle.ble_base.specs.Side.{other_side}
 use Rattle.ble_base.specs.declared.roles.Side.{Side}
 use Rattle.acl_banks.specs.History.{octets_of, whole_packets}
 use Rattle.journal.specs.declared.entries.Entry.{Entry}
 use Rattle.journal_acks.specs.run_model.Pair.{pair_buffers}
+use Rattle.journal_data.specs.Followed.{Mixed}
 use Rattle.journal_data.specs.Lines.{Lines, accepted_on, credited_on, data_on, empties_on, lines_of, pdus_on, received_on}
 
 -- on this link, what one side takes is what the other sends, in order, with its numbers, all but at most the last PDU
@@ -32,7 +33,7 @@ pub record ArrivesInOrder (link : ℕ) (from to : Lines) : Type 0 where
 abbrev pub host_buffers : ℕ
 host_buffers = pair_buffers
 
--- after each line of a journal, on each link, from each side to the other
-abbrev pub AllDataArrives : List Entry → Type 0
-AllDataArrives journal = (front rest : List Entry) → journal ≡ front ++ rest → (side : Side) (link : ℕ)
-    → ArrivesInOrder link (lines_of host_buffers side front) (lines_of host_buffers (other_side side) front)
+-- after each line of a journal, on each link, from each side to the other, as long as no packet of the link is mixed
+abbrev pub AllDataArrives : Mixed → List Entry → Type 0
+AllDataArrives mixed journal = (front rest : List Entry) → journal ≡ front ++ rest → (side : Side) (link : ℕ)
+    → mixed link front ≡ false → ArrivesInOrder link (lines_of host_buffers side front) (lines_of host_buffers (other_side side) front)

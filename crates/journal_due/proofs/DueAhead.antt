@@ -2,6 +2,7 @@
 use Rattle.std.proofs.Common.{◌≡◌, ℕ, ◌&&◌, not, true, false, Option, Some, None, List, length, sym, ap, ◌∙◌, arith}
 use Rattle.std.proofs.lemmas.Bool.{eqb-false}
 use Rattle.ack_bit.specs.AckBits.{acknowledges}
+use Rattle.ble_base.specs.declared.verdicts.Verdict.TheVariants.{Forged}
 use Rattle.data_pdu.specs.Header.{header_in}
 use Rattle.journal_controls.specs.LineSteps.{is_more_acked}
 use Rattle.journal_controls.specs.LinesDue.{due_hearing}
@@ -9,10 +10,11 @@ use Rattle.journal_controls.specs.journal_acks.Carried.{SentLine, pdu_carried}
 use Rattle.journal_controls.specs.journal_acks.Counted.{IsCounted}
 use Rattle.journal_controls.specs.journal_acks.Exchange.{Exchanged}
 use Rattle.journal_controls.specs.journal_acks.link_calls.Uses.{listens_under}
+use Rattle.journal_controls.specs.journal_ends.Asked.{Words}
 use Rattle.journal_controls.specs.link_model.Acknowledgement.{Acknowledgement, bits_of, is_acked}
 use Rattle.journal_controls.specs.link_model.Data.{is_control}
 use Rattle.journal_controls.specs.link_model.Facts.{Facts as EndFacts}
-use Rattle.journal_controls.specs.link_model.Packets.{good_pdu, is_forged}
+use Rattle.journal_controls.specs.link_model.Packets.{good_pdu, is_forged, verdict_of}
 use Rattle.journal_controls.specs.link_model.Receiving.{acks_control, facts_received, has_acknowledged}
 use Rattle.journal_controls.specs.link_model.Step.{PacketReceived}
 use Rattle.journal_controls.specs.link_model.Verdicts.{pdu_of}
@@ -32,28 +34,34 @@ use Rattle.journal_due.specs.ProcedureLines.{RestsAt}
 
 -- ---- what is due to a station
 
--- nothing, and no link takes a packet; or what the packet brings that one link takes
-pub data IsDueAhead (given : Given) (station : ℕ) (history : List Event) (received : Option (List ℕ)) : Type 0 where
-  Nothing : RestsAt (side_of station) (journal_of history)
+-- nothing, and no link takes a packet; or what the packet brings that one link takes; or nothing, and one link judges the
+-- packet forged
+pub data IsDueAhead (words : Words) (given : Given) (station : ℕ) (history : List Event) (received : Option (List ℕ)) : Type 0 where
+  Nothing : RestsAt words (side_of station) (journal_of history)
       → ((handle : ℕ) (link : OpenLink) → listens_under handle (facts_at given station history).turn.doing ≡ true → link_at handle (facts_at given station history).links ≡ Some link
       → received ≡ None)
-      → IsDueAhead given station history received
+      → IsDueAhead words given station history received
   Taking : (handle : ℕ) (link : OpenLink) (octets pdu : List ℕ) → listens_under handle (facts_at given station history).turn.doing ≡ true
       → link_at handle (facts_at given station history).links ≡ Some link → received ≡ Some octets → good_pdu link.setup (facts_in link) octets ≡ Some pdu
-      → IsDueOn (side_of station) (number_at station handle history)
+      → IsDueOn words (side_of station) (number_at station handle history)
       (due_hearing (side_of station) (number_at station handle history) (acks_control (has_acknowledged (facts_in link) (header_in pdu)) (facts_in link)) (facts_in link).control)
       (journal_of history)
-      → IsDueAhead given station history received
+      → IsDueAhead words given station history received
+  Forging : (handle : ℕ) (link : OpenLink) (octets : List ℕ) → listens_under handle (facts_at given station history).turn.doing ≡ true
+      → link_at handle (facts_at given station history).links ≡ Some link → received ≡ Some octets → verdict_of link.setup (facts_in link) octets ≡ Forged
+      → RestsAt words (side_of station) (journal_of history)
+      → IsDueAhead words given station history received
 
-pub ahead_rests : (given : Given) (station : ℕ) (history : List Event) (received : Option (List ℕ)) → received ≡ None → IsDueAhead given station history received
-    → RestsAt (side_of station) (journal_of history)
-ahead_rests given station history received none (Nothing rests deaf) = rests
-ahead_rests given station history received none (Taking handle link octets pdu listens at some good on) =
+pub ahead_rests : (words : Words) (given : Given) (station : ℕ) (history : List Event) (received : Option (List ℕ)) → received ≡ None → IsDueAhead words given station history received
+    → RestsAt words (side_of station) (journal_of history)
+ahead_rests words given station history received none (Nothing rests deaf) = rests
+ahead_rests words given station history received none (Taking handle link octets pdu listens at some good on) =
     absurd (let h : Some octets ≡ None = sym some ∙ none in absurd cc)
+ahead_rests words given station history received none (Forging handle link octets listens at some forged rests) = rests
 
-pub rests_ahead : (given : Given) (station : ℕ) (history : List Event) (received : Option (List ℕ)) → received ≡ None → RestsAt (side_of station) (journal_of history)
-    → IsDueAhead given station history received
-rests_ahead given station history received none rests = Nothing rests (λ handle link listens at. none)
+pub rests_ahead : (words : Words) (given : Given) (station : ℕ) (history : List Event) (received : Option (List ℕ)) → received ≡ None → RestsAt words (side_of station) (journal_of history)
+    → IsDueAhead words given station history received
+rests_ahead words given station history received none rests = Nothing rests (λ handle link listens at. none)
 
 -- ---- it acknowledges a control PDU where the counts say so
 

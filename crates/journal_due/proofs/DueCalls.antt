@@ -17,6 +17,7 @@ use Rattle.journal_controls.specs.controller_model.Radio.{outcome_begun}
 use Rattle.journal_controls.specs.controller_model.Side.{notes_after}
 use Rattle.journal_controls.specs.controller_model.Step.{PacketHeard, TurnBegins}
 use Rattle.journal_controls.specs.controller_model.host_view.View.{View}
+use Rattle.journal_controls.specs.journal_ends.Asked.{Words}
 use Rattle.journal_controls.specs.open_links.OpenLinks.{Links, OpenLink, facts_in, link_at, link_from}
 use Rattle.journal_controls.specs.open_links.Turns.{due_in, ends_by, links_without, place_without, staying_by}
 use Rattle.journal_controls.specs.open_links.Ended.{end_by}
@@ -62,7 +63,7 @@ stays_by reason handle links link at = by (link_at handle links) refl (sym (stay
         may None none same = let equal : one ≡ link = cc in record { at = is ∙ ap Some equal; none = ap reason (sym equal) ∙ none }
         may (Some code) none same = absurd cc
 
-module _ (side : Side) (link_of : ℕ → ℕ) (last : ℕ) where
+module _ (words : Words) (side : Side) (link_of : ℕ → ℕ) (last : ℕ) where
   abbrev line : Note → Entry
   line note = entry_of side link_of last note
 
@@ -74,34 +75,34 @@ module _ (side : Side) (link_of : ℕ → ℕ) (last : ℕ) where
   -- links that end leave another one
   ends_keep : (view : View) (reason : OpenLink → Option ℕ) (number first : ℕ) (links : Links) (front : List Entry)
       → ((handle code : ℕ) (link : OpenLink) → link_from first handle links ≡ Some link → reason link ≡ Some code → (link_of handle == number) ≡ false)
-      → keyed_on side number (front ++ map line (flat_map (notes_ended view) (ends_by reason first links))) ≡ keyed_on side number front
-  ends_keep view reason number first [] front apart = ap (keyed_on side number) (append-nil front)
+      → keyed_on words side number (front ++ map line (flat_map (notes_ended view) (ends_by reason first links))) ≡ keyed_on words side number front
+  ends_keep view reason number first [] front apart = ap (keyed_on words side number) (append-nil front)
   ends_keep view reason number first (None ∷ links) front apart =
       ends_keep view reason number (first + 1) links front (λ handle code link at. apart handle code link (at_later first handle None links link at))
   ends_keep view reason number first (Some link ∷ links) front apart =
       by (λ next. ends_keep view reason number (first + 1) links next (λ handle code one at. apart handle code one (at_later first handle (Some link) links one at))) (reason link) refl
     where
-      by : ((next : List Entry) → keyed_on side number (next ++ map line (flat_map (notes_ended view) (ends_by reason (first + 1) links))) ≡ keyed_on side number next)
+      by : ((next : List Entry) → keyed_on words side number (next ++ map line (flat_map (notes_ended view) (ends_by reason (first + 1) links))) ≡ keyed_on words side number next)
           → (why : Option ℕ) → reason link ≡ why
-          → keyed_on side number (front ++ map line (flat_map (notes_ended view) (end_by first why ++ ends_by reason (first + 1) links))) ≡ keyed_on side number front
+          → keyed_on words side number (front ++ map line (flat_map (notes_ended view) (end_by first why ++ ends_by reason (first + 1) links))) ≡ keyed_on words side number front
       by rest None none = rest front
       by rest (Some code) some =
           let shut = line (note_shut first code) in
           let events = notes_of_events view (DisconnectionComplete 0 first code ∷ []) in
           let later = flat_map (notes_ended view) (ends_by reason (first + 1) links) in
           let next = front ++ shut ∷ [] in
-          ap (λ lines. keyed_on side number (front ++ shut ∷ lines)) (map-append line events later)
-          ∙ ap (keyed_on side number) (sym (append_assoc front (shut ∷ []) (map line events ++ map line later)))
-          ∙ ap (keyed_on side number) (sym (append_assoc next (map line events) (map line later)))
+          ap (λ lines. keyed_on words side number (front ++ shut ∷ lines)) (map-append line events later)
+          ∙ ap (keyed_on words side number) (sym (append_assoc front (shut ∷ []) (map line events ++ map line later)))
+          ∙ ap (keyed_on words side number) (sym (append_assoc next (map line events) (map line later)))
           ∙ rest (next ++ map line events)
-          ∙ events_keep side link_of last view (DisconnectionComplete 0 first code ∷ []) next number (tt, tt)
-          ∙ keyed_apart side (link_of first) number front shut (shut_own first code) (apart first code link (at_first first (Some link) links) some)
+          ∙ events_keep words side link_of last view (DisconnectionComplete 0 first code ∷ []) next number (tt, tt)
+          ∙ keyed_apart words side (link_of first) number front shut (shut_own first code) (apart first code link (at_first first (Some link) links) some)
 
   -- what is known of the links that stay
-  ending_known : (slot : ℕ) (facts : Facts) (front : List Entry) → AreKnownFrom side link_of last 0 facts.links front
-      → AreKnownFrom side link_of last 0 (facts_ending slot facts).links (front ++ map line (notes_ending slot facts))
+  ending_known : (slot : ℕ) (facts : Facts) (front : List Entry) → AreKnownFrom words side link_of last 0 facts.links front
+      → AreKnownFrom words side link_of last 0 (facts_ending slot facts).links (front ++ map line (notes_ending slot facts))
   ending_known slot facts front known =
-      subst (λ (f : Facts). AreKnownFrom side link_of last 0 f.links (front ++ map line (notes_ending slot facts))) (sym (ending_is slot facts)) (record {
+      subst (λ (f : Facts). AreKnownFrom words side link_of last 0 f.links (front ++ map line (notes_ending slot facts))) (sym (ending_is slot facts)) (record {
         handles = λ handle link at. known.handles handle link (stays_by (due_in slot) handle facts.links link at).at;
         controls = λ handle link at.
             let stays = stays_by (due_in slot) handle facts.links link at in
@@ -119,22 +120,22 @@ module _ (side : Side) (link_of : ℕ → ℕ) (last : ℕ) where
 
   -- ---- a turn begins
 
-  pub begin_told : (setup : Setup) (facts : Facts) (slot : ℕ) (on : Bool) (front : List Entry) → AreKnownFrom side link_of last 0 facts.links front → turn_now front ≡ slot
-      → RestsAt side front → AreAllTold side front (map line (notes_after setup facts (TurnBegins slot on)))
+  pub begin_told : (setup : Setup) (facts : Facts) (slot : ℕ) (on : Bool) (front : List Entry) → AreKnownFrom words side link_of last 0 facts.links front → turn_now front ≡ slot
+      → RestsAt words side front → AreAllTold words side front (map line (notes_after setup facts (TurnBegins slot on)))
   begin_told setup facts slot on front known now rests =
       let ending = facts_ending slot facts in
       let shuts = notes_ending slot facts in
       let entries = notes_all_entering ending.view slot 0 ending.links in
       let sends = notes_doing (outcome_begun slot on facts).next (outcome_begun slot on facts).facts in
-      let one = plain_told side front (map line shuts) (plain_lines side link_of last shuts (ending_noted IsPlain plain_feeds slot facts)) rests in
+      let one = plain_told words side front (map line shuts) (plain_lines words side link_of last shuts (ending_noted IsPlain plain_feeds slot facts)) rests in
       let mid = front ++ map line shuts in
-      let two = all_told side link_of last ending.view slot 0 ending.links mid (one.turn_is ∙ now) (ending_known slot facts front known) one.left in
+      let two = all_told words side link_of last ending.view slot 0 ending.links mid (one.turn_is ∙ now) (ending_known slot facts front known) one.left in
       let next = mid ++ map line entries in
-      let three = plain_told side next (map line sends)
-      (plain_lines side link_of last sends (doing_noted IsPlain (λ handle number llid octets. refl) (outcome_begun slot on facts).next (outcome_begun slot on facts).facts)) two.left in
-      subst (λ lines. AreAllTold side front lines) (sym (map-append line (shuts ++ entries) sends ∙ ap (λ lines. lines ++ map line sends) (map-append line shuts entries)))
-      (told_both side front (map line shuts ++ map line entries) (map line sends) (told_both side front (map line shuts) (map line entries) one two)
-      (subst (λ xs. AreAllTold side xs (map line sends)) (append_assoc front (map line shuts) (map line entries)) three))
+      let three = plain_told words side next (map line sends)
+      (plain_lines words side link_of last sends (doing_noted IsPlain (λ handle number llid octets. refl) (outcome_begun slot on facts).next (outcome_begun slot on facts).facts)) two.left in
+      subst (λ lines. AreAllTold words side front lines) (sym (map-append line (shuts ++ entries) sends ∙ ap (λ lines. lines ++ map line sends) (map-append line shuts entries)))
+      (told_both words side front (map line shuts ++ map line entries) (map line sends) (told_both words side front (map line shuts) (map line entries) one two)
+      (subst (λ xs. AreAllTold words side xs (map line sends)) (append_assoc front (map line shuts) (map line entries)) three))
 
   -- ---- a link receives a packet
 
@@ -144,7 +145,7 @@ module _ (side : Side) (link_of : ℕ → ℕ) (last : ℕ) where
       ≡ map (line_of side (link_of handle)) (end_notes link.setup (facts_in link) (PacketReceived slot octets room))
   received_lines handle slot octets room link is =
       let named = ap link_of is in
-      same_lines side link_of last handle (end_notes link.setup (facts_in link) (PacketReceived slot octets room))
+      same_lines words side link_of last handle (end_notes link.setup (facts_in link) (PacketReceived slot octets room))
       (received_each (λ note. line note ≡ line_of side (link_of handle) note) link.setup slot room (good_pdu link.setup (facts_in link) octets) (facts_in link) (record {
         took = λ number llid body. ap (λ n. Took side n number llid body) named;
         refused = λ kind code. ap (λ n. Refused side n kind code) named;
@@ -155,9 +156,9 @@ module _ (side : Side) (link_of : ℕ → ℕ) (last : ℕ) where
   pub received_told : (setup : Setup) (facts hearing : Facts) (handle : ℕ) (octets pdu : List ℕ) (room : Bool) (link : OpenLink) (front : List Entry)
       → heard setup facts.turn.doing octets facts ≡ link_hearing handle room octets hearing → link_at handle hearing.links ≡ Some link → link.setup.link.handle ≡ handle
       → good_pdu link.setup (facts_in link) octets ≡ Some pdu → turn_now front ≡ hearing.turn.slot
-      → keyed_on side (link_of handle) front ≡ Some (keyed_of (facts_before_taking link.setup.link.role hearing.turn.slot (header_in pdu) (facts_in link)))
-      → IsDueOn side (link_of handle) (due_hearing side (link_of handle) (acks_control (has_acknowledged (facts_in link) (header_in pdu)) (facts_in link)) (facts_in link).control) front
-      → AreAllTold side front (map line (notes_after setup facts (PacketHeard octets)))
+      → keyed_on words side (link_of handle) front ≡ Some (keyed_of (facts_before_taking link.setup.link.role hearing.turn.slot (header_in pdu) (facts_in link)))
+      → IsDueOn words side (link_of handle) (due_hearing side (link_of handle) (acks_control (has_acknowledged (facts_in link) (header_in pdu)) (facts_in link)) (facts_in link).control) front
+      → AreAllTold words side front (map line (notes_after setup facts (PacketHeard octets)))
   received_told setup facts hearing handle octets pdu room link front is at own good now keyed on =
       let slot = hearing.turn.slot in
       let encrypted = was_encrypted handle hearing.view.links in
@@ -166,14 +167,14 @@ module _ (side : Side) (link_of : ℕ → ℕ) (last : ℕ) where
       let ups = notes_of_events hearing.view events in
       let doing = reply_if (replies_in slot room (link_at handle hearing.links) octets) handle in
       let sends = notes_doing doing (link_received handle room octets hearing) in
-      let one = subst (λ lines. AreAllTold side front lines) (sym (received_lines handle slot octets room link own))
-      (receiving_told side (link_of handle) front link.setup (facts_in link) octets pdu room slot now good keyed on) in
+      let one = subst (λ lines. AreAllTold words side front lines) (sym (received_lines handle slot octets room link own))
+      (receiving_told words side (link_of handle) front link.setup (facts_in link) octets pdu room slot now good keyed on) in
       let mid = front ++ map line taken in
-      let two = events_told side link_of last hearing.view events mid one.left in
+      let two = events_told words side link_of last hearing.view events mid one.left in
       let next = mid ++ map line ups in
-      let three = plain_told side next (map line sends) (plain_lines side link_of last sends (doing_noted IsPlain (λ other number llid body. refl) doing (link_received handle room octets hearing))) two.left in
-      subst (λ outcome. AreAllTold side front (map line (notes_passed outcome))) (sym is)
-      (subst (λ found. AreAllTold side front (map line ((notes_taken slot room found octets ++ notes_of_events hearing.view (events_received encrypted handle slot room found octets)) ++ sends))) (sym at)
-      (subst (λ lines. AreAllTold side front lines) (sym (map-append line (taken ++ ups) sends ∙ ap (λ lines. lines ++ map line sends) (map-append line taken ups)))
-      (told_both side front (map line taken ++ map line ups) (map line sends) (told_both side front (map line taken) (map line ups) one two)
-      (subst (λ xs. AreAllTold side xs (map line sends)) (append_assoc front (map line taken) (map line ups)) three))))
+      let three = plain_told words side next (map line sends) (plain_lines words side link_of last sends (doing_noted IsPlain (λ other number llid body. refl) doing (link_received handle room octets hearing))) two.left in
+      subst (λ outcome. AreAllTold words side front (map line (notes_passed outcome))) (sym is)
+      (subst (λ found. AreAllTold words side front (map line ((notes_taken slot room found octets ++ notes_of_events hearing.view (events_received encrypted handle slot room found octets)) ++ sends))) (sym at)
+      (subst (λ lines. AreAllTold words side front lines) (sym (map-append line (taken ++ ups) sends ∙ ap (λ lines. lines ++ map line sends) (map-append line taken ups)))
+      (told_both words side front (map line taken ++ map line ups) (map line sends) (told_both words side front (map line taken) (map line ups) one two)
+      (subst (λ xs. AreAllTold words side xs (map line sends)) (append_assoc front (map line taken) (map line ups)) three))))

@@ -6,7 +6,8 @@ use Rattle.ble_base.specs.declared.roles.Side.{Side}
 use Rattle.ble_base.specs.declared.roles.Side.TheVariants.{A, B}
 use Rattle.journal.specs.declared.entries.Entry.{Entry}
 use Rattle.journal.specs.declared.entries.Entry.TheVariants.{Opened, Shut, Up}
-use Rattle.journal_controls.specs.journal_ends.Seen.{Asks, Hears, Says, asked_in_line, seen_in_line}
+use Rattle.journal_controls.specs.journal_ends.Asked.{Words}
+use Rattle.journal_controls.specs.journal_ends.Seen.{Asks, Hears, HearsForged, Says, asked_in_line, seen_in_line}
 use Rattle.journal_controls.specs.journal_acks.Carried.{carried_of}
 use Rattle.journal_controls.specs.journal_acks.Exchange.{exchange_of}
 use Rattle.journal_controls.specs.journal_links.Begun.{link_numbered}
@@ -15,7 +16,6 @@ use Rattle.journal_controls.specs.link_model.Data.{is_control}
 use Rattle.journal_controls.specs.link_model.Step.{Step}
 use Rattle.journal_controls.specs.link_model.keyed_control.Keyed.{Keyed}
 use Rattle.journal_controls.specs.run_model.Readers.{of_side}
-use Rattle.journal_controls.specs.KeyedLines.{drawn_by}
 use Rattle.journal_controls.specs.LineSteps.{is_more_acked, keyed_begun, keyed_in_line, keyed_on, turn_now}
 use Rattle.journal_controls.specs.LinesDue.{due_from, due_hearing, due_saying, due_seen, due_with, lines_due}
 use Rattle.journal_controls.proofs.journal_ends.SeenLists.{AreAsks, line_are_asks}
@@ -24,106 +24,115 @@ use Rattle.journal_due.specs.ProcedureLines.{applied_after, applied_in, applied_
 
 -- ---- a line more
 
-from_more : (side : Side) (number : ℕ) (front due lines : List Entry) (line : Entry)
-    → due_from side number front due (lines ++ line ∷ [])
-    ≡ due_with side number (front ++ lines) line (due_from side number front due lines) (keyed_on side number (front ++ lines))
-from_more side number front due [] line = ap (λ xs. due_with side number xs line due (keyed_on side number xs)) (sym (append-nil front))
-from_more side number front due (first ∷ lines) line =
-    let next = due_with side number front first due (keyed_on side number front) in
-    from_more side number (front ++ first ∷ []) next lines line
-    ∙ ap (λ xs. due_with side number xs line (due_from side number (front ++ first ∷ []) next lines) (keyed_on side number xs)) (append_assoc front (first ∷ []) lines)
+from_more : (words : Words) (side : Side) (number : ℕ) (front due lines : List Entry) (line : Entry)
+    → due_from words side number front due (lines ++ line ∷ [])
+    ≡ due_with words side number (front ++ lines) line (due_from words side number front due lines) (keyed_on words side number (front ++ lines))
+from_more words side number front due [] line = ap (λ xs. due_with words side number xs line due (keyed_on words side number xs)) (sym (append-nil front))
+from_more words side number front due (first ∷ lines) line =
+    let next = due_with words side number front first due (keyed_on words side number front) in
+    from_more words side number (front ++ first ∷ []) next lines line
+    ∙ ap (λ xs. due_with words side number xs line (due_from words side number (front ++ first ∷ []) next lines) (keyed_on words side number xs)) (append_assoc front (first ∷ []) lines)
 
-pub due_more : (side : Side) (number : ℕ) (journal : List Entry) (line : Entry)
-    → lines_due side number (journal ++ line ∷ []) ≡ due_with side number journal line (lines_due side number journal) (keyed_on side number journal)
+pub due_more : (words : Words) (side : Side) (number : ℕ) (journal : List Entry) (line : Entry)
+    → lines_due words side number (journal ++ line ∷ []) ≡ due_with words side number journal line (lines_due words side number journal) (keyed_on words side number journal)
 unfolding lines_due
-due_more side number journal line = from_more side number [] [] journal line
+due_more words side number journal line = from_more words side number [] [] journal line
 
 -- ---- nothing is due where the link is not open
 
 -- a line of this side, of this link
-named_due : (side other : Side) (same : Bool) (number : ℕ) (front : List Entry) (line : Entry) (due : List Entry) (k : Keyed) (begun : Option Keyed)
-    → due_saying side number (drawn_by side front) (turn_now front) k due line ≡ [] → (if is_side other side && same then begun else Some k) ≡ None
-    → fold (due_seen side number front line k) due (map Says (of_side side other (if same then line ∷ [] else []))) ≡ []
-named_due A A true number front line due k begun none is = none
-named_due A A false number front line due k begun none is = absurd cc
-named_due A B same number front line due k begun none is = absurd cc
-named_due B A same number front line due k begun none is = absurd cc
-named_due B B true number front line due k begun none is = none
-named_due B B false number front line due k begun none is = absurd cc
+named_due : (words : Words) (side other : Side) (same : Bool) (number : ℕ) (front : List Entry) (line : Entry) (due : List Entry) (k : Keyed) (begun : Option Keyed)
+    → due_saying side number (words side front) (turn_now front) k due line ≡ [] → (if is_side other side && same then begun else Some k) ≡ None
+    → fold (due_seen words side number front line k) due (map Says (of_side side other (if same then line ∷ [] else []))) ≡ []
+named_due words A A true number front line due k begun none is = none
+named_due words A A false number front line due k begun none is = absurd cc
+named_due words A B same number front line due k begun none is = absurd cc
+named_due words B A same number front line due k begun none is = absurd cc
+named_due words B B true number front line due k begun none is = none
+named_due words B B false number front line due k begun none is = absurd cc
 
-shut_leaves : (side : Side) (number : ℕ) (front : List Entry) (line : Entry) (due : List Entry) (k : Keyed) → keyed_in_line (drawn_by side) side number front (Some k) line ≡ None
-    → due_with side number front line due (Some k) ≡ []
-shut_leaves side number front (Opened other link handle role) due k is =
-    named_due side other (link == number) number front (Opened other link handle role) due k (keyed_begun side (link_numbered number front)) refl is
-shut_leaves side number front (Shut other link reason) due k is =
-    named_due side other (link == number) number front (Shut other link reason) due k None refl is
-shut_leaves side number front line due k is = absurd cc
+shut_leaves : (words : Words) (side : Side) (number : ℕ) (front : List Entry) (line : Entry) (due : List Entry) (k : Keyed) → keyed_in_line words side number front (Some k) line ≡ None
+    → due_with words side number front line due (Some k) ≡ []
+shut_leaves words side number front (Opened other link handle role) due k is =
+    named_due words side other (link == number) number front (Opened other link handle role) due k (keyed_begun side (link_numbered number front)) refl is
+shut_leaves words side number front (Shut other link reason) due k is =
+    named_due words side other (link == number) number front (Shut other link reason) due k None refl is
+shut_leaves words side number front line due k is = absurd cc
 
-step_leaves : (side : Side) (number : ℕ) (front : List Entry) (line : Entry) (due : List Entry) (before : Option Keyed) → keyed_in_line (drawn_by side) side number front before line ≡ None
-    → due_with side number front line due before ≡ []
-step_leaves side number front line due None is = refl
-step_leaves side number front line due (Some k) is = shut_leaves side number front line due k is
+step_leaves : (words : Words) (side : Side) (number : ℕ) (front : List Entry) (line : Entry) (due : List Entry) (before : Option Keyed) → keyed_in_line words side number front before line ≡ None
+    → due_with words side number front line due before ≡ []
+step_leaves words side number front line due None is = refl
+step_leaves words side number front line due (Some k) is = shut_leaves words side number front line due k is
 
-unopened_from : (side : Side) (number : ℕ) (front due lines : List Entry) → (keyed_on side number front ≡ None → due ≡ []) → keyed_on side number (front ++ lines) ≡ None
-    → due_from side number front due lines ≡ []
-unopened_from side number front due [] none is = none (ap (keyed_on side number) (sym (append-nil front)) ∙ is)
-unopened_from side number front due (line ∷ lines) none is =
-    unopened_from side number (front ++ line ∷ []) (due_with side number front line due (keyed_on side number front)) lines
-    (λ shut. step_leaves side number front line due (keyed_on side number front) (sym (keyed_more side number front line) ∙ shut))
-    (ap (keyed_on side number) (append_assoc front (line ∷ []) lines) ∙ is)
+unopened_from : (words : Words) (side : Side) (number : ℕ) (front due lines : List Entry) → (keyed_on words side number front ≡ None → due ≡ []) → keyed_on words side number (front ++ lines) ≡ None
+    → due_from words side number front due lines ≡ []
+unopened_from words side number front due [] none is = none (ap (keyed_on words side number) (sym (append-nil front)) ∙ is)
+unopened_from words side number front due (line ∷ lines) none is =
+    unopened_from words side number (front ++ line ∷ []) (due_with words side number front line due (keyed_on words side number front)) lines
+    (λ shut. step_leaves words side number front line due (keyed_on words side number front) (sym (keyed_more words side number front line) ∙ shut))
+    (ap (keyed_on words side number) (append_assoc front (line ∷ []) lines) ∙ is)
 
-pub none_unopened : (side : Side) (number : ℕ) (journal : List Entry) → keyed_on side number journal ≡ None → lines_due side number journal ≡ []
+pub none_unopened : (words : Words) (side : Side) (number : ℕ) (journal : List Entry) → keyed_on words side number journal ≡ None → lines_due words side number journal ≡ []
 unfolding lines_due
-none_unopened side number journal is = unopened_from side number [] [] journal (λ none. refl) is
+none_unopened words side number journal is = unopened_from words side number [] [] journal (λ none. refl) is
 
 -- ---- lines of an end that is open, and others
 
-pub said_due : (side : Side) (number : ℕ) (journal : List Entry) (line : Entry) (k : Keyed) → keyed_on side number journal ≡ Some k
-    → seen_in_line side number journal line ≡ Says line ∷ []
-    → lines_due side number (journal ++ line ∷ []) ≡ due_saying side number (drawn_by side journal) (turn_now journal) k (lines_due side number journal) line
-said_due side number journal line k is said =
-    due_more side number journal line ∙ ap (due_with side number journal line (lines_due side number journal)) is
-    ∙ ap (fold (due_seen side number journal line k) (lines_due side number journal)) said
+pub said_due : (words : Words) (side : Side) (number : ℕ) (journal : List Entry) (line : Entry) (k : Keyed) → keyed_on words side number journal ≡ Some k
+    → seen_in_line words side number journal line ≡ Says line ∷ []
+    → lines_due words side number (journal ++ line ∷ []) ≡ due_saying side number (words side journal) (turn_now journal) k (lines_due words side number journal) line
+said_due words side number journal line k is said =
+    due_more words side number journal line ∙ ap (due_with words side number journal line (lines_due words side number journal)) is
+    ∙ ap (fold (due_seen words side number journal line k) (lines_due words side number journal)) said
 
-pub heard_due : (side : Side) (number slot : ℕ) (octets : List ℕ) (journal : List Entry) (line : Entry) (k : Keyed) → keyed_on side number journal ≡ Some k
-    → seen_in_line side number journal line ≡ Hears slot octets ∷ []
-    → lines_due side number (journal ++ line ∷ [])
+pub heard_due : (words : Words) (side : Side) (number slot : ℕ) (octets : List ℕ) (journal : List Entry) (line : Entry) (k : Keyed) → keyed_on words side number journal ≡ Some k
+    → seen_in_line words side number journal line ≡ Hears slot octets ∷ []
+    → lines_due words side number (journal ++ line ∷ [])
     ≡ due_hearing side number (is_more_acked (exchange_of number journal side) (exchange_of number (journal ++ line ∷ []) side) && is_control (carried_of number journal side)) k.phased.control
-heard_due side number slot octets journal line k is heard =
-    due_more side number journal line ∙ ap (due_with side number journal line (lines_due side number journal)) is
-    ∙ ap (fold (due_seen side number journal line k) (lines_due side number journal)) heard
+heard_due words side number slot octets journal line k is heard =
+    due_more words side number journal line ∙ ap (due_with words side number journal line (lines_due words side number journal)) is
+    ∙ ap (fold (due_seen words side number journal line k) (lines_due words side number journal)) heard
 
-pub quiet_due : (side : Side) (number : ℕ) (journal : List Entry) (line : Entry) → seen_in_line side number journal line ≡ []
-    → lines_due side number (journal ++ line ∷ []) ≡ lines_due side number journal
-quiet_due side number journal line none = due_more side number journal line ∙ by (keyed_on side number journal) refl
+pub quiet_due : (words : Words) (side : Side) (number : ℕ) (journal : List Entry) (line : Entry) → seen_in_line words side number journal line ≡ []
+    → lines_due words side number (journal ++ line ∷ []) ≡ lines_due words side number journal
+quiet_due words side number journal line none = due_more words side number journal line ∙ by (keyed_on words side number journal) refl
   where
-    by : (found : Option Keyed) → keyed_on side number journal ≡ found → due_with side number journal line (lines_due side number journal) found ≡ lines_due side number journal
-    by None is = sym (none_unopened side number journal is)
-    by (Some k) is = ap (fold (due_seen side number journal line k) (lines_due side number journal)) none
+    by : (found : Option Keyed) → keyed_on words side number journal ≡ found → due_with words side number journal line (lines_due words side number journal) found ≡ lines_due words side number journal
+    by None is = sym (none_unopened words side number journal is)
+    by (Some k) is = ap (fold (due_seen words side number journal line k) (lines_due words side number journal)) none
+
+-- a packet that the end judges forged
+pub forged_due : (words : Words) (side : Side) (number : ℕ) (journal : List Entry) (line : Entry) → seen_in_line words side number journal line ≡ HearsForged ∷ []
+    → lines_due words side number (journal ++ line ∷ []) ≡ lines_due words side number journal
+forged_due words side number journal line forged = due_more words side number journal line ∙ by (keyed_on words side number journal) refl
+  where
+    by : (found : Option Keyed) → keyed_on words side number journal ≡ found → due_with words side number journal line (lines_due words side number journal) found ≡ lines_due words side number journal
+    by None is = sym (none_unopened words side number journal is)
+    by (Some k) is = ap (fold (due_seen words side number journal line k) (lines_due words side number journal)) forged
 
 -- ---- what a host asks leaves what is due
 
-asks_leave : (side : Side) (number : ℕ) (front : List Entry) (line : Entry) (k : Keyed) (due : List Entry) (steps : List Step)
-    → fold (due_seen side number front line k) due (map Asks steps) ≡ due
-asks_leave side number front line k due [] = refl
-asks_leave side number front line k due (step ∷ steps) = asks_leave side number front line k due steps
+asks_leave : (words : Words) (side : Side) (number : ℕ) (front : List Entry) (line : Entry) (k : Keyed) (due : List Entry) (steps : List Step)
+    → fold (due_seen words side number front line k) due (map Asks steps) ≡ due
+asks_leave words side number front line k due [] = refl
+asks_leave words side number front line k due (step ∷ steps) = asks_leave words side number front line k due steps
 
-asked_due : (side : Side) (number : ℕ) (journal : List Entry) (line : Entry) → AreAsks (seen_in_line side number journal line)
-    → lines_due side number (journal ++ line ∷ []) ≡ lines_due side number journal
-asked_due side number journal line asks = due_more side number journal line ∙ by (keyed_on side number journal) refl
+asked_due : (words : Words) (side : Side) (number : ℕ) (journal : List Entry) (line : Entry) → AreAsks (seen_in_line words side number journal line)
+    → lines_due words side number (journal ++ line ∷ []) ≡ lines_due words side number journal
+asked_due words side number journal line asks = due_more words side number journal line ∙ by (keyed_on words side number journal) refl
   where
-    by : (found : Option Keyed) → keyed_on side number journal ≡ found → due_with side number journal line (lines_due side number journal) found ≡ lines_due side number journal
-    by None is = sym (none_unopened side number journal is)
+    by : (found : Option Keyed) → keyed_on words side number journal ≡ found → due_with words side number journal line (lines_due words side number journal) found ≡ lines_due words side number journal
+    by None is = sym (none_unopened words side number journal is)
     by (Some k) is =
-        ap (fold (due_seen side number journal line k) (lines_due side number journal)) asks.is
-        ∙ asks_leave side number journal line k (lines_due side number journal) asks.steps
+        ap (fold (due_seen words side number journal line k) (lines_due words side number journal)) asks.is
+        ∙ asks_leave words side number journal line k (lines_due words side number journal) asks.steps
 
 -- a packet to a host is no more than an answer
-pub packet_due : (side other : Side) (number : ℕ) (journal : List Entry) (octets : List ℕ)
-    → lines_due side number (journal ++ Up other octets ∷ []) ≡ lines_due side number journal
-packet_due side other number journal octets =
-    let asks = line_are_asks side number journal (Up other octets) in
-    asked_due side number journal (Up other octets) (record { steps = asks.steps; is = append-nil (asked_in_line side number journal (Up other octets)) ∙ asks.is })
+pub packet_due : (words : Words) (side other : Side) (number : ℕ) (journal : List Entry) (octets : List ℕ)
+    → lines_due words side number (journal ++ Up other octets ∷ []) ≡ lines_due words side number journal
+packet_due words side other number journal octets =
+    let asks = line_are_asks words side number journal (Up other octets) in
+    asked_due words side number journal (Up other octets) (record { steps = asks.steps; is = append-nil (asked_in_line words side number journal (Up other octets)) ∙ asks.is })
 
 -- ---- the indication of the last line of a side
 

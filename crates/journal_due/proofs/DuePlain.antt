@@ -11,6 +11,7 @@ use Rattle.journal_controls.specs.host_answers.Answered.{answer_statuses}
 use Rattle.journal.specs.declared.entries.Entry.{Entry}
 use Rattle.journal.specs.declared.entries.Entry.TheVariants.{Up as UpLine}
 use Rattle.journal_controls.proofs.journal_ends.SeenEvents.{unasked_by}
+use Rattle.journal_controls.specs.journal_ends.Asked.{Words}
 use Rattle.journal_controls.specs.journal_ends.Seen.{Says, asked_in_line, seen_in_line}
 use Rattle.journal_controls.specs.journal_packets.Belonging.{is_side}
 use Rattle.journal_controls.specs.journal_links.LinkLines.{line_of}
@@ -22,7 +23,6 @@ use Rattle.journal_controls.specs.link_model.Step.{Step, EventEntered, PacketRec
 use Rattle.journal_controls.specs.link_model.keyed_control.Keyed.{Keyed}
 use Rattle.journal_controls.specs.run_model.Journal.{entry_of}
 use Rattle.journal_controls.specs.run_model.Readers.{of_side, pair_openings_in}
-use Rattle.journal_controls.specs.KeyedLines.{drawn_by}
 use Rattle.journal_controls.specs.LineSteps.{keyed_on, turn_now}
 use Rattle.journal_controls.specs.LinesDue.{due_saying, due_seen, due_with, lines_due}
 use Rattle.journal_due.specs.EachLine.{IsDueLine, is_of_procedures}
@@ -33,35 +33,35 @@ use Rattle.journal_due.proofs.DueSteps.{turn_stays}
 
 -- ---- a line of this side, and of no procedure
 
-pub record IsPlainLine (side : Side) (line : Entry) : Type 0 where
+pub record IsPlainLine (words : Words) (side : Side) (line : Entry) : Type 0 where
   pub is : (number : ℕ) → procedure_line number line ≡ None
   pub own : side_of_line line ≡ Some side
   pub none : applied_in line ≡ None
-  pub quiet : (front : List Entry) → applied_by side front line ≡ None
+  pub quiet : (front : List Entry) → applied_by words side front line ≡ None
   pub no_turn : pair_openings_in line ≡ []
-  pub leaves : (front : List Entry) (number : ℕ) → lines_due side number front ≡ [] → lines_due side number (front ++ line ∷ []) ≡ []
+  pub leaves : (front : List Entry) (number : ℕ) → lines_due words side number front ≡ [] → lines_due words side number (front ++ line ∷ []) ≡ []
 
-said_none : (side other : Side) (same : Bool) (number : ℕ) (front : List Entry) (line : Entry) (k : Keyed) (due : List Entry) → due ≡ []
-    → due_saying side number (drawn_by side front) (turn_now front) k due line ≡ []
-    → fold (due_seen side number front line k) due (map Says (of_side side other (if same then line ∷ [] else []))) ≡ []
-said_none A A true number front line k due none saying = saying
-said_none A A false number front line k due none saying = none
-said_none A B same number front line k due none saying = none
-said_none B A same number front line k due none saying = none
-said_none B B true number front line k due none saying = saying
-said_none B B false number front line k due none saying = none
+said_none : (words : Words) (side other : Side) (same : Bool) (number : ℕ) (front : List Entry) (line : Entry) (k : Keyed) (due : List Entry) → due ≡ []
+    → due_saying side number (words side front) (turn_now front) k due line ≡ []
+    → fold (due_seen words side number front line k) due (map Says (of_side side other (if same then line ∷ [] else []))) ≡ []
+said_none words A A true number front line k due none saying = saying
+said_none words A A false number front line k due none saying = none
+said_none words A B same number front line k due none saying = none
+said_none words B A same number front line k due none saying = none
+said_none words B B true number front line k due none saying = saying
+said_none words B B false number front line k due none saying = none
 
-leaves_if : (side : Side) (link number : ℕ) (front : List Entry) (line : Entry)
-    → seen_in_line side number front line ≡ map Says (of_side side side (if link == number then line ∷ [] else []))
-    → ((k : Keyed) (due : List Entry) → due_saying side number (drawn_by side front) (turn_now front) k due line ≡ []) → lines_due side number front ≡ []
-    → lines_due side number (front ++ line ∷ []) ≡ []
-leaves_if side link number front line seen saying none = due_more side number front line ∙ by (keyed_on side number front)
+leaves_if : (words : Words) (side : Side) (link number : ℕ) (front : List Entry) (line : Entry)
+    → seen_in_line words side number front line ≡ map Says (of_side side side (if link == number then line ∷ [] else []))
+    → ((k : Keyed) (due : List Entry) → due_saying side number (words side front) (turn_now front) k due line ≡ []) → lines_due words side number front ≡ []
+    → lines_due words side number (front ++ line ∷ []) ≡ []
+leaves_if words side link number front line seen saying none = due_more words side number front line ∙ by (keyed_on words side number front)
   where
-    by : (found : Option Keyed) → due_with side number front line (lines_due side number front) found ≡ []
+    by : (found : Option Keyed) → due_with words side number front line (lines_due words side number front) found ≡ []
     by None = refl
     by (Some k) =
-        ap (fold (due_seen side number front line k) (lines_due side number front)) seen
-        ∙ said_none side side (link == number) number front line k (lines_due side number front) none (saying k (lines_due side number front))
+        ap (fold (due_seen words side number front line k) (lines_due words side number front)) seen
+        ∙ said_none words side side (link == number) number front line k (lines_due words side number front) none (saying k (lines_due words side number front))
 
 abbrev pub is_plain : Note → Bool
 is_plain (Up packet) = true
@@ -73,80 +73,80 @@ is_plain note = false
 abbrev pub IsPlain : Note → Type 0
 IsPlain note = is_plain note ≡ true
 
-pub note_plain : (side : Side) (link_of : ℕ → ℕ) (last : ℕ) (note : Note) → IsPlain note → IsPlainLine side (entry_of side link_of last note)
-note_plain side link_of last (Up packet) plain = record {
+pub note_plain : (words : Words) (side : Side) (link_of : ℕ → ℕ) (last : ℕ) (note : Note) → IsPlain note → IsPlainLine words side (entry_of side link_of last note)
+note_plain words side link_of last (Up packet) plain = record {
   is = λ number. refl;
   own = refl;
   none = refl;
   quiet = λ front. refl;
   no_turn = refl;
-  leaves = λ front number none. packet_due side side number front packet.items ∙ none;
+  leaves = λ front number none. packet_due words side side number front packet.items ∙ none;
 }
-note_plain side link_of last (Opened handle role own peer) plain = record {
+note_plain words side link_of last (Opened handle role own peer) plain = record {
   is = λ number. refl;
   own = refl;
   none = refl;
   quiet = λ front. refl;
   no_turn = refl;
-  leaves = λ front number none. leaves_if side last number front _ refl (λ k due. refl) none;
+  leaves = λ front number none. leaves_if words side last number front _ refl (λ k due. refl) none;
 }
-note_plain side link_of last (Shut handle reason) plain = record {
+note_plain words side link_of last (Shut handle reason) plain = record {
   is = λ number. refl;
   own = refl;
   none = refl;
   quiet = λ front. refl;
   no_turn = refl;
-  leaves = λ front number none. leaves_if side (link_of handle) number front _ refl (λ k due. refl) none;
+  leaves = λ front number none. leaves_if words side (link_of handle) number front _ refl (λ k due. refl) none;
 }
-note_plain side link_of last (Sent handle count llid body) plain = record {
+note_plain words side link_of last (Sent handle count llid body) plain = record {
   is = λ number. refl;
   own = refl;
   none = refl;
   quiet = λ front. refl;
   no_turn = refl;
-  leaves = λ front number none. leaves_if side (link_of handle) number front _ refl (λ k due. refl) none;
+  leaves = λ front number none. leaves_if words side (link_of handle) number front _ refl (λ k due. refl) none;
 }
-note_plain side link_of last note plain = absurd cc
+note_plain words side link_of last note plain = absurd cc
 
-pub plain_rests : (side : Side) (front : List Entry) (line : Entry) → IsPlainLine side line → RestsAt side front → RestsAt side (front ++ line ∷ [])
-plain_rests side front line plain rests = record {
+pub plain_rests : (words : Words) (side : Side) (front : List Entry) (line : Entry) → IsPlainLine words side line → RestsAt words side front → RestsAt words side (front ++ line ∷ [])
+plain_rests words side front line plain rests = record {
   procedures = λ number. plain.leaves front number (rests.procedures number);
   indication = own_applied side front line plain.own ∙ plain.none;
 }
 
-pub plain_due : (side : Side) (front : List Entry) (line : Entry) → IsPlainLine side line → RestsAt side front → IsDueLine side front line
-plain_due side front line plain rests = record {
+pub plain_due : (words : Words) (side : Side) (front : List Entry) (line : Entry) → IsPlainLine words side line → RestsAt words side front → IsDueLine words side front line
+plain_due words side front line plain rests = record {
   procedures = λ number. plain.is number ∙ ap first_of (sym (rests.procedures number));
   indication = rests.indication ∙ sym (plain.quiet front);
 }
 
-pub plain_told : (side : Side) (front lines : List Entry) → AllByRecursion (IsPlainLine side) lines → RestsAt side front → AreAllTold side front lines
-plain_told side front [] all rests = no_lines side front rests
-plain_told side front (line ∷ lines) all rests =
-    line_then side front lines line (λ own. plain_due side front line all.0 rests, tt) (turn_stays front line all.0.no_turn)
-    (plain_told side (front ++ line ∷ []) lines all.1 (plain_rests side front line all.0 rests))
+pub plain_told : (words : Words) (side : Side) (front lines : List Entry) → AllByRecursion (IsPlainLine words side) lines → RestsAt words side front → AreAllTold words side front lines
+plain_told words side front [] all rests = no_lines words side front rests
+plain_told words side front (line ∷ lines) all rests =
+    line_then words side front lines line (λ own. plain_due words side front line all.0 rests, tt) (turn_stays front line all.0.no_turn)
+    (plain_told words side (front ++ line ∷ []) lines all.1 (plain_rests words side front line all.0 rests))
 
 -- ---- an end that neither enters an event nor takes a packet
 
-mapped_plain : (side : Side) (number : ℕ) (notes : List Note) → AllByRecursion (λ note. IsPlainLine side (line_of side number note)) notes
-    → AllByRecursion (IsPlainLine side) (map (line_of side number) notes)
-mapped_plain side number [] all = tt
-mapped_plain side number (note ∷ notes) all = (all.0, mapped_plain side number notes all.1)
+mapped_plain : (words : Words) (side : Side) (number : ℕ) (notes : List Note) → AllByRecursion (λ note. IsPlainLine words side (line_of side number note)) notes
+    → AllByRecursion (IsPlainLine words side) (map (line_of side number) notes)
+mapped_plain words side number [] all = tt
+mapped_plain words side number (note ∷ notes) all = (all.0, mapped_plain words side number notes all.1)
 
-pub other_step_told : (side : Side) (number : ℕ) (setup : Setup) (facts : Facts) (step : Step) (front : List Entry) → is_of_procedures step ≡ false → RestsAt side front
-    → AreAllTold side front (map (line_of side number) (notes_after setup facts step))
-other_step_told side number setup facts (EventEntered slot) front none rests = absurd cc
-other_step_told side number setup facts (PacketReceived slot octets room) front none rests = absurd cc
-other_step_told side number setup facts (PacketSent slot) front none rests =
-    plain_told side front (map (line_of side number) (sent_notes setup facts)) (mapped_plain side number (sent_notes setup facts)
-    (sent_each (λ note. IsPlainLine side (line_of side number note)) setup facts (λ count llid body. note_plain side (λ handle. number) number (Sent setup.link.handle count llid _) refl))) rests
-other_step_told side number setup facts step front none rests = no_lines side front rests
+pub other_step_told : (words : Words) (side : Side) (number : ℕ) (setup : Setup) (facts : Facts) (step : Step) (front : List Entry) → is_of_procedures step ≡ false → RestsAt words side front
+    → AreAllTold words side front (map (line_of side number) (notes_after setup facts step))
+other_step_told words side number setup facts (EventEntered slot) front none rests = absurd cc
+other_step_told words side number setup facts (PacketReceived slot octets room) front none rests = absurd cc
+other_step_told words side number setup facts (PacketSent slot) front none rests =
+    plain_told words side front (map (line_of side number) (sent_notes setup facts)) (mapped_plain words side number (sent_notes setup facts)
+    (sent_each (λ note. IsPlainLine words side (line_of side number note)) setup facts (λ count llid body. note_plain words side (λ handle. number) number (Sent setup.link.handle count llid _) refl))) rests
+other_step_told words side number setup facts step front none rests = no_lines words side front rests
 
 -- ---- a line of the other side
 
-pub record IsOtherLine (side : Side) (line : Entry) : Type 0 where
+pub record IsOtherLine (words : Words) (side : Side) (line : Entry) : Type 0 where
   pub other : is_same_side (side_of_line line) side ≡ false
-  pub unseen : (number : ℕ) (front : List Entry) → seen_in_line side number front line ≡ []
+  pub unseen : (number : ℕ) (front : List Entry) → seen_in_line words side number front line ≡ []
 
 other_none : {X : Type 0} (side other : Side) (values : List X) → is_side other side ≡ false → of_side side other values ≡ []
 other_none A A values differs = absurd cc
@@ -154,24 +154,24 @@ other_none A B values differs = refl
 other_none B A values differs = refl
 other_none B B values differs = absurd cc
 
-pub note_other : (side other : Side) (link_of : ℕ → ℕ) (last : ℕ) (note : Note) → is_side other side ≡ false → IsOtherLine side (entry_of other link_of last note)
-note_other side other link_of last (Up packet) differs = record {
+pub note_other : (words : Words) (side other : Side) (link_of : ℕ → ℕ) (last : ℕ) (note : Note) → is_side other side ≡ false → IsOtherLine words side (entry_of other link_of last note)
+note_other words side other link_of last (Up packet) differs = record {
   other = differs;
-  unseen = λ number front. append-nil (asked_in_line side number front (UpLine other packet.items))
-      ∙ unasked_by side number front (UpLine other packet.items) (ap answer_statuses (other_none side other (packet.items ∷ []) differs));
+  unseen = λ number front. append-nil (asked_in_line words side number front (UpLine other packet.items))
+      ∙ unasked_by words side number front (UpLine other packet.items) (ap answer_statuses (other_none side other (packet.items ∷ []) differs));
 }
-note_other side other link_of last note differs = record { other = differs; unseen = λ number front. ap (map Says) (other_none side other _ differs) }
+note_other words side other link_of last note differs = record { other = differs; unseen = λ number front. ap (map Says) (other_none side other _ differs) }
 
-pub other_due : (side : Side) (front : List Entry) (line : Entry) → is_same_side (side_of_line line) side ≡ false → side_of_line line ≡ Some side → IsDueLine side front line
-other_due side front line other own = absurd (let h : true ≡ false = sym (ap (λ one. is_same_side one side) own ∙ own_side side) ∙ other in absurd cc)
+pub other_due : (words : Words) (side : Side) (front : List Entry) (line : Entry) → is_same_side (side_of_line line) side ≡ false → side_of_line line ≡ Some side → IsDueLine words side front line
+other_due words side front line other own = absurd (let h : true ≡ false = sym (ap (λ one. is_same_side one side) own ∙ own_side side) ∙ other in absurd cc)
 
 -- what is due to a side stays
-pub record StaysDue (side : Side) (front after : List Entry) : Type 0 where
-  pub procedures : (number : ℕ) → lines_due side number after ≡ lines_due side number front
+pub record StaysDue (words : Words) (side : Side) (front after : List Entry) : Type 0 where
+  pub procedures : (number : ℕ) → lines_due words side number after ≡ lines_due words side number front
   pub indication : applied_last side after ≡ applied_last side front
 
-pub other_stays : (side : Side) (front : List Entry) (line : Entry) → IsOtherLine side line → StaysDue side front (front ++ line ∷ [])
-other_stays side front line other = record {
-  procedures = λ number. quiet_due side number front line (other.unseen number front);
+pub other_stays : (words : Words) (side : Side) (front : List Entry) (line : Entry) → IsOtherLine words side line → StaysDue words side front (front ++ line ∷ [])
+other_stays words side front line other = record {
+  procedures = λ number. quiet_due words side number front line (other.unseen number front);
   indication = other_applied side front line other.other;
 }

@@ -24,6 +24,7 @@ use Rattle.journal_controls.proofs.controller_model.ProcedureEvents.{AreOfProced
 use Rattle.journal_controls.proofs.host_answers.AnswerStatuses.{reads_statuses}
 use Rattle.journal_controls.specs.host_answers.Answered.{accepted_in, answer_statuses}
 use Rattle.journal_controls.proofs.journal_ends.SeenEvents.{unaccepted_by, unanswered_in, unasked_in}
+use Rattle.journal_controls.specs.journal_ends.Asked.{Words}
 use Rattle.journal_controls.specs.journal_ends.Seen.{asked_in_line, seen_in_line}
 use Rattle.journal_controls.specs.run_model.Readers.{of_side}
 use Rattle.journal_controls.specs.journal_links.LinkLines.{line_of}
@@ -78,24 +79,24 @@ no_answers (event ∷ events) are = (no_answer event are.0, no_answers events ar
 
 -- ---- lines of one station, with the numbers of its links
 
-module _ (side : Side) (link_of : ℕ → ℕ) (last : ℕ) where
+module _ (words : Words) (side : Side) (link_of : ℕ → ℕ) (last : ℕ) where
   abbrev pub line : Note → Entry
   line note = entry_of side link_of last note
 
-  pub plain_lines : (notes : List Note) → All IsPlain notes → AllByRecursion (IsPlainLine side) (map line notes)
+  pub plain_lines : (notes : List Note) → All IsPlain notes → AllByRecursion (IsPlainLine words side) (map line notes)
   plain_lines [] all = tt
-  plain_lines (note ∷ notes) all = (note_plain side link_of last note (All-head IsPlain note notes all), plain_lines notes (All-tail IsPlain note notes all))
+  plain_lines (note ∷ notes) all = (note_plain words side link_of last note (All-head IsPlain note notes all), plain_lines notes (All-tail IsPlain note notes all))
 
   -- ---- events for the host
 
-  ups_told : (events : List Event) (front : List Entry) → RestsAt side front → AreAllTold side front (map line (map (λ event. Up (record { items = written event })) events))
-  ups_told events front rests = plain_told side front _ (ups_plain events) rests
+  ups_told : (events : List Event) (front : List Entry) → RestsAt words side front → AreAllTold words side front (map line (map (λ event. Up (record { items = written event })) events))
+  ups_told events front rests = plain_told words side front _ (ups_plain events) rests
     where
-      ups_plain : (events : List Event) → AllByRecursion (IsPlainLine side) (map line (map (λ event. Up (record { items = written event })) events))
+      ups_plain : (events : List Event) → AllByRecursion (IsPlainLine words side) (map line (map (λ event. Up (record { items = written event })) events))
       ups_plain [] = tt
-      ups_plain (event ∷ events) = (note_plain side link_of last (Up (record { items = written event })) refl, ups_plain events)
+      ups_plain (event ∷ events) = (note_plain words side link_of last (Up (record { items = written event })) refl, ups_plain events)
 
-  pub events_told : (view : View) (events : List Event) (front : List Entry) → RestsAt side front → AreAllTold side front (map line (notes_of_events view events))
+  pub events_told : (view : View) (events : List Event) (front : List Entry) → RestsAt words side front → AreAllTold words side front (map line (notes_of_events view events))
   events_told view events front rests = ups_told (filter (λ event. passes view (mask_bit_of event)) events) front rests
 
   -- an event that is no answer tells of nothing that a host asks
@@ -106,10 +107,10 @@ module _ (side : Side) (link_of : ℕ → ℕ) (last : ℕ) where
       by A = ap (λ xs. xs ++ []) (reads_statuses.event event is)
       by B = ap (λ xs. xs ++ []) (reads_statuses.event event is)
 
-  event_silent : (front : List Entry) (number : ℕ) (event : Event) → IsNoAnswer event → seen_in_line side number front (line (Up (record { items = written event }))) ≡ []
+  event_silent : (front : List Entry) (number : ℕ) (event : Event) → IsNoAnswer event → seen_in_line words side number front (line (Up (record { items = written event }))) ≡ []
   event_silent front number event is =
-      append-nil (asked_in_line side number front (line (Up (record { items = written event }))))
-      ∙ unasked_in side number front (line (Up (record { items = written event }))) (event_accepts front event is)
+      append-nil (asked_in_line words side number front (line (Up (record { items = written event }))))
+      ∙ unasked_in words side number front (line (Up (record { items = written event }))) (event_accepts front event is)
 
   passed_no_answers : (view : View) (events : List Event) → AllByRecursion IsNoAnswer events → AllByRecursion IsNoAnswer (filter (λ event. passes view (mask_bit_of event)) events)
   passed_no_answers view [] are = tt
@@ -121,29 +122,29 @@ module _ (side : Side) (link_of : ℕ → ℕ) (last : ℕ) where
       by false later = later
 
   pub events_keep : (view : View) (events : List Event) (front : List Entry) (number : ℕ) → AllByRecursion IsNoAnswer events
-      → keyed_on side number (front ++ map line (notes_of_events view events)) ≡ keyed_on side number front
+      → keyed_on words side number (front ++ map line (notes_of_events view events)) ≡ keyed_on words side number front
   events_keep view events front number are = by (filter (λ event. passes view (mask_bit_of event)) events) front (passed_no_answers view events are)
     where
       by : (events : List Event) (front : List Entry) → AllByRecursion IsNoAnswer events
-          → keyed_on side number (front ++ map line (map (λ event. Up (record { items = written event })) events)) ≡ keyed_on side number front
-      by [] front are = ap (keyed_on side number) (append-nil front)
+          → keyed_on words side number (front ++ map line (map (λ event. Up (record { items = written event })) events)) ≡ keyed_on words side number front
+      by [] front are = ap (keyed_on words side number) (append-nil front)
       by (event ∷ events) front are =
           let up = line (Up (record { items = written event })) in
-          ap (keyed_on side number) (sym (append_assoc front (up ∷ []) _))
+          ap (keyed_on words side number) (sym (append_assoc front (up ∷ []) _))
           ∙ by events (front ++ up ∷ []) are.1
-          ∙ keyed_more side number front up
-          ∙ quiet_line side number front (keyed_on side number front) up (event_silent front number event are.0)
-          (unanswered_in side number front up (event_accepts front event are.0))
+          ∙ keyed_more words side number front up
+          ∙ quiet_line words side number front (keyed_on words side number front) up (event_silent front number event are.0)
+          (unanswered_in words side number front up (event_accepts front event are.0))
 
   -- ---- an event of one link
 
   own_keep : (own other : ℕ) (lines front : List Entry) → AllByRecursion (IsOwnLine side own) lines → (own == other) ≡ false
-      → keyed_on side other (front ++ lines) ≡ keyed_on side other front
-  own_keep own other [] front all apart = ap (keyed_on side other) (append-nil front)
+      → keyed_on words side other (front ++ lines) ≡ keyed_on words side other front
+  own_keep own other [] front all apart = ap (keyed_on words side other) (append-nil front)
   own_keep own other (one ∷ lines) front all apart =
-      ap (keyed_on side other) (sym (append_assoc front (one ∷ []) lines))
+      ap (keyed_on words side other) (sym (append_assoc front (one ∷ []) lines))
       ∙ own_keep own other lines (front ++ one ∷ []) all.1 apart
-      ∙ keyed_apart side own other front one all.0 apart
+      ∙ keyed_apart words side own other front one all.0 apart
 
   -- its lines are those of its notes
   pub same_lines : (handle : ℕ) (notes : List Note) → AllByRecursion (λ note. line note ≡ line_of side (link_of handle) note) notes
@@ -181,25 +182,25 @@ module _ (side : Side) (link_of : ℕ → ℕ) (last : ℕ) where
       }
 
   entry_told : (handle slot : ℕ) (enters : Bool) (link : OpenLink) (front : List Entry) → turn_now front ≡ slot → link.setup.link.handle ≡ handle
-      → keyed_on side (link_of handle) front ≡ Some (keyed_of (facts_in link)) → RestsAt side front → AreAllTold side front (map line (notes_if enters slot link))
-  entry_told handle slot false link front now is keyed rests = no_lines side front rests
+      → keyed_on words side (link_of handle) front ≡ Some (keyed_of (facts_in link)) → RestsAt words side front → AreAllTold words side front (map line (notes_if enters slot link))
+  entry_told handle slot false link front now is keyed rests = no_lines words side front rests
   entry_told handle slot true link front now is keyed rests =
-      subst (λ lines. AreAllTold side front lines) (sym (entry_of_link handle slot true link is).lines_are)
-      (subst (λ one. AreAllTold side front (map (line_of side (link_of handle)) (notes_after link.setup (facts_in link) (EventEntered one)))) now
-      (entering_told side (link_of handle) link.setup (facts_in link) front keyed rests))
+      subst (λ lines. AreAllTold words side front lines) (sym (entry_of_link handle slot true link is).lines_are)
+      (subst (λ one. AreAllTold words side front (map (line_of side (link_of handle)) (notes_after link.setup (facts_in link) (EventEntered one)))) now
+      (entering_told words side (link_of handle) link.setup (facts_in link) front keyed rests))
 
   -- ---- all links enter their events
 
   -- the open links from a handle on: their handles and numbers, and what they are by the lines so far
   pub record AreKnownFrom (first : ℕ) (links : Links) (front : List Entry) : Type 0 where
     pub handles : (handle : ℕ) (link : OpenLink) → link_from first handle links ≡ Some link → link.setup.link.handle ≡ handle
-    pub controls : (handle : ℕ) (link : OpenLink) → link_from first handle links ≡ Some link → keyed_on side (link_of handle) front ≡ Some (keyed_of (facts_in link))
+    pub controls : (handle : ℕ) (link : OpenLink) → link_from first handle links ≡ Some link → keyed_on words side (link_of handle) front ≡ Some (keyed_of (facts_in link))
     pub numbers : (one other : ℕ) (a b : OpenLink) → link_from first one links ≡ Some a → link_from first other links ≡ Some b → (one == other) ≡ false
         → (link_of one == link_of other) ≡ false
 
   -- the later ones, by lines that move none of them
   later_known : (first : ℕ) (place : Option OpenLink) (links : Links) (front after : List Entry) → AreKnownFrom first (place ∷ links) front
-      → ((handle : ℕ) (link : OpenLink) → link_from (first + 1) handle links ≡ Some link → keyed_on side (link_of handle) after ≡ keyed_on side (link_of handle) front)
+      → ((handle : ℕ) (link : OpenLink) → link_from (first + 1) handle links ≡ Some link → keyed_on words side (link_of handle) after ≡ keyed_on words side (link_of handle) front)
       → AreKnownFrom (first + 1) links after
   later_known first place links front after known keep = record {
     handles = λ handle link at. known.handles handle link (at_later first handle place links link at);
@@ -207,9 +208,9 @@ module _ (side : Side) (link_of : ℕ → ℕ) (last : ℕ) where
     numbers = λ one other a b at at_too differs. known.numbers one other a b (at_later first one place links a at) (at_later first other place links b at_too) differs;
   }
 
-  pub all_told : (view : View) (slot first : ℕ) (links : Links) (front : List Entry) → turn_now front ≡ slot → AreKnownFrom first links front → RestsAt side front
-      → AreAllTold side front (map line (notes_all_entering view slot first links))
-  all_told view slot first [] front now known rests = no_lines side front rests
+  pub all_told : (view : View) (slot first : ℕ) (links : Links) (front : List Entry) → turn_now front ≡ slot → AreKnownFrom first links front → RestsAt words side front
+      → AreAllTold words side front (map line (notes_all_entering view slot first links))
+  all_told view slot first [] front now known rests = no_lines words side front rests
   all_told view slot first (None ∷ links) front now known rests =
       all_told view slot (first + 1) links front now (later_known first None links front front known (λ handle link at. refl)) rests
   all_told view slot first (Some link ∷ links) front now known rests =
@@ -228,6 +229,6 @@ module _ (side : Side) (link_of : ℕ → ℕ) (last : ℕ) where
       ∙ own_keep (link_of first) (link_of handle) (map line entry) front (entry_of_link first slot enters link handle_is).are_own
       (known.numbers first handle link later here (at_later first handle (Some link) links later at) (apart_from first handle (from_first (first + 1) handle links later at))) in
       let three = all_told view slot (first + 1) links next (two.turn_is ∙ one.turn_is ∙ now) (later_known first (Some link) links front next known keep) two.left in
-      subst (λ lines. AreAllTold side front lines) (sym (map-append line (entry ++ events) rest ∙ ap (λ lines. lines ++ map line rest) (map-append line entry events)))
-      (told_both side front (map line entry ++ map line events) (map line rest) (told_both side front (map line entry) (map line events) one two)
-      (subst (λ xs. AreAllTold side xs (map line rest)) (append_assoc front (map line entry) (map line events)) three))
+      subst (λ lines. AreAllTold words side front lines) (sym (map-append line (entry ++ events) rest ∙ ap (λ lines. lines ++ map line rest) (map-append line entry events)))
+      (told_both words side front (map line entry ++ map line events) (map line rest) (told_both words side front (map line entry) (map line events) one two)
+      (subst (λ xs. AreAllTold words side xs (map line rest)) (append_assoc front (map line entry) (map line events)) three))

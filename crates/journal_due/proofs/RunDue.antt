@@ -8,6 +8,8 @@ use Rattle.ble_base.specs.declared.roles.Side.TheVariants.{A, B}
 use Rattle.journal.specs.declared.entries.Entry.{Entry}
 use Rattle.journal.specs.declared.entries.Entry.TheVariants.{Fed}
 use Rattle.journal_controls.specs.LinesDue.{lines_due}
+use Rattle.journal_controls.specs.journal_ends.Asked.{Words}
+use Rattle.journal_controls.specs.journal_ends.GivenWords.{GivesWords}
 use Rattle.journal_controls.specs.run_model.Due.{Each}
 use Rattle.journal_controls.specs.run_model.History.{Event, Called, HostFed, Noted, Transmitted, TurnBegan, packet_received}
 use Rattle.journal_controls.specs.run_model.Journal.{entries_of, entry_of, journal_of, side_of}
@@ -33,13 +35,13 @@ use Rattle.journal_due.proofs.KeptDue.{AreDueAt, KnowsControls, NoneDueIn, Rests
 
 -- ---- one line of many
 
-due_at : (side : Side) (front lines before rest : List Entry) (line : Entry) → AreDueLines side front lines → lines ≡ before ++ line ∷ rest → side_of_line line ≡ Some side
-    → IsDueLine side (front ++ before) line
-due_at side front lines [] rest line all is own =
-    subst (λ xs. IsDueLine side xs line) (sym (append-nil front)) ((subst (λ xs. AreDueLines side front xs) is all).0 own)
-due_at side front lines (first ∷ before) rest line all is own =
-    subst (λ xs. IsDueLine side xs line) (append_assoc front (first ∷ []) before)
-    (due_at side (front ++ first ∷ []) (before ++ line ∷ rest) before rest line (subst (λ xs. AreDueLines side front xs) is all).1 refl own)
+due_at : (words : Words) (side : Side) (front lines before rest : List Entry) (line : Entry) → AreDueLines words side front lines → lines ≡ before ++ line ∷ rest → side_of_line line ≡ Some side
+    → IsDueLine words side (front ++ before) line
+due_at words side front lines [] rest line all is own =
+    subst (λ xs. IsDueLine words side xs line) (sym (append-nil front)) ((subst (λ xs. AreDueLines words side front xs) is all).0 own)
+due_at words side front lines (first ∷ before) rest line all is own =
+    subst (λ xs. IsDueLine words side xs line) (append_assoc front (first ∷ []) before)
+    (due_at words side (front ++ first ∷ []) (before ++ line ∷ rest) before rest line (subst (λ xs. AreDueLines words side front xs) is all).1 refl own)
 
 -- ---- the line of a turn or of a packet
 
@@ -47,14 +49,14 @@ note_no_part : (side : Side) (link_of : ℕ → ℕ) (last : ℕ) (note : Note) 
 note_no_part side link_of last (Up packet) = refl
 note_no_part side link_of last note = refl
 
-left_by : (given : Given) (before : List Event) (links : Links) (event : Event) (line : Entry) → entries_of links event ≡ line ∷ [] → is_turn_or_packet line ≡ true
-    → RestsBefore given before event → NoneDueIn given before
-left_by given before links (TurnBegan slot radios) line is on rests = rests
-left_by given before links (Transmitted station channel octets hearings) line is on rests = rests
-left_by given before links (HostFed station octets) line is on rests =
+left_by : (words : Words) (given : Given) (before : List Event) (links : Links) (event : Event) (line : Entry) → entries_of links event ≡ line ∷ [] → is_turn_or_packet line ≡ true
+    → RestsBefore words given before event → NoneDueIn words given before
+left_by words given before links (TurnBegan slot radios) line is on rests = rests
+left_by words given before links (Transmitted station channel octets hearings) line is on rests = rests
+left_by words given before links (HostFed station octets) line is on rests =
     let same : Fed (side_of station) octets ≡ line = cc in absurd (let h : true ≡ false = sym on ∙ sym (ap is_turn_or_packet same) in absurd cc)
-left_by given before links (Called station step) line is on rests = absurd cc
-left_by given before links (Noted station note) line is on rests =
+left_by words given before links (Called station step) line is on rests = absurd cc
+left_by words given before links (Noted station note) line is on rests =
     let same : entry_of (side_of station) (links.link_of station) (links.last_of station) note ≡ line = cc in
     absurd (let h : true ≡ false = sym on ∙ sym (ap is_turn_or_packet same) ∙ note_no_part (side_of station) (links.link_of station) (links.last_of station) note in absurd cc)
 
@@ -64,21 +66,21 @@ no_packet : (station : ℕ) → packet_received station [] ≡ None
 unfolding packet_received
 no_packet station = refl
 
-rests_first : (side : Side) → RestsAt side (journal_of [])
+rests_first : (words : Words) (side : Side) → RestsAt words side (journal_of [])
 unfolding journal_of lines_due applied_last
-rests_first side = record { procedures = λ number. refl; indication = refl }
+rests_first words side = record { procedures = λ number. refl; indication = refl }
 
-each_first : (side : Side) → AreDueBy side []
+each_first : (words : Words) (side : Side) → AreDueBy words side []
 unfolding journal_of
-each_first side = tt
+each_first words side = tt
 
-dues_first : (given : Given) → AreDueAt given NoTurn []
-dues_first given = record {
-  seen = seen_first given;
+dues_first : (words : Words) (given : Given) → AreDueAt words given NoTurn []
+dues_first words given = record {
+  seen = seen_first words given;
   lined = lines_first given;
   due = λ station in_it. record {
-    each = each_first (side_of station);
-    ahead = rests_ahead given station [] (packet_received station []) (no_packet station) (rests_first (side_of station));
+    each = each_first words (side_of station);
+    ahead = rests_ahead words given station [] (packet_received station []) (no_packet station) (rests_first words (side_of station));
   };
   rests = tt;
 }
@@ -86,25 +88,25 @@ dues_first given = record {
 -- ---- a run
 
 -- of all stations, wherever a run ends
-record AreDone (given : Given) (history : List Event) : Type 0 where
-  each : (station : ℕ) → is_in station given.stations ≡ true → AreDueBy (side_of station) history
-  rests : NoneDueIn given history
-  before : Each (RestsBefore given) [] history
+record AreDone (words : Words) (given : Given) (history : List Event) : Type 0 where
+  each : (station : ℕ) → is_in station given.stations ≡ true → AreDueBy words (side_of station) history
+  rests : NoneDueIn words given history
+  before : Each (RestsBefore words given) [] history
 
-module _ (heard_whole : IsHeardWhole) (understood : IsUnderstood) (taken : AreTaken) (nth : AreNth) (apart : AreApart) (given : Given) (are_two : IsOfTwo given)
-    (six : HaveAddresses given) (knows : KnowsControls given) where
-  done : AreDone given (history_of (run_of given))
+module _ (words : Words) (heard_whole : IsHeardWhole) (understood : IsUnderstood) (taken : AreTaken) (nth : AreNth) (apart : AreApart) (given : Given) (are_two : IsOfTwo given)
+    (six : HaveAddresses given) (gives : GivesWords given words) (knows : KnowsControls words given) where
+  done : AreDone words given (history_of (run_of given))
   done =
-      ends_with (run_of given) (IsWhole given (AreDueAt given)) (IsStopped given (AreDueAt given)) (AreDone given)
-      (run_kept given (AreDueAt given) (dues_kept heard_whole understood taken nth apart given are_two six knows) (dues_first given))
+      ends_with (run_of given) (IsWhole given (AreDueAt words given)) (IsStopped given (AreDueAt words given)) (AreDone words given)
+      (run_kept given (AreDueAt words given) (dues_kept words heard_whole understood taken nth apart given are_two six gives knows) (dues_first words given))
       (λ history whole. record {
         each = λ station in_it. (whole.is.due station in_it).each;
-        rests = λ station in_it. ahead_rests given station history (packet_received station history) (whole.is.seen.holds.hearing.hears station in_it) (whole.is.due station in_it).ahead;
+        rests = λ station in_it. ahead_rests words given station history (packet_received station history) (whole.is.seen.holds.hearing.hears station in_it) (whole.is.due station in_it).ahead;
         before = whole.is.rests;
       })
       (λ history stop stopped. record {
         each = λ station in_it. (stopped.kept.due station in_it).each;
-        rests = packet_rests given are_two stopped.phases stopped.done stopped.left stop.sender stop.channel stop.sent history stopped.stations_are stopped.is_wanted stopped.kept;
+        rests = packet_rests words given are_two stopped.phases stopped.done stopped.left stop.sender stop.channel stop.sent history stopped.stations_are stopped.is_wanted stopped.kept;
         before = stopped.kept.rests;
       })
 
@@ -116,34 +118,34 @@ module _ (heard_whole : IsHeardWhole) (understood : IsUnderstood) (taken : AreTa
   is_second : is_in 1 given.stations ≡ true
   is_second = ap (is_in 1) are_two
 
-  both_sides : (side : Side) → AreDueBy side (history_of (run_of given))
+  both_sides : (side : Side) → AreDueBy words side (history_of (run_of given))
   both_sides A = done.each 0 is_first
   both_sides B = done.each 1 is_second
 
-  both_rest : (history : List Event) → NoneDueIn given history → NoneIsDue (journal_of history)
+  both_rest : (history : List Event) → NoneDueIn words given history → NoneIsDue words (journal_of history)
   both_rest history rests = λ side. by side
     where
-      by : (side : Side) → RestsAt side (journal_of history)
+      by : (side : Side) → RestsAt words side (journal_of history)
       by A = rests 0 is_first
       by B = rests 1 is_second
 
-  pub procedures_due : AllProceduresAreDue (journal_of (history_of (run_of given)))
-  procedures_due front rest line side number is own = (due_at side [] (journal_of (history_of (run_of given))) front rest line (both_sides side) is own).procedures number
+  pub procedures_due : AllProceduresAreDue words (journal_of (history_of (run_of given)))
+  procedures_due front rest line side number is own = (due_at words side [] (journal_of (history_of (run_of given))) front rest line (both_sides side) is own).procedures number
 
-  pub indications_due : AllIndicationsAreDue (journal_of (history_of (run_of given)))
-  indications_due front rest line side is own = (due_at side [] (journal_of (history_of (run_of given))) front rest line (both_sides side) is own).indication
+  pub indications_due : AllIndicationsAreDue words (journal_of (history_of (run_of given)))
+  indications_due front rest line side is own = (due_at words side [] (journal_of (history_of (run_of given))) front rest line (both_sides side) is own).indication
 
-  pub none_before_turns : (before rest : List Event) (slot : ℕ) (radios : List Bool) → history_of (run_of given) ≡ before ++ TurnBegan slot radios ∷ rest → NoneIsDue (journal_of before)
+  pub none_before_turns : (before rest : List Event) (slot : ℕ) (radios : List Bool) → history_of (run_of given) ≡ before ++ TurnBegan slot radios ∷ rest → NoneIsDue words (journal_of before)
   none_before_turns before rest slot radios is =
-      both_rest before (each_at (RestsBefore given) (history_of (run_of given)) before rest (TurnBegan slot radios) done.before is)
+      both_rest before (each_at (RestsBefore words given) (history_of (run_of given)) before rest (TurnBegan slot radios) done.before is)
 
   -- and before each packet
-  pub none_left_out : NoneIsLeftOut (journal_of (history_of (run_of given)))
+  pub none_left_out : NoneIsLeftOut words (journal_of (history_of (run_of given)))
   none_left_out front rest line is on =
       let at = is_of_event (history_of (run_of given)) front rest line is in
-      subst (λ xs. NoneIsDue xs) (sym at.front_is)
-      (both_rest at.before (left_by given at.before (links_of at.before) at.event line at.entry_is on
-      (each_at (RestsBefore given) (history_of (run_of given)) at.before at.after at.event done.before at.is_at)))
+      subst (λ xs. NoneIsDue words xs) (sym at.front_is)
+      (both_rest at.before (left_by words given at.before (links_of at.before) at.event line at.entry_is on
+      (each_at (RestsBefore words given) (history_of (run_of given)) at.before at.after at.event done.before at.is_at)))
 
-  pub none_at_end : NoneIsDue (journal_of (history_of (run_of given)))
+  pub none_at_end : NoneIsDue words (journal_of (history_of (run_of given)))
   none_at_end = both_rest (history_of (run_of given)) done.rests

@@ -7,6 +7,7 @@ use Rattle.ble_base.specs.declared.roles.Side.{Side}
 use Rattle.journal.specs.declared.entries.Entry.{Entry}
 use Rattle.journal.specs.declared.entries.Entry.TheVariants.{Air, Applied, Began, Done, Enter, Fed, Refused, Turn}
 use Rattle.journal_controls.specs.LinesDue.{applied_due, lines_due}
+use Rattle.journal_controls.specs.journal_ends.Asked.{Words}
 use Rattle.journal_controls.specs.journal_packets.Belonging.{is_side}
 use Rattle.journal_controls.specs.run_model.Order.{side_of_note}
 
@@ -38,10 +39,10 @@ first_of [] = None
 first_of (line ∷ lines) = Some line
 
 -- the next line of a side is the one of a procedure that is due to it, on each link, and else it is none of a procedure
-abbrev pub AllProceduresAreDue : List Entry → Type 0
-AllProceduresAreDue journal = (front rest : List Entry) (line : Entry) (side : Side) (number : ℕ)
+abbrev pub AllProceduresAreDue : Words → List Entry → Type 0
+AllProceduresAreDue words journal = (front rest : List Entry) (line : Entry) (side : Side) (number : ℕ)
     → journal ≡ front ++ line ∷ rest → side_of_line line ≡ Some side
-    → procedure_line number line ≡ first_of (lines_due side number front)
+    → procedure_line number line ≡ first_of (lines_due words side number front)
 
 -- ---- an indication comes into force
 
@@ -68,26 +69,26 @@ abbrev pub applied_line : ℕ → ℕ → ℕ → AppliedLine
 applied_line link event number = record { link = link; indication = number; event = event }
 
 -- the indication that comes into force in the event of a line
-abbrev pub applied_by : Side → List Entry → Entry → Option AppliedLine
-applied_by side front (Enter other link event channel) =
-    option_map (applied_line link event) (applied_due side link front)
-applied_by side front line = None
+abbrev pub applied_by : Words → Side → List Entry → Entry → Option AppliedLine
+applied_by words side front (Enter other link event channel) =
+    option_map (applied_line link event) (applied_due words side link front)
+applied_by words side front line = None
 
 -- the line of an indication comes just before the line of the event from which it is in force, and nowhere else
-abbrev pub AllIndicationsAreDue : List Entry → Type 0
-AllIndicationsAreDue journal = (front rest : List Entry) (line : Entry) (side : Side) → journal ≡ front ++ line ∷ rest
-    → side_of_line line ≡ Some side → applied_last side front ≡ applied_by side front line
+abbrev pub AllIndicationsAreDue : Words → List Entry → Type 0
+AllIndicationsAreDue words journal = (front rest : List Entry) (line : Entry) (side : Side) → journal ≡ front ++ line ∷ rest
+    → side_of_line line ≡ Some side → applied_last side front ≡ applied_by words side front line
 
 -- ---- nothing of the kind is due
 
 -- to a side, on any link
-pub record RestsAt (side : Side) (front : List Entry) : Type 0 where
-  pub procedures : (number : ℕ) → lines_due side number front ≡ []
+pub record RestsAt (words : Words) (side : Side) (front : List Entry) : Type 0 where
+  pub procedures : (number : ℕ) → lines_due words side number front ≡ []
   pub indication : applied_last side front ≡ None
 
 -- to neither side
-abbrev pub NoneIsDue : List Entry → Type 0
-NoneIsDue front = (side : Side) → RestsAt side front
+abbrev pub NoneIsDue : Words → List Entry → Type 0
+NoneIsDue words front = (side : Side) → RestsAt words side front
 
 -- a turn begins, or a packet is on the air
 abbrev pub is_turn_or_packet : Entry → Bool
@@ -97,6 +98,6 @@ is_turn_or_packet line = false
 
 -- what is due is said before the next packet and before the next turn: a packet that an end hears may bring a line that
 -- is due then, in place of any before
-abbrev pub NoneIsLeftOut : List Entry → Type 0
-NoneIsLeftOut journal = (front rest : List Entry) (line : Entry) → journal ≡ front ++ line ∷ rest
-    → is_turn_or_packet line ≡ true → NoneIsDue front
+abbrev pub NoneIsLeftOut : Words → List Entry → Type 0
+NoneIsLeftOut words journal = (front rest : List Entry) (line : Entry) → journal ≡ front ++ line ∷ rest
+    → is_turn_or_packet line ≡ true → NoneIsDue words front

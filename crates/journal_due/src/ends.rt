@@ -16,22 +16,23 @@ ghost use Rattle.journal_controls.specs.link_model.Setup.{Setup};
 ghost use Rattle.journal_controls.specs.link_model.Step.{Step, EventEntered, PacketReceived};
 ghost use Rattle.journal_due.specs.EachLine.{AreDueLines, IsDueOn, is_of_procedures};
 ghost use Rattle.journal_due.specs.ProcedureLines.{RestsAt};
+ghost use Rattle.journal_controls.specs.journal_ends.Asked.{Words};
 
 /// After any journal that has the control part, the phase and the keys of an end, and by which
 /// nothing is due to its side, the lines of the end that enters an event are due: that of an indication just before the line of
 /// the event, and those of the procedure that is done, and of the one that begins, just after it.
 /// Then nothing is due again (Core 5.2, volume 6 part B, sections 4.5.1, 5.1 and 5.5).
 pub fn an_end_that_enters_an_event_says_what_is_due()
-    ensures each { (side : Side) (number : ℕ) (setup : Setup) (past : List Step)
+    ensures each { (words : Words) (side : Side) (number : ℕ) (setup : Setup) (past : List Step)
         (journal : List Entry) → let facts = facts_of setup past in
-        keyed_on side number journal ≡ Some (keyed_of facts) → RestsAt side journal
+        keyed_on words side number journal ≡ Some (keyed_of facts) → RestsAt words side journal
         → let notes = notes_after setup facts (EventEntered (turn_now journal)) in
-        AreDueLines side journal (map (line_of side number) notes) }
-    ensures left { (side : Side) (number : ℕ) (setup : Setup) (past : List Step)
+        AreDueLines words side journal (map (line_of side number) notes) }
+    ensures left { (words : Words) (side : Side) (number : ℕ) (setup : Setup) (past : List Step)
         (journal : List Entry) → let facts = facts_of setup past in
-        keyed_on side number journal ≡ Some (keyed_of facts) → RestsAt side journal
+        keyed_on words side number journal ≡ Some (keyed_of facts) → RestsAt words side journal
         → let notes = notes_after setup facts (EventEntered (turn_now journal)) in
-        RestsAt side (journal ++ map (line_of side number) notes) }
+        RestsAt words side (journal ++ map (line_of side number) notes) }
 {}
 
 /// After any journal that has the control part, the phase and the keys of an end as it looks at the
@@ -41,35 +42,35 @@ pub fn an_end_that_enters_an_event_says_what_is_due()
 /// of the one that it completes, and those of a PDU that was kept until then. Then nothing is due
 /// (Core 5.2, volume 6 part B, sections 4.5.9 and 5.1).
 pub fn an_end_that_takes_a_packet_says_what_is_due()
-    ensures each { (side : Side) (number : ℕ) (setup : Setup) (past : List Step)
+    ensures each { (words : Words) (side : Side) (number : ℕ) (setup : Setup) (past : List Step)
         (octets pdu : List ℕ) (room : Bool) (journal : List Entry)
         → let facts = facts_of setup past in let slot = turn_now journal in
         good_pdu setup facts octets ≡ Some pdu
-        → keyed_on side number journal
+        → keyed_on words side number journal
         ≡ Some (keyed_of (facts_before_taking setup.link.role slot (header_in pdu) facts))
-        → IsDueOn side number (due_hearing side number
+        → IsDueOn words side number (due_hearing side number
         (acks_control (has_acknowledged facts (header_in pdu)) facts) facts.control) journal
         → let notes = notes_after setup facts (PacketReceived slot octets room) in
-        AreDueLines side journal (map (line_of side number) notes) }
-    ensures left { (side : Side) (number : ℕ) (setup : Setup) (past : List Step)
+        AreDueLines words side journal (map (line_of side number) notes) }
+    ensures left { (words : Words) (side : Side) (number : ℕ) (setup : Setup) (past : List Step)
         (octets pdu : List ℕ) (room : Bool) (journal : List Entry)
         → let facts = facts_of setup past in let slot = turn_now journal in
         good_pdu setup facts octets ≡ Some pdu
-        → keyed_on side number journal
+        → keyed_on words side number journal
         ≡ Some (keyed_of (facts_before_taking setup.link.role slot (header_in pdu) facts))
-        → IsDueOn side number (due_hearing side number
+        → IsDueOn words side number (due_hearing side number
         (acks_control (has_acknowledged facts (header_in pdu)) facts) facts.control) journal
         → let notes = notes_after setup facts (PacketReceived slot octets room) in
-        RestsAt side (journal ++ map (line_of side number) notes) }
+        RestsAt words side (journal ++ map (line_of side number) notes) }
 {}
 
 /// In any other step an end says no line of a procedure and none of an indication, and nothing is
 /// due after it where nothing was due before.
 pub fn an_end_says_nothing_of_procedures_in_other_steps()
-    ensures each { (side : Side) (number : ℕ) (setup : Setup) (facts : Facts) (step : Step)
-        (journal : List Entry) → is_of_procedures step ≡ false → RestsAt side journal
-        → AreDueLines side journal (map (line_of side number) (notes_after setup facts step)) }
-    ensures left { (side : Side) (number : ℕ) (setup : Setup) (facts : Facts) (step : Step)
-        (journal : List Entry) → is_of_procedures step ≡ false → RestsAt side journal
-        → RestsAt side (journal ++ map (line_of side number) (notes_after setup facts step)) }
+    ensures each { (words : Words) (side : Side) (number : ℕ) (setup : Setup) (facts : Facts) (step : Step)
+        (journal : List Entry) → is_of_procedures step ≡ false → RestsAt words side journal
+        → AreDueLines words side journal (map (line_of side number) (notes_after setup facts step)) }
+    ensures left { (words : Words) (side : Side) (number : ℕ) (setup : Setup) (facts : Facts) (step : Step)
+        (journal : List Entry) → is_of_procedures step ≡ false → RestsAt words side journal
+        → RestsAt words side (journal ++ map (line_of side number) (notes_after setup facts step)) }
 {}

@@ -1,4 +1,4 @@
--- The open links of a controller, call by call: no end ended the link but for an Instant that has passed or for a failed
+-- The open link under a handle of a controller, call by call: no end ended the link but for an Instant that has passed or for a failed
 -- integrity, and the reasons that the end sends and takes are those that hosts may give, or that one has no key.
 use Rattle.std.proofs.Common.{◌≡◌, ◌⊎◌, inl, inr, ℕ, Bool, true, false, not, List, Option, Some, None, is_none, is_some, refl, sym, ap, subst, ◌∙◌, if◌then◌else◌}
 use Rattle.std.specs.Prelude.{IfSome, nat_lt, ⊤}
@@ -53,8 +53,8 @@ use Rattle.link_calls.proofs.open_links.Unmoved.{entered_setup}
 use Rattle.link_calls.proofs.run_laws.Agreed.{step_facts}
 use Rattle.link_calls.proofs.AtOnce.{IsRefusal, refusal_is}
 use Rattle.link_calls.proofs.Worded.{each_worded, worded_setup}
-use Rattle.run_pairs.proofs.OneSide.{taken_setup}
-use Rattle.run_pairs.proofs.Worded.{good_same, worded_verdict}
+use Rattle.journal_indications.proofs.journal_data.run_pairs.OneSide.{taken_setup}
+use Rattle.journal_indications.proofs.journal_data.run_pairs.Worded.{good_same, worded_verdict}
 use Rattle.journal_endings.proofs.EndReasons.{GivesReasons, MayStep, NewCarries, first_gives, forged_gives, step_gives}
 use Rattle.journal_endings.proofs.EndingProcedures.{is_receiving, same_ends}
 use Rattle.journal_endings.proofs.HostReasons.{IsReason, host_reason, is_ending}
@@ -167,25 +167,25 @@ host_step setup facts step by_host asks = absurd by_host
 
 -- ---- one call
 
-abbrev pub AreKept : Links → Type 0
-AreKept links = (handle : ℕ) (link : OpenLink) → link_at handle links ≡ Some link → IsKept link
+abbrev pub IsKeptAt : ℕ → Links → Type 0
+IsKeptAt handle links = (link : OpenLink) → link_at handle links ≡ Some link → IsKept link
 
-heard_host : (setup : Setup) (facts : Facts) (octet handle : ℕ) (after : OpenLink) → AreKept facts.links → HasHeardHost setup facts octet handle after → IsKept after
-heard_host setup facts octet handle after kept (Unchanged was) = kept handle after was
+heard_host : (setup : Setup) (facts : Facts) (octet handle : ℕ) (after : OpenLink) → IsKeptAt handle facts.links → HasHeardHost setup facts octet handle after → IsKept after
+heard_host setup facts octet handle after kept (Unchanged was) = kept after was
 heard_host setup facts octet handle after kept (GetsData link start body was is) =
-    subst IsKept (sym is) (kept_after link (DataGiven start body) refl tt (kept handle link was))
+    subst IsKept (sym is) (kept_after link (DataGiven start body) refl tt (kept link was))
 heard_host setup facts octet handle after kept (IsAsked link command step was accepted asks is) =
     let role = link.setup.link.role in
     let peer = (facts_in link).peer in
     let well = asked_is_well setup facts octet handle command role peer step accepted asks in
     let reason = about_asks facts.view command (moment_of setup facts) role peer step (accepted_status facts octet command accepted) (is_about handle command) asks in
     let hosts = host_step link.setup (facts_in link) step well.by_host reason in
-    subst IsKept (sym is) (kept_after link step hosts.off hosts.may (kept handle link was))
+    subst IsKept (sym is) (kept_after link step hosts.off hosts.may (kept link was))
 
-begun_kept : (facts : Facts) (slot : ℕ) (on : Bool) (handle : ℕ) (doing : Doing) (after : OpenLink) → AreKept facts.links
+begun_kept : (facts : Facts) (slot : ℕ) (on : Bool) (handle : ℕ) (doing : Doing) (after : OpenLink) → IsKeptAt handle facts.links
     → HasBegun facts slot on handle doing after → IsKept after
 begun_kept facts slot on handle doing after kept has =
-    let entered = kept_if (enters_in slot has.link) has.link (EventEntered slot) refl tt (kept handle has.link has.was) in
+    let entered = kept_if (enters_in slot has.link) has.link (EventEntered slot) refl tt (kept has.link has.was) in
     let same = kept_same (link_entered slot has.link) has.entered (has.setup_is ∙ sym (entered_setup slot has.link)) has.past_is entered in
     subst IsKept (sym has.is) (sent_kept (sends_under handle doing) slot has.base (subst IsKept (sym has.base_is) (fixed_kept has.fixes has.entered same)))
 
@@ -298,45 +298,46 @@ module _ (facts : Facts) (room : Bool) (octets : List ℕ) (handle : ℕ) (sends
   pub taken_kept : (verdict_of link.setup (facts_in link) octets ≡ Good → IsSound facts octets link after) → IsKept after
   taken_kept sound = by_verdict sound (good_or_none link.setup (facts_in link) octets)
 
--- each good packet that a call brings is sound
-abbrev pub HearsSoundly : Setup → Facts → Option (List ℕ) → Type 0
-HearsSoundly setup facts received =
-    (handle : ℕ) (octets : List ℕ) (link after : OpenLink) → received ≡ Some octets → link_at handle facts.links ≡ Some link
+-- each good packet that a call brings to the link under a handle is sound
+abbrev pub HearsSoundly : Setup → Facts → Option (List ℕ) → ℕ → Type 0
+HearsSoundly setup facts received handle =
+    (octets : List ℕ) (link after : OpenLink) → received ≡ Some octets → link_at handle facts.links ≡ Some link
     → listens_under handle facts.turn.doing ≡ true → link_at handle (facts_after setup facts (step_of received)).links ≡ Some after
     → after.setup ≡ link.setup → verdict_of link.setup (facts_in link) octets ≡ Good → IsSound facts octets link after
 
-passed_kept : (setup : Setup) (facts : Facts) (received : Option (List ℕ)) (handle : ℕ) (after : OpenLink) → HearsSoundly setup facts received
-    → link_at handle (facts_after setup facts (step_of received)).links ≡ Some after → AreKept facts.links
+passed_kept : (setup : Setup) (facts : Facts) (received : Option (List ℕ)) (handle : ℕ) (after : OpenLink) → HearsSoundly setup facts received handle
+    → link_at handle (facts_after setup facts (step_of received)).links ≡ Some after → IsKeptAt handle facts.links
     → HasPassed setup facts (has_room setup facts) received handle (facts_after setup facts (step_of received)).turn.doing after → IsKept after
 passed_kept setup facts received handle after sound is kept (IsNew end made opened off) = subst IsKept (sym made) (kept_new end)
-passed_kept setup facts received handle after sound is kept (Stays was none nothing listened) = kept handle after was
+passed_kept setup facts received handle after sound is kept (Stays was none nothing listened) = kept after was
 passed_kept setup facts received handle after sound is kept (Takes link octets was got on same) =
     let sends = sends_under handle (facts_after setup facts (step_of received)).turn.doing in
     let setups = ap (λ (l : OpenLink). l.setup) same ∙ taken_setup sends setup handle (has_room setup facts) octets facts link in
     let doing = facts.turn.doing in
     let base = link_worded setup facts doing link in
-    taken_kept facts (has_room setup facts) octets handle sends base after same (worded_kept setup facts doing link (kept handle link was))
+    taken_kept facts (has_room setup facts) octets handle sends base after same (worded_kept setup facts doing link (kept link was))
     (λ good.
     let judged = sym (worded_verdict link.setup setup facts doing link octets) ∙ ap (λ (s : EndSetup). verdict_of s (facts_in base) octets) (sym (worded_setup setup facts doing link))
     ∙ good in
-    let hears = sound handle octets link after got was on is setups judged in
+    let hears = sound octets link after got was on is setups judged in
     record { carries = carries_worded setup facts doing link octets hears.carries; ends = hears.ends })
 
 pub reported_kept : (link : OpenLink) → IsKept link → IsKept (link_reported link)
 reported_kept link kept = kept_if (nat_lt 0 (complete_in link)) link DataReported refl tt kept
 
-abbrev pub HearsIn : Setup → Facts → Step → Type 0
-HearsIn setup facts (PacketHeard octets) = HearsSoundly setup facts (Some octets)
-HearsIn setup facts step = ⊤
+abbrev pub HearsIn : Setup → Facts → Step → ℕ → Type 0
+HearsIn setup facts (PacketHeard octets) handle = HearsSoundly setup facts (Some octets) handle
+HearsIn setup facts step handle = ⊤
 
-pub call_kept : (setup : Setup) (facts : Facts) (step : Step) → HearsIn setup facts step → AreKept facts.links → AreKept (facts_after setup facts step).links
-call_kept setup facts (HostOctet octet) hears kept = λ handle link is. heard_host setup facts octet handle link kept (host_under setup facts octet handle link is)
-call_kept setup facts (TurnBegins slot on) hears kept = λ handle link is.
+pub call_kept : (setup : Setup) (facts : Facts) (step : Step) (handle : ℕ) → HearsIn setup facts step handle → IsKeptAt handle facts.links
+    → IsKeptAt handle (facts_after setup facts step).links
+call_kept setup facts (HostOctet octet) handle hears kept = λ link is. heard_host setup facts octet handle link kept (host_under setup facts octet handle link is)
+call_kept setup facts (TurnBegins slot on) handle hears kept = λ link is.
     begun_kept facts slot on handle (facts_after setup facts (TurnBegins slot on)).turn.doing link kept (begins_under setup facts slot on handle link is)
-call_kept setup facts (PacketHeard octets) hears kept = λ handle link is.
+call_kept setup facts (PacketHeard octets) handle hears kept = λ link is.
     passed_kept setup facts (Some octets) handle link hears is kept (phase_under setup facts (Some octets) handle link is)
-call_kept setup facts NothingHeard hears kept = λ handle link is.
-    passed_kept setup facts None handle link (λ one octets before after got. absurd (cc)) is kept (phase_under setup facts None handle link is)
-call_kept setup facts TurnEnds hears kept = λ handle link is.
+call_kept setup facts NothingHeard handle hears kept = λ link is.
+    passed_kept setup facts None handle link (λ octets before after got. absurd (cc)) is kept (phase_under setup facts None handle link is)
+call_kept setup facts TurnEnds handle hears kept = λ link is.
     let ended = ended_under setup facts handle link is in
-    subst IsKept (sym ended.is) (reported_kept ended.link (kept handle ended.link ended.was))
+    subst IsKept (sym ended.is) (reported_kept ended.link (kept ended.link ended.was))

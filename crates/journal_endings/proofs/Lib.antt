@@ -12,4 +12,4 @@ pub use Rattle.controller_model.proofs as controller_model
 pub use Rattle.journal_indications.proofs as journal_indications
 pub use Rattle.link_calls.proofs as link_calls
 pub use Rattle.link_runs.proofs as link_runs
-pub use Rattle.run_pairs.proofs as run_pairs
+pub use Rattle.journal_indications.proofs.journal_data.run_pairs as run_pairs

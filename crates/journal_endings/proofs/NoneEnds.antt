@@ -1,16 +1,16 @@
 -- No line of a link that is shut has one of these errors.
-use Rattle.std.proofs.Common.{◌≡◌, ◌⊎◌, inl, inr, ℕ, ◌==◌, ◌||◌, Bool, true, false, Option, Some, None, List, [], ◌∷◌, ◌++◌, append_assoc, refl, sym, ap, subst, ◌∙◌, if◌then◌else◌}
+use Rattle.std.proofs.Common.{◌≡◌, ◌⊎◌, inl, inr, ℕ, ◌==◌, ◌||◌, Bool, true, false, Option, Some, None, List, [], ◌∷◌, ◌++◌, refl, sym, ap, subst, ◌∙◌, if◌then◌else◌}
 use Rattle.std.specs.Prelude.{IfSome}
 use Rattle.std.specs.List.{list_any}
 use Rattle.std.specs.Option.{option_map}
-use Rattle.std.proofs.lemmas.Bool.{eqb-true, false_from_ne_true}
+use Rattle.std.proofs.lemmas.Bool.{eqb-true, false_from_ne_true, or_parts}
+use Rattle.std.proofs.lemmas.List.Folds.{list_any-append}
 use Rattle.ble_base.specs.ErrorCodes.{connection_not_established, connection_timeout, instant_passed, ll_response_timeout, mic_failure, success, terminated_by_local_host}
 use Rattle.ble_base.specs.declared.error_codes.ErrCode.{ErrCode}
-use Rattle.ble_base.specs.declared.roles.Side.{Side}
 use Rattle.controller_model.specs.Data.{facts_handed}
 use Rattle.controller_model.specs.Facts.{Facts}
 use Rattle.controller_model.specs.Shutting.{IsLeaving, IsOverdue, IsShut, acknowledged, ended_by_peer, failed, leaving, not_acknowledged, not_established, overdue, reset, timed_out, unanswered}
-use Rattle.controller_model.specs.Step.{Step}
+use Rattle.controller_model.specs.Step.{Step, TurnEnds}
 use Rattle.controller_model.proofs.Shuts.{shuts_with_reason}
 use Rattle.journal.specs.declared.entries.Entry.{Entry}
 use Rattle.journal.specs.declared.entries.Entry.TheVariants.{Shut}
@@ -30,13 +30,16 @@ use Rattle.link_calls.proofs.run_model.LinkEnds.{AreTaken, IsUnderstood}
 use Rattle.link_calls.proofs.run_model.NoteLines.{is_contained, line_in_call}
 use Rattle.link_calls.proofs.run_model.OfStations.{OfStations, run_of_stations}
 use Rattle.link_calls.proofs.run_model.Places.{each_at}
+use Rattle.journal_indications.specs.journal_data.Followed.{Follows, Mixed}
+use Rattle.journal_indications.proofs.LineEnds.{end_of_line}
+use Rattle.journal_indications.proofs.journal_data.Followed.{IsFollowed, followed_before, followed_in_call}
 use Rattle.journal_indications.proofs.journal_data.journal_acks.TwoStations.{IsOfTwo}
 use Rattle.journal_indications.proofs.journal_data.journal_packets.AccessOrder.{AreNth}
-use Rattle.journal_endings.specs.Endings.{NoneEndsByProtocolError, is_protocol_error, is_protocol_failure}
-use Rattle.journal_endings.proofs.CallsKeep.{AreKept, IsKept, reported_kept}
+use Rattle.journal_endings.specs.Endings.{NoneEndsByProtocolError, is_protocol_error}
+use Rattle.journal_endings.proofs.CallsKeep.{IsKept, IsKeptAt, reported_kept}
 use Rattle.journal_endings.proofs.HostReasons.{IsReason, is_ending}
-use Rattle.journal_endings.proofs.KeptInRuns.{kept_in_run}
-use Rattle.journal_endings.proofs.PairedEnds.{LateAlone}
+use Rattle.journal_endings.proofs.KeptInRuns.{kept_before_end}
+use Rattle.journal_endings.proofs.PairedEnds.{LateAlone, ReadUnmixed}
 
 -- ---- errors
 
@@ -89,42 +92,42 @@ leaving_other link code kept (ended_by_peer ended unseen goes answered took is) 
     subst IsOther (sym is) (reason_is_other ended.0 (if_some IsReason (facts_in link).leaving.ended_by_peer ended kept.reasons.peer took))
 
 -- an end once what is complete was reported
-handed_kept : (facts : Facts) (handle : ℕ) (link : OpenLink) → AreKept facts.links → link_at handle (facts_handed facts).links ≡ Some link → IsKept link
+handed_kept : (facts : Facts) (handle : ℕ) (link : OpenLink) → IsKeptAt handle facts.links → link_at handle (facts_handed facts).links ≡ Some link → IsKept link
 handed_kept facts handle link kept at =
     let was = was_open link_reported (link_at handle facts.links) link (sym (map_under (option_map link_reported) refl 0 handle facts.links) ∙ at) in
-    subst IsKept (sym was.is) (reported_kept was.link (kept handle was.link was.was))
+    subst IsKept (sym was.is) (reported_kept was.link (kept was.link was.was))
 
-shut_other : (facts : Facts) (step : Step) (handle code : ℕ) → AreKept facts.links → IsShut facts step handle code → IsOther code
+shut_other : (facts : Facts) (step : Step) (handle code : ℕ) → (step ≡ TurnEnds → IsKeptAt handle facts.links) → IsShut facts step handle code → IsOther code
 shut_other facts step handle code kept (overdue slot on link begins is_open due) = overdue_other slot link code due
-shut_other facts step handle code kept (leaving link ends is_open leaves) = leaving_other link code (handed_kept facts handle link kept is_open) leaves
+shut_other facts step handle code kept (leaving link ends is_open leaves) = leaving_other link code (handed_kept facts handle link (kept ends) is_open) leaves
 shut_other facts step handle code kept (reset link completed is_open is) = is_other code success is refl
 
 -- ---- the lines
 
-none_of_lines : (done left : List Entry) → ((front rest : List Entry) (line : Entry) → done ++ left ≡ front ++ line ∷ rest → is_protocol_failure line ≡ false)
-    → list_any is_protocol_failure left ≡ false
-none_of_lines done [] none = refl
-none_of_lines done (line ∷ left) none =
-    λ i. none done left line refl i
-    || none_of_lines (done ++ line ∷ []) left (λ front rest one is. none front rest one (sym (append_assoc done (line ∷ []) left) ∙ is)) i
+abbrev is_failure : Entry → Bool
+is_failure (Shut side number reason) = is_protocol_error reason
+is_failure line = false
+
+-- where no line says so
+pub no_failure : (mixed : Mixed) (journal : List Entry) → list_any is_failure journal ≡ false → NoneEndsByProtocolError mixed journal
+no_failure mixed journal none front rest side number reason is unmixed =
+    let line = Shut side number reason in
+    let later = (or_parts (list_any is_failure front) (list_any is_failure (line ∷ rest))
+    (sym (list_any-append is_failure front (line ∷ rest)) ∙ ap (list_any is_failure) (sym is) ∙ none)).1 in
+    (or_parts (is_protocol_error reason) (list_any is_failure rest) later).0
 
 module _ (heard_whole : IsHeardWhole) (understood : IsUnderstood) (taken : AreTaken) (nth : AreNth) (apart : AreApart) (given : Given) (are_two : IsOfTwo given)
-    (six : HaveAddresses given) (late : LateAlone given) where
-  line_other : (front rest : List Entry) (side : Side) (number : ℕ) (reason : ErrCode)
-      → journal_of (history_of (run_of given)) ≡ front ++ Shut side number reason ∷ rest → is_protocol_error reason ≡ false
-  line_other front rest side number reason is =
+    (six : HaveAddresses given) (mixed : Mixed) (follows : Follows given mixed) (late : LateAlone given) (read : ReadUnmixed given) where
+  pub none_ends : NoneEndsByProtocolError mixed (journal_of (history_of (run_of given)))
+  none_ends front rest side number reason is unmixed =
       let line = shut_line side number reason in
       let call : IsLineInCall given front line = line_in_call given front rest (Shut side number reason) line refl is in
       let in_it = each_at (OfStations given) (history_of (run_of given)) call.base call.after (Called call.station call.step) (run_of_stations given) call.called in
       let shut = (shuts_with_reason (setup_at given call.station) (past_of call.station call.base) call.step call.handle reason.0).0
       (is_contained given front line call) in
-      let kept = kept_in_run heard_whole understood taken nth apart given are_two six late call.base (Called call.station call.step ∷ call.after) call.called
-      call.station in_it in
-      shut_other (facts_at given call.station call.base) call.step call.handle reason.0 kept shut
-
-  each_line : (front rest : List Entry) (line : Entry) → journal_of (history_of (run_of given)) ≡ front ++ line ∷ rest → is_protocol_failure line ≡ false
-  each_line front rest (Shut side number reason) is = line_other front rest side number reason is
-  each_line front rest line is = refl
-
-  pub none_ends : NoneEndsByProtocolError (journal_of (history_of (run_of given)))
-  none_ends = none_of_lines [] (journal_of (history_of (run_of given))) each_line
+      shut_other (facts_at given call.station call.base) call.step call.handle reason.0
+      (λ ends link is_open. kept_before_end heard_whole understood taken apart given are_two six late read nth call.base call.after call.station
+      (call.called ∙ ap (λ step. call.base ++ Called call.station step ∷ call.after) ends) call.station in_it call.handle link is_open
+      (subst (IsFollowed given call.base) (sym (end_of_line understood taken given are_two six front line call link is_open).number_is)
+      (followed_before given call.base (Called call.station call.step ∷ []) number (followed_in_call given mixed follows are_two front line call unmixed))))
+      shut

@@ -6,4 +6,4 @@ pub use Rattle.controller_model.specs as controller_model
 pub use Rattle.journal_indications.specs as journal_indications
 pub use Rattle.link_calls.specs as link_calls
 pub use Rattle.link_runs.specs as link_runs
-pub use Rattle.run_pairs.specs as run_pairs
+pub use Rattle.journal_indications.specs.journal_data.run_pairs as run_pairs

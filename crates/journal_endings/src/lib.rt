@@ -11,5 +11,8 @@ pub use crate::rows::links_that_end_with_an_error;
 // What the crates above call of those below.
 pub use controller_model::a_pdu_is_understood;
 pub use journal_indications::{
-    ends_enter_each_event_alike_in_every_journal, ends_follow_their_central_in_every_journal,
+    data_of_two_stations_arrives_in_order, ends_enter_each_event_alike_in_every_journal,
+    ends_follow_their_central_in_every_journal, ends_that_last_are_sound,
+    no_procedure_ends_a_link_but_a_late_one, packets_of_a_link_are_read_as_sent,
+    what_hosts_ask_may_come,
 };

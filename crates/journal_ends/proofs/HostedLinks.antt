@@ -32,6 +32,7 @@ use Rattle.journal_acks.specs.link_model.Setup.{Setup as EndSetup}
 use Rattle.journal_acks.specs.link_model.Step.{Step, DataGiven, Disconnected, KeyAnswered, ProcedureAsked, RequestAnswered}
 use Rattle.journal_acks.specs.link_model.control_model.Control.{Control, Step as ControlStep, Answers, Asks as AsksFor, Disconnects, Owes, after as control_after, moved, table_if}
 use Rattle.journal_acks.specs.link_model.declared.state.PeerFacts.{PeerFacts}
+use Rattle.journal_acks.specs.link_model.declared.state.Leaving.{Leaving}
 use Rattle.journal_acks.specs.link_model.keyed_control.Keyed.{Keyed}
 use Rattle.journal_acks.specs.link_model.procedure_stages.Closing.{is_open}
 use Rattle.journal_acks.specs.link_model.procedure_stages.InProgress.{is_host_asked}
@@ -47,24 +48,22 @@ use Rattle.journal_acks.proofs.link_calls.UnderHandles.{WasOpen, change_under, m
 use Rattle.journal_acks.proofs.link_model.Pasts.{grows}
 use Rattle.journal_acks.proofs.link_model.Views.{Owed, Owing, Same, key_view}
 use Rattle.journal_ends.specs.Answering.{answers_if, answers_in_step}
-use Rattle.journal_ends.specs.Asked.{moment_in}
 use Rattle.journal_ends.specs.Seen.{Seen, asked_if, asked_in_step, seen_in_steps}
-use Rattle.journal_ends.proofs.NoWords.{drawn_alike}
 
 grows_by : (link : OpenLink) (step : Step) → facts_in (link_after step link) ≡ end_after link.setup (facts_in link) step
 grows_by link step = grows link.setup link.past step
 
--- the step that a command asks of an end, in this slot
-abbrev pub step_of : ℕ → ℕ → OpenLink → Command → Option Step
-step_of handle slot link command = step_on handle command (moment_in slot) link.setup.link.role (facts_in link).peer
+-- the step that a command asks of an end, at this moment
+abbrev pub step_of : ℕ → Moment → OpenLink → Command → Option Step
+step_of handle moment link command = step_on handle command moment link.setup.link.role (facts_in link).peer
 
 -- what is seen of that as asked
-abbrev pub asked_of : ℕ → ℕ → OpenLink → Command → List Seen
-asked_of handle slot link command = asked_if (step_of handle slot link command)
+abbrev pub asked_of : ℕ → Moment → OpenLink → Command → List Seen
+asked_of handle moment link command = asked_if (step_of handle moment link command)
 
 -- what the host answers by it
-abbrev pub answers_of : ℕ → ℕ → OpenLink → Command → List Step
-answers_of handle slot link command = answers_if (step_of handle slot link command)
+abbrev pub answers_of : ℕ → Moment → OpenLink → Command → List Step
+answers_of handle moment link command = answers_if (step_of handle moment link command)
 
 -- a step that a host asks
 abbrev pub IsHostStep : Step → Type 0
@@ -88,43 +87,49 @@ abbrev pub keyed_asked : OpenLink → Option Step → Keyed
 keyed_asked base None = keyed_of (facts_in base)
 keyed_asked base (Some step) = keyed_of (end_after base.setup (facts_in base) step)
 
+-- and how it is to leave its link
+abbrev pub leaving_asked : OpenLink → Option Step → Leaving
+leaving_asked base None = (facts_in base).leaving
+leaving_asked base (Some step) = (end_after base.setup (facts_in base) step).leaving
+
 -- it was asked what these commands ask, and noted nothing
-pub record IsAsked (handle slot : ℕ) (commands : List Command) (base after : OpenLink) : Type 0 where
+pub record IsAsked (handle : ℕ) (moment : Moment) (commands : List Command) (base after : OpenLink) : Type 0 where
   pub setup_is : after.setup ≡ base.setup
   pub steps : List Step
   pub past_is : after.past ≡ base.past ++ steps
   pub notes : notes_from base.setup (facts_in base) steps ≡ []
   pub asked : Option Step
   pub by_host : IfHostStep asked
-  pub commands_ask : flat_map (asked_of handle slot base) commands ≡ asked_if asked
-  pub commands_answer : flat_map (answers_of handle slot base) commands ≡ answers_if asked
+  pub commands_ask : flat_map (asked_of handle moment base) commands ≡ asked_if asked
+  pub commands_answer : flat_map (answers_of handle moment base) commands ≡ answers_if asked
   pub asks : (side : Side) (number : ℕ) → seen_in_steps side number base.setup (facts_in base) steps ≡ asked_if asked
   pub control_is : (facts_in after).control ≡ control_asked base asked
   pub keyed_is : keyed_of (facts_in after) ≡ keyed_asked base asked
+  pub leaving_is : (facts_in after).leaving ≡ leaving_asked base asked
 
-pub record HasAsked (links : Links) (handle slot : ℕ) (commands : List Command) (after : OpenLink) : Type 0 where
+pub record HasAsked (links : Links) (handle : ℕ) (moment : Moment) (commands : List Command) (after : OpenLink) : Type 0 where
   pub base : OpenLink
   pub was : link_at handle links ≡ Some base
-  pub is : IsAsked handle slot commands base after
+  pub is : IsAsked handle moment commands base after
 
 -- these commands ask nothing of an end
-record AskNothing (handle slot : ℕ) (commands : List Command) (link : OpenLink) : Type 0 where
-  ask : flat_map (asked_of handle slot link) commands ≡ []
-  answer : flat_map (answers_of handle slot link) commands ≡ []
+record AskNothing (handle : ℕ) (moment : Moment) (commands : List Command) (link : OpenLink) : Type 0 where
+  ask : flat_map (asked_of handle moment link) commands ≡ []
+  answer : flat_map (answers_of handle moment link) commands ≡ []
 
-no_commands : (handle slot : ℕ) (link : OpenLink) → AskNothing handle slot [] link
-no_commands handle slot link = record { ask = refl; answer = refl }
+no_commands : (handle : ℕ) (moment : Moment) (link : OpenLink) → AskNothing handle moment [] link
+no_commands handle moment link = record { ask = refl; answer = refl }
 
-none_of : (handle slot : ℕ) (command : Command) (link : OpenLink) → step_of handle slot link command ≡ None → AskNothing handle slot (command ∷ []) link
-none_of handle slot command link none = record {
+none_of : (handle : ℕ) (moment : Moment) (command : Command) (link : OpenLink) → step_of handle moment link command ≡ None → AskNothing handle moment (command ∷ []) link
+none_of handle moment command link none = record {
   ask = ap (λ step. asked_if step ++ []) none;
   answer = ap (λ step. answers_if step ++ []) none;
 }
 
-same_asked : (links : Links) (handle slot : ℕ) (commands : List Command) (after : OpenLink)
-    → ((link : OpenLink) → AskNothing handle slot commands link) → link_at handle links ≡ Some after
-    → HasAsked links handle slot commands after
-same_asked links handle slot commands after none at = record {
+same_asked : (links : Links) (handle : ℕ) (moment : Moment) (commands : List Command) (after : OpenLink)
+    → ((link : OpenLink) → AskNothing handle moment commands link) → link_at handle links ≡ Some after
+    → HasAsked links handle moment commands after
+same_asked links handle moment commands after none at = record {
   base = after;
   was = at;
   is = record {
@@ -139,6 +144,7 @@ same_asked links handle slot commands after none at = record {
     asks = λ side number. refl;
     control_is = refl;
     keyed_is = refl;
+    leaving_is = refl;
   };
 }
 
@@ -213,22 +219,22 @@ one_answered view (HostCompleted counts) asks = absurd cc
 one_answered view other asks = refl
 
 -- a command that asks no link asks none of them
-none_asks : (view : View) (command : Command) (handle slot : ℕ) (link : OpenLink) → asks_links view command ≡ false
-    → AskNothing handle slot (answered_commands (command ∷ [])) link
-none_asks view (Disconnect given reason) handle slot link none = absurd cc
-none_asks view (ReadRemoteVersion given) handle slot link none = absurd cc
-none_asks view (LeReadRemoteFeatures given) handle slot link none = absurd cc
-none_asks view (LeSetDataLength given most time) handle slot link none = absurd cc
-none_asks view (LeSetChannels map) handle slot link none = absurd cc
-none_asks view (LeSetPhy given all tx rx options) handle slot link none = absurd cc
-none_asks view (LeConnectionUpdate given min max latency timeout lengths) handle slot link none = absurd cc
-none_asks view (LeParamReply given min max latency timeout lengths) handle slot link none = absurd cc
-none_asks view (LeParamNegative given reason) handle slot link none = absurd cc
-none_asks view (LeEnableEncryption given rand ediv key) handle slot link none = absurd cc
-none_asks view (LeKeyReply given key) handle slot link none = absurd cc
-none_asks view (LeKeyNegative given) handle slot link none = absurd cc
-none_asks view (HostCompleted counts) handle slot link none = no_commands handle slot link
-none_asks view other handle slot link none = none_of handle slot other link refl
+none_asks : (view : View) (command : Command) (handle : ℕ) (moment : Moment) (link : OpenLink) → asks_links view command ≡ false
+    → AskNothing handle moment (answered_commands (command ∷ [])) link
+none_asks view (Disconnect given reason) handle moment link none = absurd cc
+none_asks view (ReadRemoteVersion given) handle moment link none = absurd cc
+none_asks view (LeReadRemoteFeatures given) handle moment link none = absurd cc
+none_asks view (LeSetDataLength given most time) handle moment link none = absurd cc
+none_asks view (LeSetChannels map) handle moment link none = absurd cc
+none_asks view (LeSetPhy given all tx rx options) handle moment link none = absurd cc
+none_asks view (LeConnectionUpdate given min max latency timeout lengths) handle moment link none = absurd cc
+none_asks view (LeParamReply given min max latency timeout lengths) handle moment link none = absurd cc
+none_asks view (LeParamNegative given reason) handle moment link none = absurd cc
+none_asks view (LeEnableEncryption given rand ediv key) handle moment link none = absurd cc
+none_asks view (LeKeyReply given key) handle moment link none = absurd cc
+none_asks view (LeKeyNegative given) handle moment link none = absurd cc
+none_asks view (HostCompleted counts) handle moment link none = no_commands handle moment link
+none_asks view other handle moment link none = none_of handle moment other link refl
 
 none_left : (handle : ℕ) (links : Links) (after : OpenLink) → link_at handle (without_links links) ≡ Some after → link_at handle links ≡ Some after
 none_left handle links after at = absurd (let h : None ≡ Some after = sym (map_under (λ place. None) refl 0 handle links) ∙ at in absurd cc)
@@ -258,25 +264,21 @@ asked_from command moment first handle (place ∷ links) = by (first == handle) 
     by true is rest = ap (λ (h : ℕ). place_commanded (is_about h command) command moment place) (eqb-true first handle is)
     by false is rest = rest
 
-module _ (command : Command) (moment : Moment) (handle : ℕ) (links : Links) (after : OpenLink)
-    (wordless : (role : Role) (peer : PeerFacts) → host_step_of command moment role peer ≡ host_step_of command (moment_in moment.slot) role peer) where
-  abbrev slot : ℕ
-  slot = moment.slot
-
+module _ (command : Command) (moment : Moment) (handle : ℕ) (links : Links) (after : OpenLink) where
   abbrev step_for : OpenLink → Option Step
   step_for link = host_step_of command moment link.setup.link.role (facts_in link).peer
 
-  step_is : (about : Bool) (link : OpenLink) → is_about handle command ≡ about → step_of handle slot link command ≡ step_if_about about (step_for link)
-  step_is about link is = λ i. step_if_about (is i) (sym (wordless link.setup.link.role (facts_in link).peer) i)
+  step_is : (about : Bool) (link : OpenLink) → is_about handle command ≡ about → step_of handle moment link command ≡ step_if_about about (step_for link)
+  step_is about link is = ap (λ b. step_if_about b (step_for link)) is
 
   step_by_host : (link : OpenLink) (step : Option Step) → is_about handle command ≡ true → link_at handle links ≡ Some link
       → step_for link ≡ step → IfHostStep step → Some (link_after_if step link) ≡ Some after
-      → HasAsked links handle slot (command ∷ []) after
+      → HasAsked links handle moment (command ∷ []) after
   step_by_host link None about was is by_host same =
-      same_one link (none_of handle slot command link (step_is true link about ∙ is)) was cc
+      same_one link (none_of handle moment command link (step_is true link about ∙ is)) was cc
     where
-      same_one : (link : OpenLink) → AskNothing handle slot (command ∷ []) link → link_at handle links ≡ Some link → link ≡ after
-          → HasAsked links handle slot (command ∷ []) after
+      same_one : (link : OpenLink) → AskNothing handle moment (command ∷ []) link → link_at handle links ≡ Some link → link ≡ after
+          → HasAsked links handle moment (command ∷ []) after
       same_one link none was same = record {
         base = link;
         was = was;
@@ -292,11 +294,12 @@ module _ (command : Command) (moment : Moment) (handle : ℕ) (links : Links) (a
           asks = λ side number. refl;
           control_is = ap (λ (l : OpenLink). (facts_in l).control) (sym same);
           keyed_is = ap (λ (l : OpenLink). keyed_of (facts_in l)) (sym same);
+          leaving_is = ap (λ (l : OpenLink). (facts_in l).leaving) (sym same);
         };
       }
   step_by_host link (Some step) about was is by_host same =
       let now : link_after step link ≡ after = cc in
-      let one : step_of handle slot link command ≡ Some step = step_is true link about ∙ is in record {
+      let one : step_of handle moment link command ≡ Some step = step_is true link about ∙ is in record {
         base = link;
         was = was;
         is = record {
@@ -311,48 +314,49 @@ module _ (command : Command) (moment : Moment) (handle : ℕ) (links : Links) (a
           asks = λ side number. host_seen side number link.setup (facts_in link) step by_host;
           control_is = ap (λ (l : OpenLink). (facts_in l).control) (sym now) ∙ ap (λ (f : EndFacts). f.control) (grows_by link step);
           keyed_is = ap (λ (l : OpenLink). keyed_of (facts_in l)) (sym now) ∙ ap (λ (f : EndFacts). keyed_of f) (grows_by link step);
+          leaving_is = ap (λ (l : OpenLink). (facts_in l).leaving) (sym now) ∙ ap (λ (f : EndFacts). f.leaving) (grows_by link step);
         };
       }
 
   place_asked : (about : Bool) (place : Option OpenLink) → is_about handle command ≡ about → link_at handle links ≡ place
-      → place_commanded about command moment place ≡ Some after → HasAsked links handle slot (command ∷ []) after
+      → place_commanded about command moment place ≡ Some after → HasAsked links handle moment (command ∷ []) after
   place_asked false place about was at =
-      same_asked links handle slot (command ∷ []) after (λ link. none_of handle slot command link (step_is false link about)) (was ∙ at)
+      same_asked links handle moment (command ∷ []) after (λ link. none_of handle moment command link (step_is false link about)) (was ∙ at)
   place_asked true None about was at = absurd cc
   place_asked true (Some link) about was at =
       step_by_host link (step_for link) about was refl (step_of_host command moment link.setup.link.role (facts_in link).peer) at
 
-  command_asked : link_at handle (links_commanded command moment links) ≡ Some after → HasAsked links handle slot (command ∷ []) after
+  command_asked : link_at handle (links_commanded command moment links) ≡ Some after → HasAsked links handle moment (command ∷ []) after
   command_asked at = place_asked (is_about handle command) (link_at handle links) refl refl (sym (asked_from command moment 0 handle links) ∙ at)
 
 -- ---- what an octet completes
 
 module _ (setup : Setup) (facts : Facts) (handle : ℕ) (after : OpenLink) where
   abbrev Asked : List Command → Type 0
-  Asked commands = HasAsked facts.links handle facts.turn.begun (answered_commands commands) after
+  Asked commands = HasAsked facts.links handle (moment_of setup facts) (answered_commands commands) after
 
   known_asked : (command : Command) (took asks : Bool) → (status_of facts.view command == 0) ≡ took → asks_links facts.view command ≡ asks
       → link_at handle (facts_asking (took && asks) setup facts command (facts_known took setup facts command)).links ≡ Some after
       → Asked (cond took (command ∷ []) [])
-  known_asked command false asks took is at = same_asked facts.links handle facts.turn.begun [] after (no_commands handle facts.turn.begun) at
+  known_asked command false asks took is at = same_asked facts.links handle (moment_of setup facts) [] after (no_commands handle (moment_of setup facts)) at
   known_asked command true false took is at =
-      same_asked facts.links handle facts.turn.begun (answered_commands (command ∷ [])) after
-      (λ link. none_asks facts.view command handle facts.turn.begun link is) (command_leaves command handle facts.links after at)
+      same_asked facts.links handle (moment_of setup facts) (answered_commands (command ∷ [])) after
+      (λ link. none_asks facts.view command handle (moment_of setup facts) link is) (command_leaves command handle facts.links after at)
   known_asked command true true took is at =
-      subst (λ commands. HasAsked facts.links handle facts.turn.begun commands after) (sym (one_answered facts.view command is))
-      (command_asked command (moment_of setup facts) handle facts.links after (drawn_alike facts.view command took (moment_of setup facts)) at)
+      subst (λ commands. HasAsked facts.links handle (moment_of setup facts) commands after) (sym (one_answered facts.view command is))
+      (command_asked command (moment_of setup facts) handle facts.links after at)
 
   read_asked : (read : CmdRead) → link_at handle (facts_commanded setup facts read).links ≡ Some after → Asked (commands_accepted_by facts read)
   read_asked (Known command) at = known_asked command (status_of facts.view command == 0) (asks_links facts.view command) refl refl at
-  read_asked UnknownOpcode at = same_asked facts.links handle facts.turn.begun [] after (no_commands handle facts.turn.begun) at
-  read_asked BadLength at = same_asked facts.links handle facts.turn.begun [] after (no_commands handle facts.turn.begun) at
+  read_asked UnknownOpcode at = same_asked facts.links handle (moment_of setup facts) [] after (no_commands handle (moment_of setup facts)) at
+  read_asked BadLength at = same_asked facts.links handle (moment_of setup facts) [] after (no_commands handle (moment_of setup facts)) at
 
   given_asked : (gives : Bool) (start : Bool) (body : List ℕ) → WasOpen (change_if gives (link_after (DataGiven start body))) (link_at handle facts.links) after
       → Asked []
   given_asked gives start body was = by gives was.is
     where
       by : (gives : Bool) → after ≡ change_if gives (link_after (DataGiven start body)) was.link → Asked []
-      by false same = same_asked facts.links handle facts.turn.begun [] after (no_commands handle facts.turn.begun) (was.was ∙ ap Some (sym same))
+      by false same = same_asked facts.links handle (moment_of setup facts) [] after (no_commands handle (moment_of setup facts)) (was.was ∙ ap Some (sym same))
       by true same = record {
         base = was.link;
         was = was.was;
@@ -369,22 +373,23 @@ module _ (setup : Setup) (facts : Facts) (handle : ℕ) (after : OpenLink) where
           control_is = ap (λ (l : OpenLink). (facts_in l).control) same
               ∙ ap (λ (f : EndFacts). f.control) (grows_by was.link (DataGiven start body));
           keyed_is = ap (λ (l : OpenLink). keyed_of (facts_in l)) same ∙ ap (λ (f : EndFacts). keyed_of f) (grows_by was.link (DataGiven start body));
+          leaving_is = ap (λ (l : OpenLink). (facts_in l).leaving) same ∙ ap (λ (f : EndFacts). f.leaving) (grows_by was.link (DataGiven start body));
         };
       }
 
   offered_asked : (offer : Offer) (other : ℕ) (start : Bool) (body : List ℕ) → link_at handle (facts_offered offer other start body facts).links ≡ Some after → Asked []
   offered_asked Kept other start body at =
       given_asked (other == handle) start body (change_under other handle (link_after (DataGiven start body)) facts.links after at)
-  offered_asked NoLink other start body at = same_asked facts.links handle facts.turn.begun [] after (no_commands handle facts.turn.begun) at
-  offered_asked Empty other start body at = same_asked facts.links handle facts.turn.begun [] after (no_commands handle facts.turn.begun) at
-  offered_asked Overflow other start body at = same_asked facts.links handle facts.turn.begun [] after (no_commands handle facts.turn.begun) at
+  offered_asked NoLink other start body at = same_asked facts.links handle (moment_of setup facts) [] after (no_commands handle (moment_of setup facts)) at
+  offered_asked Empty other start body at = same_asked facts.links handle (moment_of setup facts) [] after (no_commands handle (moment_of setup facts)) at
+  offered_asked Overflow other start body at = same_asked facts.links handle (moment_of setup facts) [] after (no_commands handle (moment_of setup facts)) at
 
   fed_asked : (fed : Fed) → link_at handle (facts_fed setup facts fed).links ≡ Some after → Asked (commands_accepted_in facts fed)
   fed_asked (Packet (HostCommand opcode body)) at = read_asked (command_of opcode body.items) at
   fed_asked (Packet (Acl other start count body)) at = offered_asked (offer_of setup facts other count) other start body.items at
-  fed_asked LostSync at = same_asked facts.links handle facts.turn.begun [] after (no_commands handle facts.turn.begun) at
-  fed_asked More at = same_asked facts.links handle facts.turn.begun [] after (no_commands handle facts.turn.begun) at
+  fed_asked LostSync at = same_asked facts.links handle (moment_of setup facts) [] after (no_commands handle (moment_of setup facts)) at
+  fed_asked More at = same_asked facts.links handle (moment_of setup facts) [] after (no_commands handle (moment_of setup facts)) at
 
   pub octet_asked : (octet : ℕ) → link_at handle (facts_after setup facts (HostOctet octet)).links ≡ Some after
-      → HasAsked facts.links handle facts.turn.begun (answered_after facts (HostOctet octet)) after
+      → HasAsked facts.links handle (moment_of setup facts) (answered_after facts (HostOctet octet)) after
   octet_asked octet at = fed_asked (result_of facts.octets octet) at

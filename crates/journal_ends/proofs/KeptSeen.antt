@@ -1,6 +1,6 @@
 -- Each step of a run of two stations keeps that what is seen of each open end by the journal is what happened to it.
-use Rattle.std.proofs.Common.{◌≡◌, ℕ, suc, ◌-◌, ◌<◌, ◌==◌, inl, inr, Bool, true, false, Option, Some, None, List, [], ◌∷◌, ◌++◌, replicate, refl, sym, ap, subst, ◌∙◌, append-nil, append_assoc, arith}
-use Rattle.std.specs.Prelude.{◌&&◌, fold, map, take, if◌then◌else◌}
+use Rattle.std.proofs.Common.{◌≡◌, ℕ, zero, suc, ◌-◌, ◌<◌, ◌==◌, inl, inr, Bool, true, false, Option, Some, None, List, [], ◌∷◌, ◌++◌, replicate, refl, sym, ap, subst, ◌∙◌, append-nil, append_assoc, arith}
+use Rattle.std.specs.Prelude.{fold, map, take, if◌then◌else◌}
 use Rattle.std.proofs.lemmas.Bool.{eqb-true}
 use Rattle.std.proofs.lemmas.List.Sums.{fold-append}
 use Rattle.journal_acks.specs.controller_model.Facts.{Facts, Listens, Sends}
@@ -10,34 +10,33 @@ use Rattle.journal_acks.specs.controller_model.Step.{Step as Call, HostOctet, Tu
 use Rattle.journal_acks.proofs.controller_model.Handles.{own_handles}
 use Rattle.journal_acks.specs.controller_model.declared.doing.Doing.{Doing}
 use Rattle.journal_acks.specs.controller_model.declared.doing.Doing.TheVariants.{Advertises, CentralListens, PeripheralListens}
+use Rattle.journal_acks.specs.controller_model.Commands.{moment_of}
 use Rattle.host_answers.specs.Calls.{answered_after, call_lines}
 use Rattle.host_answers.proofs.LineAnswers.{call_accepts}
 use Rattle.journal_acks.specs.journal_links.LinkLines.{line_of}
 use Rattle.journal_acks.specs.link_model.Packets.{verdict_of}
-use Rattle.journal_acks.specs.link_model.Step.{PacketSent}
-use Rattle.journal_acks.specs.open_links.OpenLinks.{OpenLink, facts_in, link_after, link_at}
+use Rattle.journal_acks.specs.link_model.keyed_control.declared.material.Response.{Response}
+use Rattle.journal_acks.specs.open_links.OpenLinks.{OpenLink, facts_in, link_at}
 use Rattle.journal_acks.specs.run_laws.Ends.{link_listened}
 use Rattle.journal_acks.specs.run_model.Due.{Each}
 use Rattle.journal_acks.specs.run_model.Feeding.{AreDistinct}
-use Rattle.journal_acks.specs.run_model.History.{Event, TurnBegan, HostFed, Called, Noted, Transmitted, is_good, packet_received, past_of, turns_begun}
+use Rattle.journal_acks.specs.run_model.History.{Event, TurnBegan, HostFed, Called, Noted, Transmitted, is_handed, packet_received, past_of, turns_begun}
 use Rattle.journal_acks.specs.run_model.Journal.{journal_of, side_of}
 use Rattle.journal_acks.specs.run_model.LinkEnds.{HaveAddresses}
 use Rattle.journal_acks.specs.run_model.Links.{is_advertising}
-use Rattle.journal_acks.specs.run_model.Run.{Given, after_call, after_feed, after_octets, facts_at, hearings_of, history_of, octets_left, run_of, setup_at, step_of, use_at}
+use Rattle.journal_acks.specs.run_model.Run.{Given, after_call, after_feed, after_octets, facts_at, hearings_of, history_of, octets_left, run_of, setup_at, step_of, unseen_in, use_at}
 use Rattle.journal_acks.specs.Exchange.{is_number}
 use Rattle.radio_replay.specs.declared.fates.Fate.{Fate}
 use Rattle.journal_acks.proofs.journal_links.OfTwo.{are_distinct, two_apart}
 use Rattle.journal_acks.proofs.journal_packets.AccessOrder.{AreNth}
 use Rattle.journal_acks.proofs.journal_packets.SentLinks.{IsOfTwo as IsOfBoth}
-use Rattle.journal_acks.proofs.journal_packets.SoFar.{IsBelongingSoFar, belonging_first, sends_on_its_link}
+use Rattle.journal_acks.proofs.journal_packets.SoFar.{IsBelongingSoFar, belonging_first}
 use Rattle.journal_acks.proofs.run_laws.ByCalls.{Holds, all_facts, first_hears, holds_kept}
-use Rattle.journal_acks.proofs.run_laws.ConnectInds.{on_channel}
 use Rattle.journal_acks.proofs.run_laws.DistinctAccess.{AreApart}
-use Rattle.journal_acks.proofs.run_laws.Hearings.{use_sent_at, wanted_is}
+use Rattle.journal_acks.proofs.run_laws.Hearings.{wanted_is}
 use Rattle.journal_acks.proofs.run_laws.InAgreement.{AreStations, OpenedBefore, differs_back, first_station, stations_kept}
 use Rattle.journal_acks.proofs.run_laws.LinkPasses.{is_on_link}
 use Rattle.journal_acks.proofs.run_laws.OpenSteps.{none_open, open_has}
-use Rattle.journal_acks.proofs.run_laws.SentPackets.{IsUseSent}
 use Rattle.journal_acks.proofs.run_laws.TurnSteps.{IsListening}
 use Rattle.journal_acks.proofs.run_laws.TurnPlaces.{Between, Within, at_stage, event_past, standing, stands_first}
 use Rattle.journal_acks.proofs.run_model.Calls.{past_own, turns_called, turns_same}
@@ -54,44 +53,47 @@ use Rattle.journal_acks.proofs.link_calls.CallNotes.{OpensNone, opening_none}
 use Rattle.journal_acks.proofs.Exchanging.{number_at, number_called, number_quiet}
 use Rattle.journal_acks.proofs.Known.{begun_as}
 use Rattle.journal_acks.proofs.open_links.Handles.{handle_is as handle_under}
-use Rattle.journal_acks.proofs.HeardLines.{AreUnheard, IsUnheard, advertised_heard, feed_heard, none_unheard, turn_heard, unheard_called, unheard_event_at, unheard_packet_of}
 use Rattle.journal_acks.specs.link_calls.Uses.{listens_under}
-use Rattle.journal_acks.proofs.Standing.{PhasedBy, listens_wanted, phased_at, sending_on_link}
-use Rattle.journal_acks.proofs.TwoStations.{IsOfTwo, hearing_of, one_hearing, other_is}
+use Rattle.journal_acks.proofs.Standing.{PhasedBy, listens_wanted, phased_at}
+use Rattle.journal_acks.proofs.TwoStations.{IsOfTwo, hearing_of, one_hearing, other_is, other_of}
 use Rattle.journal_ends.specs.Answering.{answers_from, answers_if}
+use Rattle.journal_ends.specs.Asked.{Words, moment_in}
+use Rattle.journal_ends.specs.GivenWords.{GivesWords, GivesWordsIn, words_next}
 use Rattle.journal_ends.specs.Seen.{asked_if, heard_next, heard_where, seen_from}
 use Rattle.journal_ends.proofs.EndsKnown.{AreLined, begun_at, known_kept, lined_at, lined_before}
 use Rattle.journal_ends.proofs.AskedCalls.{IsKnownEnd, answered_lines, asked_lines, asked_seen}
+use Rattle.journal_ends.proofs.GivenFronts.{feed_more, given_call, given_earlier, given_front, given_kept, given_octet, octets_more}
 use Rattle.journal_ends.proofs.GrownLinks.{begun_grown, ended_grown}
 use Rattle.journal_ends.proofs.HostedLinks.{IsAsked, octet_asked}
 use Rattle.journal_ends.proofs.StandingLinks.{older_at}
+use Rattle.journal_ends.proofs.ReachedLinks.{AreUnreached, IsUnreached, advertised_reached, bad_reached, feed_reached, none_unreached, turn_reached, unreached_called, unreached_event, unreached_packet_of}
 use Rattle.journal_ends.proofs.SeenCalls.{AreSeenSo, IsSeenAt, held_at, hosted_own, passes_own, quiet_own, seen_call, seen_event, seen_in_link, seen_same, to_hear, whole}
 use Rattle.journal_ends.proofs.SeenEvents.{feed_says, lines_at, seen_at, turn_says}
-use Rattle.journal_ends.proofs.SeenPackets.{packet_aired}
+use Rattle.journal_ends.proofs.SeenPackets.{hears_there, packet_aired}
 
 -- ---- what is kept
 
 -- each open end of a station says and hears what happened to it, and nothing more
-abbrev pub AreSeenOf : Given → List Event → ℕ → Type 0
-AreSeenOf given history station = is_in station given.stations ≡ true → (handle : ℕ) (link : OpenLink) → link_at handle (facts_at given station history).links ≡ Some link
-    → seen_at (number_at station handle history) (side_of station) history ≡ seen_in_link (number_at station handle history) (side_of station) link
+abbrev pub AreSeenOf : Words → Given → List Event → ℕ → Type 0
+AreSeenOf words given history station = is_in station given.stations ≡ true → (handle : ℕ) (link : OpenLink) → link_at handle (facts_at given station history).links ≡ Some link
+    → seen_at words (number_at station handle history) (side_of station) history ≡ seen_in_link (number_at station handle history) (side_of station) link
 
 -- so do those of all stations
-abbrev pub AreSeen : Given → List Event → Type 0
-AreSeen given history = (station : ℕ) → AreSeenOf given history station
+abbrev pub AreSeen : Words → Given → List Event → Type 0
+AreSeen words given history = (station : ℕ) → AreSeenOf words given history station
 
 -- before a call, an end of its station hears what it is to take in it
-abbrev pub IsSeenBefore : Given → List Event → ℕ → Call → Type 0
-IsSeenBefore given before station step = is_in station given.stations ≡ true → (handle : ℕ) (link : OpenLink) → link_at handle (facts_at given station before).links ≡ Some link
-    → seen_at (number_at station handle before) (side_of station) before
+abbrev pub IsSeenBefore : Words → Given → List Event → ℕ → Call → Type 0
+IsSeenBefore words given before station step = is_in station given.stations ≡ true → (handle : ℕ) (link : OpenLink) → link_at handle (facts_at given station before).links ≡ Some link
+    → seen_at words (number_at station handle before) (side_of station) before
     ≡ seen_in_link (number_at station handle before) (side_of station) link ++ heard_next handle (facts_at given station before) step link
 
-abbrev pub SeenBefore : Given → List Event → Event → Type 0
-SeenBefore given before (TurnBegan slot radios) = AreSeen given before
-SeenBefore given before (Called station step) = IsSeenBefore given before station step
-SeenBefore given before (HostFed station octets) = Unit {0}
-SeenBefore given before (Noted station note) = Unit {0}
-SeenBefore given before (Transmitted station channel octets hearings) = AreSeen given before
+abbrev pub SeenBefore : Words → Given → List Event → Event → Type 0
+SeenBefore words given before (TurnBegan slot radios) = AreSeen words given before
+SeenBefore words given before (Called station step) = IsSeenBefore words given before station step
+SeenBefore words given before (HostFed station octets) = Unit {0}
+SeenBefore words given before (Noted station note) = Unit {0}
+SeenBefore words given before (Transmitted station channel octets hearings) = AreSeen words given before
 
 -- nothing is heard of a station that did not transmit yet
 abbrev IsSilent : Given → Place → List Event → Type 0
@@ -100,13 +102,13 @@ IsSilent given (AtPackets phases done left) history =
     → packet_received other history ≡ None
 IsSilent given place history = Unit {0}
 
-pub record AreSeenAt (given : Given) (place : Place) (history : List Event) : Type 0 where
+pub record AreSeenAt (words : Words) (given : Given) (place : Place) (history : List Event) : Type 0 where
   pub known : IsBelongingSoFar given place history
   pub holds : Holds given (AreStations given) place history
   pub silent : IsSilent given place history
-  pub unheard : AreUnheard history
-  pub seen : AreSeenSo given history (λ station. packet_received station history)
-  pub each : Each (SeenBefore given) [] history
+  pub unreached : AreUnreached words history
+  pub seen : AreSeenSo words given history (λ station. packet_received station history)
+  pub each : Each (SeenBefore words given) [] history
 
 -- ---- what an end hears next
 
@@ -116,10 +118,10 @@ listened_as handle (PeripheralListens other) = refl
 listened_as handle (Advertises channel) = refl
 listened_as handle other = refl
 
-heard_if : (listens good : Bool) (slot : ℕ) (octets : List ℕ) (link : OpenLink) → is_good (verdict_of link.setup (facts_in link) octets) ≡ good
-    → to_hear listens (Some octets) slot link ≡ heard_where (listens && good) slot octets
-heard_if true good slot octets link is = ap (λ b. heard_where b slot octets) is
-heard_if false good slot octets link is = refl
+heard_if : (listens : Bool) (slot : ℕ) (octets : List ℕ) (link : OpenLink)
+    → to_hear listens (Some octets) slot link ≡ heard_where listens (verdict_of link.setup (facts_in link) octets) slot octets
+heard_if true slot octets link = refl
+heard_if false slot octets link = refl
 
 to_hear_next : (handle : ℕ) (facts : Facts) (received : Option (List ℕ)) (link : OpenLink)
     → to_hear (listens_under handle facts.turn.doing) received facts.turn.slot link ≡ heard_next handle facts (step_of received) link
@@ -129,59 +131,56 @@ to_hear_next handle facts None link = by (listens_under handle facts.turn.doing)
     by true = refl
     by false = refl
 to_hear_next handle facts (Some octets) link =
-    let good = is_good (verdict_of link.setup (facts_in link) octets) in
-    heard_if (listens_under handle facts.turn.doing) good facts.turn.slot octets link refl
-    ∙ ap (λ b. heard_where (b && good) facts.turn.slot octets) (listened_as handle facts.turn.doing)
+    heard_if (listens_under handle facts.turn.doing) facts.turn.slot octets link
+    ∙ ap (λ b. heard_where b (verdict_of link.setup (facts_in link) octets) facts.turn.slot octets) (listened_as handle facts.turn.doing)
 
 -- where a station received nothing, all its ends are as they were
-whole_at : (given : Given) (history : List Event) (received : ℕ → Option (List ℕ)) (station handle : ℕ) (link : OpenLink) → is_in station given.stations ≡ true
-    → link_at handle (facts_at given station history).links ≡ Some link → received station ≡ None → AreSeenSo given history received
-    → seen_at (number_at station handle history) (side_of station) history ≡ seen_in_link (number_at station handle history) (side_of station) link
-whole_at given history received station handle link in_it at none seen =
-    whole (received station) handle (facts_at given station history).turn link (number_at station handle history) (side_of station) history (λ listens. none) (seen station handle link in_it at)
+whole_at : (words : Words) (given : Given) (history : List Event) (received : ℕ → Option (List ℕ)) (station handle : ℕ) (link : OpenLink) → is_in station given.stations ≡ true
+    → link_at handle (facts_at given station history).links ≡ Some link → received station ≡ None → AreSeenSo words given history received
+    → seen_at words (number_at station handle history) (side_of station) history ≡ seen_in_link (number_at station handle history) (side_of station) link
+whole_at words given history received station handle link in_it at none seen =
+    whole words (received station) handle (facts_at given station history).turn link (number_at station handle history) (side_of station) history (λ listens. none) (seen station handle link in_it at)
 
-pub all_whole : (given : Given) (history : List Event) → ((station : ℕ) → is_in station given.stations ≡ true → packet_received station history ≡ None)
-    → AreSeenSo given history (λ station. packet_received station history) → AreSeen given history
-all_whole given history none seen = λ station in_it handle link at. whole_at given history (λ one. packet_received one history) station handle link in_it at (none station in_it) seen
+pub all_whole : (words : Words) (given : Given) (history : List Event) → ((station : ℕ) → is_in station given.stations ≡ true → packet_received station history ≡ None)
+    → AreSeenSo words given history (λ station. packet_received station history) → AreSeen words given history
+all_whole words given history none seen = λ station in_it handle link at. whole_at words given history (λ one. packet_received one history) station handle link in_it at (none station in_it) seen
 
 -- a station that sends has no packet to take
-sender_whole : (given : Given) (history : List Event) (station channel : ℕ) (octets : List ℕ) → IsListening (facts_at given station history) (facts_at given station history).turn.doing
-    → use_at given station history ≡ Sends channel octets → AreSeenSo given history (λ one. packet_received one history) → AreSeenOf given history station
-sender_whole given history station channel octets listens sends seen = λ in_it handle link at.
+sender_whole : (words : Words) (given : Given) (history : List Event) (station channel : ℕ) (octets : List ℕ) → IsListening (facts_at given station history) (facts_at given station history).turn.doing
+    → use_at given station history ≡ Sends channel octets → AreSeenSo words given history (λ one. packet_received one history) → AreSeenOf words given history station
+sender_whole words given history station channel octets listens sends seen = λ in_it handle link at.
     let facts = facts_at given station history in
-    whole (packet_received station history) handle facts.turn link (number_at station handle history) (side_of station) history
+    whole words (packet_received station history) handle facts.turn link (number_at station handle history) (side_of station) history
     (λ on. absurd (let h : Sends channel octets ≡ Listens (facts_in link).event.channel =
     sym sends ∙ sym (wanted_is given station history) ∙ listens_wanted facts handle link facts.turn.doing on listens at in absurd cc)) (seen station handle link in_it at)
 
+-- an end listens on its link
+listens_on_link : (handle : ℕ) (doing : Doing) → listens_under handle doing ≡ true → is_on_link doing ≡ true
+listens_on_link handle (CentralListens other) is = refl
+listens_on_link handle (PeripheralListens other) is = refl
+listens_on_link handle other is = absurd cc
+
+-- the other one of two stations
+other_in : (given : Given) → IsOfTwo given → (station : ℕ) → is_in (other_of station) given.stations ≡ true
+other_in given are_two zero = ap (is_in 1) are_two
+other_in given are_two (suc station) = ap (is_in 0) are_two
+
 -- a call in which nothing is heard
-whole_before : (given : Given) (history : List Event) (received : ℕ → Option (List ℕ)) (station : ℕ) (step : Call)
+whole_before : (words : Words) (given : Given) (history : List Event) (received : ℕ → Option (List ℕ)) (station : ℕ) (step : Call)
     → ((handle : ℕ) (facts : Facts) (link : OpenLink) → heard_next handle facts step link ≡ []) → received station ≡ None
-    → AreSeenSo given history received → IsSeenBefore given history station step
-whole_before given history received station step deaf none seen = λ in_it handle link at.
-    whole_at given history received station handle link in_it at none seen
+    → AreSeenSo words given history received → IsSeenBefore words given history station step
+whole_before words given history received station step deaf none seen = λ in_it handle link at.
+    whole_at words given history received station handle link in_it at none seen
     ∙ sym (append-nil (seen_in_link (number_at station handle history) (side_of station) link))
     ∙ ap (λ xs. seen_in_link (number_at station handle history) (side_of station) link ++ xs) (sym (deaf handle (facts_at given station history) link))
 
 -- a call, and all that is noted in it
-call_each : (given : Given) (station : ℕ) (step : Call) (history : List Event) → Each (SeenBefore given) [] history → IsSeenBefore given history station step
-    → Each (SeenBefore given) [] (after_call given station step history)
-call_each given station step history each is =
-    each_called (SeenBefore given) station step (notes_after (setup_at given station) (facts_at given station history) step) history each is (λ before note. tt)
+call_each : (words : Words) (given : Given) (station : ℕ) (step : Call) (history : List Event) → Each (SeenBefore words given) [] history → IsSeenBefore words given history station step
+    → Each (SeenBefore words given) [] (after_call given station step history)
+call_each words given station step history each is =
+    each_called (SeenBefore words given) station step (notes_after (setup_at given station) (facts_at given station history) step) history each is (λ before note. tt)
 
 -- ---- what a host sends
-
--- the octets add events to a history
-record HasMore (history later : List Event) : Type 0 where
-  events : List Event
-  is : later ≡ history ++ events
-
-octets_more : (given : Given) (station : ℕ) (octets : List ℕ) (history : List Event) → HasMore history (after_octets given station octets history)
-octets_more given station [] history = record { events = []; is = sym (append-nil history) }
-octets_more given station (octet ∷ octets) history =
-    let notes = notes_after (setup_at given station) (facts_at given station history) (HostOctet octet) in
-    let more = octets_more given station octets (after_call given station (HostOctet octet) history) in
-    let called = Called station (HostOctet octet) ∷ map (Noted station) notes in
-    record { events = called ++ more.events; is = more.is ∙ append_assoc history called more.events }
 
 -- an octet is called next
 pub record IsOctetNext (given : Given) (station octet : ℕ) (history : List Event) : Type 0 where
@@ -212,7 +211,7 @@ octet_stands past octet begun stands =
 abbrev NoneReceived : ℕ → Option (List ℕ)
 NoneReceived station = None
 
-module _ (understood : IsUnderstood) (taken : AreTaken) (nth : AreNth) (apart : AreApart) (given : Given) (are_two : IsOfTwo given) (six : HaveAddresses given) where
+module _ (words : Words) (understood : IsUnderstood) (taken : AreTaken) (nth : AreNth) (apart : AreApart) (given : Given) (are_two : IsOfTwo given) (six : HaveAddresses given) where
   distinct : AreDistinct given.stations
   distinct = are_distinct given are_two
 
@@ -230,8 +229,8 @@ module _ (understood : IsUnderstood) (taken : AreTaken) (nth : AreNth) (apart : 
 
   -- while a station is fed: it takes nothing, and stands before its turn
   pub record AreFed (station begun : ℕ) (history : List Event) : Type 0 where
-    pub seen : AreSeenSo given history NoneReceived
-    pub each : Each (SeenBefore given) [] history
+    pub seen : AreSeenSo words given history NoneReceived
+    pub each : Each (SeenBefore words given) [] history
     pub sent : Each IsOfBoth [] history
     pub stands : standing (past_of station history) ≡ Some (at_stage Between begun)
     pub turns : turns_begun history - 1 ≡ begun
@@ -242,7 +241,8 @@ module _ (understood : IsUnderstood) (taken : AreTaken) (nth : AreNth) (apart : 
   apart_from station in_it other is_too differs same = two_apart given are_two station in_it other is_too (differs_back other station differs) (sym same)
 
   module _ (station octet begun : ℕ) (history rest : List Event) (in_it : is_in station given.stations ≡ true)
-      (at : history_of (run_of given) ≡ history ++ Called station (HostOctet octet) ∷ rest) (lined : AreLined given history)
+      (at : history_of (run_of given) ≡ history ++ Called station (HostOctet octet) ∷ rest)
+      (words_are : words (side_of station) (journal_of history) ≡ words_next (setup_at given station) (facts_at given station history)) (lined : AreLined given history)
       (lined_after : AreLined given (after_call given station (HostOctet octet) history)) (fed : AreFed station begun history) where
     abbrev here : Facts
     here = facts_at given station history
@@ -272,12 +272,12 @@ module _ (understood : IsUnderstood) (taken : AreTaken) (nth : AreNth) (apart : 
       pub base : OpenLink
       pub was : link_at handle here.links ≡ Some base
       pub number : number_at station handle next ≡ number_at station handle history
-      pub is : IsAsked handle here.turn.begun (answered_after here (HostOctet octet)) base link
-      pub lines : seen_from (side_of station) (number_at station handle history) (journal_of history) (call_lines given station (HostOctet octet) history)
+      pub is : IsAsked handle (moment_of (setup_at given station) here) (answered_after here (HostOctet octet)) base link
+      pub lines : seen_from words (side_of station) (number_at station handle history) (journal_of history) (call_lines given station (HostOctet octet) history)
           ≡ asked_if is.asked
-      pub answers : answers_from (side_of station) (number_at station handle history) (journal_of history) (call_lines given station (HostOctet octet) history)
+      pub answers : answers_from words (side_of station) (number_at station handle history) (journal_of history) (call_lines given station (HostOctet octet) history)
           ≡ answers_if is.asked
-      pub seen : seen_at (number_at station handle history) (side_of station) next
+      pub seen : seen_at words (number_at station handle history) (side_of station) next
           ≡ seen_in_link (number_at station handle history) (side_of station) link
 
     pub octet_asks : (handle : ℕ) (link : OpenLink) → link_at handle (facts_at given station next).links ≡ Some link → IsAskedIn handle link
@@ -286,9 +286,12 @@ module _ (understood : IsUnderstood) (taken : AreTaken) (nth : AreNth) (apart : 
         let setup = setup_at given station in
         let side = side_of station in
         let own = number_at station handle history in
-        let asked = octet_asked setup here handle link octet (held_at given station step history in_it lined lined_after handle link held) in
+        let asked = octet_asked setup here handle link octet (held_at words given station step history in_it lined lined_after handle link held) in
         let same = number_called given station step history handle (octet_noted (OpensNone handle) (opening_none handle).starts.feeds setup here octet) in
         let known = known_end handle asked.base asked.was in
+        let moment = moment_of setup here in
+        let moment_is : moment_in words side (journal_of history) moment.slot ≡ moment =
+        ap (λ (next : Response). record { slot = here.turn.begun; skd_m = next.skd_s; iv_m = next.iv_s }) words_are in
         let now = subst (λ n. lines_at n side next ≡ map (line_of side n) (notes_opened_on link.setup link.past)) same (lined_after station handle link in_it held) in
         let accepted = call_accepts given are_two station in_it step history rest at
         (each_at (NotedBefore given) (history_of (run_of given)) history rest (Called station step) (run_noted given).each at refl station) in record {
@@ -296,38 +299,39 @@ module _ (understood : IsUnderstood) (taken : AreTaken) (nth : AreNth) (apart : 
           was = asked.was;
           number = same;
           is = asked.is;
-          lines = asked_lines own side history here.turn.begun handle asked.base known given station octet link now accepted asked.is;
-          answers = answered_lines own side history here.turn.begun handle asked.base known given station octet link now accepted asked.is;
-          seen = asked_seen own side history here.turn.begun handle asked.base known given station octet link now accepted asked.is
-              (whole_at given history NoneReceived station handle asked.base in_it asked.was refl fed.seen);
+          lines = asked_lines words own side history moment handle asked.base known moment_is given station octet link now accepted asked.is;
+          answers = answered_lines words own side history moment handle asked.base known moment_is given station octet link now accepted asked.is;
+          seen = asked_seen words own side history moment handle asked.base known moment_is given station octet link now accepted asked.is
+              (whole_at words given history NoneReceived station handle asked.base in_it asked.was refl fed.seen);
         }
 
     octet_own : (handle : ℕ) (link : OpenLink) → link_at handle (facts_at given station next).links ≡ Some link
-        → IsSeenAt None handle (facts_at given station next).turn link (number_at station handle next) (side_of station) next
+        → IsSeenAt words None handle (facts_at given station next).turn link (number_at station handle next) (side_of station) next
     octet_own handle link held =
         let asked = octet_asks handle link held in
-        hosted_own given station (HostOctet octet) history in_it lined lined_after handle link held None refl asked.number asked.base asked.was asked.seen
+        hosted_own words given station (HostOctet octet) history in_it lined lined_after handle link held None refl asked.number asked.base asked.was asked.seen
 
     pub octet_fed : AreFed station begun (after_call given station (HostOctet octet) history)
     octet_fed =
         let step = HostOctet octet in
         let notes = notes_after (setup_at given station) here step in record {
-          seen = seen_call given station step history NoneReceived NoneReceived (apart_from station in_it) lined lined_after octet_own (λ other is_too differs. refl) fed.seen;
-          each = call_each given station step history fed.each (whole_before given history NoneReceived station step (λ handle held link. refl) refl fed.seen);
+          seen = seen_call words given station step history NoneReceived NoneReceived (apart_from station in_it) lined lined_after octet_own (λ other is_too differs. refl) fed.seen;
+          each = call_each words given station step history fed.each (whole_before words given history NoneReceived station step (λ handle held link. refl) refl fed.seen);
           sent = each_called IsOfBoth station step notes history fed.sent tt (λ before note. tt);
           stands = ap standing (past_own station step notes history) ∙ octet_stands (past_of station history) octet begun fed.stands;
           turns = ap (λ n. n - 1) (turns_called station step notes history) ∙ fed.turns;
         }
 
   octets_fed : (station : ℕ) (octets : List ℕ) (begun : ℕ) (history rest : List Event) → is_in station given.stations ≡ true
-      → history_of (run_of given) ≡ after_octets given station octets history ++ rest → AreLined given (after_octets given station octets history)
+      → history_of (run_of given) ≡ after_octets given station octets history ++ rest → GivesWordsIn given words (after_octets given station octets history)
+      → AreLined given (after_octets given station octets history)
       → AreFed station begun history → AreFed station begun (after_octets given station octets history)
-  octets_fed station [] begun history rest in_it is lined fed = fed
-  octets_fed station (octet ∷ octets) begun history rest in_it is lined fed =
+  octets_fed station [] begun history rest in_it is gives lined fed = fed
+  octets_fed station (octet ∷ octets) begun history rest in_it is gives lined fed =
       let next = after_call given station (HostOctet octet) history in
       let now = octet_next given station octet octets history rest is in
-      octets_fed station octets begun next rest in_it is lined
-      (octet_fed station octet begun history now.rest in_it now.at (lined_octet station octet octets history rest is) (lined_next station octets next rest is lined) fed)
+      octets_fed station octets begun next rest in_it is gives lined
+      (octet_fed station octet begun history now.rest in_it now.at (given_octet words given station octet octets history gives) (lined_octet station octet octets history rest is) (lined_next station octets next rest is lined) fed)
 
   -- its host sends octets
   pub begin_fed : (station octet : ℕ) (octets : List ℕ) (begun : ℕ) (history rest : List Event)
@@ -335,9 +339,9 @@ module _ (understood : IsUnderstood) (taken : AreTaken) (nth : AreNth) (apart : 
       → AreFed station begun history → AreFed station begun (history ++ HostFed station (octet ∷ octets) ∷ [])
   begin_fed station octet octets begun history rest is lined fed =
       let event = HostFed station (octet ∷ octets) in record {
-        seen = seen_event given history event NoneReceived lined (lined_octet station octet octets (history ++ event ∷ []) rest is) (λ one. refl)
-            (λ number side. feed_says number side history station (octet ∷ octets)) (λ one handle. number_quiet one handle history event (λ links. refl)) fed.seen;
-        each = each_event (SeenBefore given) history event fed.each tt;
+        seen = seen_event words given history event NoneReceived lined (lined_octet station octet octets (history ++ event ∷ []) rest is) (λ one. refl)
+            (λ number side. feed_says words number side history station (octet ∷ octets)) (λ one handle. number_quiet one handle history event (λ links. refl)) fed.seen;
+        each = each_event (SeenBefore words given) history event fed.each tt;
         sent = each_event IsOfBoth history event fed.sent tt;
         stands = ap standing (event_past station history event refl) ∙ fed.stands;
         turns = ap (λ n. n - 1) (turns_same history event refl) ∙ fed.turns;
@@ -345,9 +349,9 @@ module _ (understood : IsUnderstood) (taken : AreTaken) (nth : AreNth) (apart : 
 
   -- before it is fed
   pub first_fed : (done left : List ℕ) (station : ℕ) (history : List Event) → is_in station given.stations ≡ true
-      → AreSeenAt given (AtFeeds done (station ∷ left)) history → AreFed station (turns_begun history - 1) history
+      → AreSeenAt words given (AtFeeds done (station ∷ left)) history → AreFed station (turns_begun history - 1) history
   first_fed done left station history in_it has = record {
-    seen = seen_same given history (λ one. packet_received one history) NoneReceived (λ one in_one. sym (has.holds.hearing.hears one in_one)) has.seen;
+    seen = seen_same words given history (λ one. packet_received one history) NoneReceived (λ one in_one. sym (has.holds.hearing.hears one in_one)) has.seen;
     each = has.each;
     sent = has.known.asked.sent;
     stands = has.holds.hearing.stand station in_it;
@@ -355,24 +359,25 @@ module _ (understood : IsUnderstood) (taken : AreTaken) (nth : AreNth) (apart : 
   }
 
   feed_fed : (station : ℕ) (octets : List ℕ) (begun : ℕ) (history rest : List Event) → is_in station given.stations ≡ true
-      → history_of (run_of given) ≡ after_feed given station octets history ++ rest → AreLined given history → AreLined given (after_feed given station octets history)
+      → history_of (run_of given) ≡ after_feed given station octets history ++ rest → GivesWordsIn given words (after_feed given station octets history)
+      → AreLined given history → AreLined given (after_feed given station octets history)
       → AreFed station begun history → AreFed station begun (after_feed given station octets history)
-  feed_fed station [] begun history rest in_it is lined lined_after fed = fed
-  feed_fed station (octet ∷ octets) begun history rest in_it is lined lined_after fed =
-      octets_fed station (octet ∷ octets) begun (history ++ HostFed station (octet ∷ octets) ∷ []) rest in_it is lined_after
+  feed_fed station [] begun history rest in_it is gives lined lined_after fed = fed
+  feed_fed station (octet ∷ octets) begun history rest in_it is gives lined lined_after fed =
+      octets_fed station (octet ∷ octets) begun (history ++ HostFed station (octet ∷ octets) ∷ []) rest in_it is gives lined_after
       (begin_fed station octet octets begun history rest is lined fed)
 
-  octets_unheard : (station : ℕ) (octets : List ℕ) (history : List Event) → AreUnheard history → AreUnheard (after_octets given station octets history)
-  octets_unheard station [] history are = are
-  octets_unheard station (octet ∷ octets) history are =
-      octets_unheard station octets (after_call given station (HostOctet octet) history) (unheard_called given station (HostOctet octet) history are)
+  octets_unreached : (station : ℕ) (octets : List ℕ) (history : List Event) → AreUnreached words history → AreUnreached words (after_octets given station octets history)
+  octets_unreached station [] history are = are
+  octets_unreached station (octet ∷ octets) history are =
+      octets_unreached station octets (after_call given station (HostOctet octet) history) (unreached_called words given station (HostOctet octet) history are)
 
-  feed_unheard : (station : ℕ) (octets : List ℕ) (history : List Event) → AreUnheard history → AreUnheard (after_feed given station octets history)
-  feed_unheard station [] history are = are
-  feed_unheard station (octet ∷ octets) history are =
+  feed_unreached : (station : ℕ) (octets : List ℕ) (history : List Event) → AreUnreached words history → AreUnreached words (after_feed given station octets history)
+  feed_unreached station [] history are = are
+  feed_unreached station (octet ∷ octets) history are =
       let event = HostFed station (octet ∷ octets) in
-      octets_unheard station (octet ∷ octets) (history ++ event ∷ [])
-      (λ number. unheard_event_at number history event (λ side. feed_heard number side history station (octet ∷ octets)) (are number))
+      octets_unreached station (octet ∷ octets) (history ++ event ∷ [])
+      (λ number. unreached_event words number history event (λ side. feed_reached words number side history station (octet ∷ octets)) (are number))
 
   -- ---- who transmits
 
@@ -399,98 +404,105 @@ module _ (understood : IsUnderstood) (taken : AreTaken) (nth : AreNth) (apart : 
 
   -- before a packet no station has one to take: nothing was heard of its sender, which does not listen
   pub packet_whole : (phases : ℕ) (done left : List ℕ) (station channel : ℕ) (octets : List ℕ) (history : List Event) → given.stations ≡ done ++ station ∷ left
-      → use_at given station history ≡ Sends channel octets → AreSeenAt given (AtPackets phases done (station ∷ left)) history → AreSeen given history
+      → use_at given station history ≡ Sends channel octets → AreSeenAt words given (AtPackets phases done (station ∷ left)) history → AreSeen words given history
   packet_whole phases done left station channel octets history are wanted has = λ one. by one (one == station) refl
     where
-      by : (one : ℕ) → (same : Bool) → (one == station) ≡ same → AreSeenOf given history one
+      by : (one : ℕ) → (same : Bool) → (one == station) ≡ same → AreSeenOf words given history one
       by one true same =
           let place = AtPackets phases done (station ∷ left) in
           let listens = (phased_at given place history has.holds.hearing.stand station (among given.stations done left station are)).uses.in_turn.listens in
-          subst (AreSeenOf given history) (sym (eqb-true one station same)) (sender_whole given history station channel octets listens wanted has.seen)
+          subst (AreSeenOf words given history) (sym (eqb-true one station same)) (sender_whole words given history station channel octets listens wanted has.seen)
       by one false differs = λ in_one handle link at.
-          whole_at given history (λ each. packet_received each history) one handle link in_one at
+          whole_at words given history (λ each. packet_received each history) one handle link in_one at
           (has.silent one station in_one (among given.stations done left station are) differs (not_before given.stations done left station distinct are)) has.seen
 
-  -- what is sent on a data channel is sent on a link
-  sends_on_link : (held : Facts) (channel : ℕ) (octets : List ℕ) → is_advertising channel ≡ false → IsUseSent held (Sends channel octets) → is_on_link held.turn.doing ≡ true
-  sends_on_link held channel octets off (inl pdu) = absurd (let h : true ≡ false = sym (on_channel channel pdu.on_channel) ∙ off in absurd cc)
-  sends_on_link held channel octets off (inr sent) = sending_on_link sent.handle held.turn.doing sent.sends
-
-  -- a packet of a link is sent in a turn after that of its CONNECT_IND
-  packet_unheard : (phases : ℕ) (done left : List ℕ) (station channel : ℕ) (octets : List ℕ) (fates : List Fate) (history : List Event) → given.stations ≡ done ++ station ∷ left
-      → use_at given station history ≡ Sends channel octets → AreSeenAt given (AtPackets phases done (station ∷ left)) history
-      → AreUnheard (history ++ Transmitted station channel octets (hearings_of given fates station channel octets history) ∷ [])
-  packet_unheard phases done left station channel octets fates history are wanted has = λ number. by number (is_advertising channel) refl
+  -- a packet of a link is heard in a turn after that of its CONNECT_IND
+  packet_unreached : (phases : ℕ) (done left : List ℕ) (station channel : ℕ) (octets : List ℕ) (fates : List Fate) (history : List Event) → given.stations ≡ done ++ station ∷ left
+      → use_at given station history ≡ Sends channel octets → unseen_in octets (hearings_of given fates station channel octets history) ≡ None
+      → AreSeenAt words given (AtPackets phases done (station ∷ left)) history
+      → AreUnreached words (history ++ Transmitted station channel octets (hearings_of given fates station channel octets history) ∷ [])
+  packet_unreached phases done left station channel octets fates history are wanted unseen has = λ number.
+      by number (is_advertising channel) refl (is_handed (hearing_of given fates station channel octets history).verdict) refl
     where
-      by : (number : ℕ) → (on : Bool) → is_advertising channel ≡ on
-          → IsUnheard number (history ++ Transmitted station channel octets (hearings_of given fates station channel octets history) ∷ [])
-      by number true on =
+      by : (number : ℕ) → (on : Bool) → is_advertising channel ≡ on → (handed : Bool) → is_handed (hearing_of given fates station channel octets history).verdict ≡ handed
+          → IsUnreached words number (history ++ Transmitted station channel octets (hearings_of given fates station channel octets history) ∷ [])
+      by number true on handed judged =
           let hearings = hearings_of given fates station channel octets history in
           let one = one_hearing given are_two fates station channel octets history (among given.stations done left station are) in
-          unheard_event_at number history (Transmitted station channel octets hearings)
-          (λ side. advertised_heard number side station channel octets history hearings (hearing_of given fates station channel octets history) one on) (has.unheard number)
-      by number false off =
+          unreached_event words number history (Transmitted station channel octets hearings)
+          (λ side. advertised_reached words number side station channel octets history hearings (hearing_of given fates station channel octets history) one on) (has.unreached number)
+      by number false off false bad =
+          let hearings = hearings_of given fates station channel octets history in
+          let one = one_hearing given are_two fates station channel octets history (among given.stations done left station are) in
+          unreached_event words number history (Transmitted station channel octets hearings)
+          (λ side. bad_reached words number side station channel octets history hearings (hearing_of given fates station channel octets history) one bad) (has.unreached number)
+      by number false off true handed =
           let place = AtPackets phases done (station ∷ left) in
           let in_it = among given.stations done left station are in
-          let facts = facts_at given station history in
-          let sent = sends_on_its_link nth apart given are_two six phases done left station history are has.known channel octets wanted off in
-          let link = link_after (PacketSent sent.slot) sent.link in
-          let begun = begun_at given are_two place history has.known station sent.handle link sent.is_open in
-          let old = (has.holds.so_far.last.each station in_it).old
-          (sends_on_link facts channel octets off (use_sent_at given six place history has.holds.hearing.stand station in_it channel octets wanted)) in
-          let before : sent.link.setup.opened < facts.turn.slot = open_has (OpenedBefore facts.turn.slot) 0 sent.handle facts.links link old sent.is_open in
-          let now = (phased_at given place history has.holds.hearing.stand station in_it).uses.in_turn.slot_is in
+          let other = other_of station in
+          let is_too = other_in given are_two station in
+          let facts = facts_at given other history in
+          let there = hears_there words nth apart given are_two six phases done left station channel octets fates history are wanted has.known has.holds.hearing.stand has.seen
+          is_too off unseen handed in
+          let begun = begun_at given are_two place history has.known other there.handle there.link there.is_open in
+          let old = (has.holds.so_far.last.each other is_too).old (listens_on_link there.handle facts.turn.doing there.on) in
+          let before : there.link.setup.opened < facts.turn.slot = open_has (OpenedBefore facts.turn.slot) 0 there.handle facts.links there.link old there.is_open in
+          let now = (phased_at given place history has.holds.hearing.stand other is_too).uses.in_turn.slot_is in
           let slot = begun.slot in
-          unheard_packet_of number (number_at station sent.handle history) station channel octets history (hearings_of given fates station channel octets history)
-          (hearing_of given fates station channel octets history) begun.link (one_hearing given are_two fates station channel octets history in_it) off sent.belongs begun.is_link
-          (omega (arith, before, now, slot)) (has.unheard number) (number_at station sent.handle history == number) refl
+          unreached_packet_of words number (number_at other there.handle history) station channel octets history (hearings_of given fates station channel octets history)
+          (hearing_of given fates station channel octets history) begun.link (one_hearing given are_two fates station channel octets history in_it) off there.belongs begun.is_link
+          (omega (arith, before, now, slot)) (has.unreached number) (number_at other there.handle history == number) refl
 
   -- ---- each step
 
-  pub seen_kept : IsKept given (AreSeenAt given)
-  seen_kept = let kept = holds_kept given (AreStations given) (stations_kept given) six distinct in let knows = known_kept understood taken given are_two six in record {
-    on_turn = λ slot plan history begun at has.
+  -- where the words are given up to there
+  pub seen_so_far : IsKept given (λ place history. GivesWordsIn given words history → AreSeenAt words given place history)
+  seen_so_far = let kept = holds_kept given (AreStations given) (stations_kept given) six distinct in let knows = known_kept understood taken given are_two six in record {
+    on_turn = λ slot plan history begun at had gives.
+        let has = had (given_front words given history (TurnBegan slot (map plan.radio_of given.stations) ∷ []) gives) in
         let event = TurnBegan slot (map plan.radio_of given.stations) in
         let known = knows.on_turn slot plan history begun at has.known in record {
           known = known;
           holds = kept.on_turn slot plan history begun at has.holds;
           silent = tt;
-          unheard = λ number. unheard_event_at number history event (λ side. turn_heard number side history slot (map plan.radio_of given.stations)) (has.unheard number);
-          seen = seen_same given (history ++ event ∷ []) (λ one. packet_received one history) (λ one. packet_received one (history ++ event ∷ [])) (λ one in_it. received_event one history event)
-              (seen_event given history event (λ one. packet_received one history) (lined_at understood taken given are_two six NoTurn history has.known)
+          unreached = λ number. unreached_event words number history event (λ side. turn_reached words number side history slot (map plan.radio_of given.stations)) (has.unreached number);
+          seen = seen_same words given (history ++ event ∷ []) (λ one. packet_received one history) (λ one. packet_received one (history ++ event ∷ [])) (λ one in_it. received_event one history event)
+              (seen_event words given history event (λ one. packet_received one history) (lined_at understood taken given are_two six NoTurn history has.known)
               (lined_at understood taken given are_two six (AtFeeds [] given.stations) (history ++ event ∷ []) known) (λ one. refl)
-              (λ number side. turn_says number side history slot (map plan.radio_of given.stations)) (λ one handle. number_quiet one handle history event (λ links. refl)) has.seen);
-          each = each_event (SeenBefore given) history event has.each (all_whole given history has.holds.hearing.hears has.seen);
+              (λ number side. turn_says words number side history slot (map plan.radio_of given.stations)) (λ one handle. number_quiet one handle history event (λ links. refl)) has.seen);
+          each = each_event (SeenBefore words given) history event has.each (all_whole words given history has.holds.hearing.hears has.seen);
         };
-    on_feed = λ plan done left station history are some now has.
+    on_feed = λ plan done left station history are some now had gives.
         let octets = take (plan.feed_of station) (octets_left given station history) in
         let in_it = among given.stations done left station are in
         let after = after_feed given station octets history in
+        let has = had (given_earlier words given history after (feed_more given station octets history) gives) in
         let place = AtFeeds (done ++ station ∷ []) left in
         let known = knows.on_feed plan done left station history are some now has.known in
         let holds = kept.on_feed plan done left station history are some now has.holds in
         let front = front_at given place after known.front in
-        let fed = feed_fed station octets (turns_begun history - 1) history front.rest in_it front.at
+        let fed = feed_fed station octets (turns_begun history - 1) history front.rest in_it front.at gives
         (lined_at understood taken given are_two six (AtFeeds done (station ∷ left)) history has.known)
         (lined_at understood taken given are_two six place after known) (first_fed done left station history in_it has) in record {
           known = known;
           holds = holds;
           silent = tt;
-          unheard = feed_unheard station octets history has.unheard;
-          seen = seen_same given after NoneReceived (λ one. packet_received one after) (λ one in_one. holds.hearing.hears one in_one) fed.seen;
+          unreached = feed_unreached station octets history has.unreached;
+          seen = seen_same words given after NoneReceived (λ one. packet_received one after) (λ one in_one. holds.hearing.hears one in_one) fed.seen;
           each = fed.each;
         };
-    on_fed = λ history has. record {
+    on_fed = λ history had gives. let has = had gives in record {
       known = knows.on_fed history has.known;
       holds = kept.on_fed history has.holds;
       silent = tt;
-      unheard = has.unheard;
+      unreached = has.unreached;
       seen = has.seen;
       each = has.each;
     };
-    on_begin = λ slot plan done left station history are due has.
+    on_begin = λ slot plan done left station history are due had gives.
         let on = plan.radio_of station in
         let step = TurnBegins slot on in
+        let has = had (given_call words given station step history gives) in
         let in_it = among given.stations done left station are in
         let setup = setup_at given station in
         let facts = facts_at given station history in
@@ -503,62 +515,64 @@ module _ (understood : IsUnderstood) (taken : AreTaken) (nth : AreNth) (apart : 
           known = known;
           holds = holds;
           silent = tt;
-          unheard = unheard_called given station step history has.unheard;
-          seen = seen_call given station step history (λ one. packet_received one history) (λ one. packet_received one after) (apart_from station in_it) lined lined_after (λ handle link held.
-              let grown = begun_grown setup facts slot on handle link (held_at given station step history in_it lined lined_after handle link held) in
-              quiet_own given station step history in_it lined lined_after handle link held (packet_received station after) (holds.hearing.hears station in_it)
+          unreached = unreached_called words given station step history has.unreached;
+          seen = seen_call words given station step history (λ one. packet_received one history) (λ one. packet_received one after) (apart_from station in_it) lined lined_after (λ handle link held.
+              let grown = begun_grown setup facts slot on handle link (held_at words given station step history in_it lined lined_after handle link held) in
+              quiet_own words given station step history in_it lined lined_after handle link held (packet_received station after) (holds.hearing.hears station in_it)
               (number_called given station step history handle (begin_noted (OpensNone handle) (opening_none handle) setup slot on facts)) grown.base grown.was tt grown.is
-              (whole_at given history (λ one. packet_received one history) station handle grown.base in_it grown.was none has.seen))
+              (whole_at words given history (λ one. packet_received one history) station handle grown.base in_it grown.was none has.seen))
               (λ other is_too differs. received_by given other station step history false differs) has.seen;
-          each = call_each given station step history has.each (whole_before given history (λ one. packet_received one history) station step (λ handle held link. refl) none has.seen);
+          each = call_each words given station step history has.each (whole_before words given history (λ one. packet_received one history) station step (λ handle held link. refl) none has.seen);
         };
-    on_begun = λ history has. record {
+    on_begun = λ history had gives. let has = had gives in record {
       known = knows.on_begun history has.known;
       holds = kept.on_begun history has.holds;
       silent = tt;
-      unheard = has.unheard;
+      unreached = has.unreached;
       seen = has.seen;
       each = has.each;
     };
-    on_phase = λ phases history few has. record {
+    on_phase = λ phases history few had gives. let has = had gives in record {
       known = knows.on_phase phases history few has.known;
       holds = kept.on_phase phases history few has.holds;
       silent = λ other sender in_it is_too differs out. has.holds.hearing.hears other in_it;
-      unheard = has.unheard;
+      unreached = has.unreached;
       seen = has.seen;
       each = has.each;
     };
-    on_silence = λ phases done left station history are none has. record {
+    on_silence = λ phases done left station history are none had gives. let has = had gives in record {
       known = knows.on_silence phases done left station history are none has.known;
       holds = kept.on_silence phases done left station history are none has.holds;
       silent = still_silent phases done left station history has.silent;
-      unheard = has.unheard;
+      unreached = has.unreached;
       seen = has.seen;
       each = has.each;
     };
-    on_packet = λ phases plan done left station channel octets history are some due has.
+    on_packet = λ phases plan done left station channel octets history are some due had gives.
+        let has = had (given_front words given history (Transmitted station channel octets (hearings_of given plan.fates station channel octets history) ∷ []) gives) in
         let in_it = among given.stations done left station are in
         let out = not_before given.stations done left station distinct are in record {
           known = knows.on_packet phases plan done left station channel octets history are some due has.known;
           holds = kept.on_packet phases plan done left station channel octets history are some due has.holds;
           silent = packet_silent phases done left station channel octets plan.fates history in_it has.silent;
-          unheard = packet_unheard phases done left station channel octets plan.fates history are due.is_wanted has;
-          seen = packet_aired nth apart given are_two six phases done left station channel octets plan.fates history are due.is_wanted has.known has.holds.hearing.stand has.seen due.is_seen
+          unreached = packet_unreached phases done left station channel octets plan.fates history are due.is_wanted due.is_seen has;
+          seen = packet_aired words nth apart given are_two six phases done left station channel octets plan.fates history are due.is_wanted has.known has.holds.hearing.stand has.seen due.is_seen
               (λ other is_other differs. has.silent other station is_other in_it differs out);
-          each = each_event (SeenBefore given) history (Transmitted station channel octets (hearings_of given plan.fates station channel octets history)) has.each
+          each = each_event (SeenBefore words given) history (Transmitted station channel octets (hearings_of given plan.fates station channel octets history)) has.each
               (packet_whole phases done left station channel octets history are due.is_wanted has);
         };
-    on_air = λ phases history has. record {
+    on_air = λ phases history had gives. let has = had gives in record {
       known = knows.on_air phases history has.known;
       holds = kept.on_air phases history has.holds;
       silent = tt;
-      unheard = has.unheard;
+      unreached = has.unreached;
       seen = has.seen;
       each = has.each;
     };
-    on_hearing = λ phases done left station history are some has.
+    on_hearing = λ phases done left station history are some had gives.
         let received = packet_received station history in
         let step = step_of received in
+        let has = had (given_call words given station step history gives) in
         let in_it = among given.stations done left station are in
         let after = after_call given station step history in
         let place = AtListening phases (done ++ station ∷ []) left in
@@ -571,32 +585,33 @@ module _ (understood : IsUnderstood) (taken : AreTaken) (nth : AreNth) (apart : 
           known = known;
           holds = kept.on_hearing phases done left station history are some has.holds;
           silent = tt;
-          unheard = unheard_called given station step history has.unheard;
-          seen = seen_call given station step history (λ one. packet_received one history) (λ one. packet_received one after) (apart_from station in_it) lined lined_after
-              (passes_own given station history phases in_it phased lined lined_after has.unheard has.seen (λ handle link held. begun_at given are_two place after known station handle link held))
+          unreached = unreached_called words given station step history has.unreached;
+          seen = seen_call words given station step history (λ one. packet_received one history) (λ one. packet_received one after) (apart_from station in_it) lined lined_after
+              (passes_own words given station history phases in_it phased lined lined_after has.unreached has.seen (λ handle link held. begun_at given are_two place after known station handle link held))
               (λ other is_too differs. received_by given other station step history false differs) has.seen;
-          each = call_each given station step history has.each (λ in_one handle link held.
+          each = call_each words given station step history has.each (λ in_one handle link held.
               has.seen station handle link in_it held
               ∙ ap (λ xs. seen_in_link (number_at station handle history) (side_of station) link ++ xs) (to_hear_next handle (facts_at given station history) received link));
         };
-    on_heard = λ phases history has. record {
+    on_heard = λ phases history had gives. let has = had gives in record {
       known = knows.on_heard phases history has.known;
       holds = kept.on_heard phases history has.holds;
       silent = tt;
-      unheard = has.unheard;
+      unreached = has.unreached;
       seen = has.seen;
       each = has.each;
     };
-    on_phases = λ history has. record {
+    on_phases = λ history had gives. let has = had gives in record {
       known = knows.on_phases history has.known;
       holds = kept.on_phases history has.holds;
       silent = tt;
-      unheard = has.unheard;
+      unreached = has.unreached;
       seen = has.seen;
       each = has.each;
     };
-    on_end = λ done left station history are some has.
+    on_end = λ done left station history are some had gives.
         let step = TurnEnds in
+        let has = had (given_call words given station step history gives) in
         let in_it = among given.stations done left station are in
         let setup = setup_at given station in
         let facts = facts_at given station history in
@@ -609,44 +624,49 @@ module _ (understood : IsUnderstood) (taken : AreTaken) (nth : AreNth) (apart : 
           known = known;
           holds = holds;
           silent = tt;
-          unheard = unheard_called given station step history has.unheard;
-          seen = seen_call given station step history (λ one. packet_received one history) (λ one. packet_received one after) (apart_from station in_it) lined lined_after (λ handle link held.
-              let grown = ended_grown setup facts handle link (held_at given station step history in_it lined lined_after handle link held) in
-              quiet_own given station step history in_it lined lined_after handle link held (packet_received station after) (holds.hearing.hears station in_it)
+          unreached = unreached_called words given station step history has.unreached;
+          seen = seen_call words given station step history (λ one. packet_received one history) (λ one. packet_received one after) (apart_from station in_it) lined lined_after (λ handle link held.
+              let grown = ended_grown setup facts handle link (held_at words given station step history in_it lined lined_after handle link held) in
+              quiet_own words given station step history in_it lined lined_after handle link held (packet_received station after) (holds.hearing.hears station in_it)
               (number_called given station step history handle (end_noted (OpensNone handle) (opening_none handle).starts.feeds setup facts)) grown.base grown.was tt grown.is
-              (whole_at given history (λ one. packet_received one history) station handle grown.base in_it grown.was none has.seen))
+              (whole_at words given history (λ one. packet_received one history) station handle grown.base in_it grown.was none has.seen))
               (λ other is_too differs. received_by given other station step history false differs) has.seen;
-          each = call_each given station step history has.each (whole_before given history (λ one. packet_received one history) station step (λ handle held link. refl) none has.seen);
+          each = call_each words given station step history has.each (whole_before words given history (λ one. packet_received one history) station step (λ handle held link. refl) none has.seen);
         };
-    on_ended = λ history has. record {
+    on_ended = λ history had gives. let has = had gives in record {
       known = knows.on_ended history has.known;
       holds = kept.on_ended history has.holds;
       silent = tt;
-      unheard = has.unheard;
+      unreached = has.unreached;
       seen = has.seen;
       each = has.each;
     };
   }
 
+  -- where they are given in all of the run
+  pub seen_kept : GivesWords given words → IsKept given (AreSeenAt words given)
+  seen_kept gives =
+      given_kept words given gives (AreSeenAt words given) (known_kept understood taken given are_two six) (λ place history has. has.known) seen_so_far
+
 -- as a run begins no link is open
-none_seen : (given : Given) → AreSeenSo given [] (λ station. packet_received station [])
+none_seen : (words : Words) (given : Given) → AreSeenSo words given [] (λ station. packet_received station [])
 unfolding facts_of
-none_seen given = λ station handle link in_it at.
+none_seen words given = λ station handle link in_it at.
     absurd (open_has (λ one. ⊥) 0 handle (replicate (setup_at given station).links None) link (none_open (λ one. ⊥) (setup_at given station).links) at)
 
-stations_first : (given : Given) → AreStations given (all_facts given [])
+stations_first : (words : Words) (given : Given) → AreStations given (all_facts given [])
 unfolding facts_of
-stations_first given = record { each = λ station in_it. first_station (setup_at given station) }
+stations_first words given = record { each = λ station in_it. first_station (setup_at given station) }
 
-pub seen_first : (given : Given) → AreSeenAt given NoTurn []
-seen_first given = record {
+pub seen_first : (words : Words) (given : Given) → AreSeenAt words given NoTurn []
+seen_first words given = record {
   known = belonging_first given;
   holds = record {
     hearing = record { stand = stands_first given; hears = λ station in_it. first_hears given station };
-    so_far = record { each = tt; last = stations_first given };
+    so_far = record { each = tt; last = stations_first words given };
   };
   silent = tt;
-  unheard = none_unheard;
-  seen = none_seen given;
+  unreached = none_unreached words;
+  seen = none_seen words given;
   each = tt;
 }

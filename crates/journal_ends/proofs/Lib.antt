@@ -3,15 +3,18 @@ pub mod SeenLists
 pub mod PastSeen
 pub mod WordedLinks
 pub mod GrownLinks
-pub mod NoWords
 pub mod HostedLinks
+pub mod DrawingCalls
 pub mod StandingLinks
 pub mod PeersKnown
 pub mod SeenEvents
+pub mod ReachedLinks
 pub mod AskedCalls
 pub mod EndsKnown
 pub mod SeenCalls
+pub mod ForgedLinks
 pub mod SeenPackets
+pub mod GivenFronts
 pub mod KeptSeen
 pub mod RunSeen
 -- what the crates above use of those below

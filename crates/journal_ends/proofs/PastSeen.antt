@@ -22,10 +22,9 @@ use Rattle.journal_acks.specs.link_model.Receiving.{facts_forged_if, facts_recei
 use Rattle.journal_acks.specs.link_model.Setup.{Setup}
 use Rattle.journal_acks.specs.link_model.Step.{Step, DataGiven, ProcedureAsked, RequestAnswered, KeyAnswered, Disconnected, EventEntered, PduFixed, PacketSent, WordsGiven, PacketReceived, DataReported}
 use Rattle.journal_acks.specs.link_model.Verdicts.{has_room_for, pdu_by, verdict_by, whole_in}
-use Rattle.journal_acks.specs.run_model.History.{is_good}
 use Rattle.journal_acks.proofs.GoodLinks.{slot_of}
 use Rattle.journal_acks.proofs.link_calls.HeardSteps.{entered_good, fixed_same, received_same, sent_in}
-use Rattle.journal_ends.specs.Seen.{Says, asked_in_step, heard_in_step, heard_where, line_said, lines_said, notes_said, seen_in, seen_in_steps, seen_of, slot_after}
+use Rattle.journal_ends.specs.Seen.{Says, asked_in_step, heard_as, heard_in_step, line_said, lines_said, notes_said, seen_in, seen_in_steps, seen_of, slot_after}
 use Rattle.journal_ends.proofs.SeenLists.{heard_says, said_again, said_slot, step_unsaid}
 
 module _ (side : Side) (number : ℕ) (setup : Setup) where
@@ -51,7 +50,7 @@ module _ (side : Side) (number : ℕ) (setup : Setup) where
   notes_lines notes = said_again (map (line_of side number) notes)
 
   heard_lines : (facts : Facts) (step : Step) → lines_said (heard_in_step setup facts step) ≡ []
-  heard_lines facts (PacketReceived slot octets room) = heard_says (is_good (verdict_of setup facts octets)) slot octets
+  heard_lines facts (PacketReceived slot octets room) = heard_says (verdict_of setup facts octets) slot octets
   heard_lines facts step = refl
 
   step_lines : (facts : Facts) (step : Step) → lines_said (seen_in side number setup facts step) ≡ map (line_of side number) (notes_after setup facts step)
@@ -80,14 +79,14 @@ module _ (side : Side) (number : ℕ) (setup : Setup) where
   -- a packet that is forged is heard of in no slot
   read_slot : (role : Role) (slot : ℕ) (octets : List ℕ) (room : Bool) (facts : Facts) (read : Option (List ℕ))
       → slot_of (facts_forged_if (is_none read) (facts_received role slot room read facts)).last_good
-      ≡ fold slot_after (slot_of facts.last_good) (heard_where (is_good (if is_none read then Forged else Good)) slot octets)
+      ≡ fold slot_after (slot_of facts.last_good) (heard_as (if is_none read then Forged else Good) slot octets)
   read_slot role slot octets room facts (Some pdu) = ap slot_of (received_same role slot room pdu facts).good
   read_slot role slot octets room facts None = refl
 
   heard_slot : (role : Role) (slot : ℕ) (octets : List ℕ) (room : Bool) (max_rx : ℕ) (opens : Bool) (heard : Heard) (facts : Facts)
       → slot_of (facts_forged_if (is_forged_in facts (whole_in max_rx opens heard))
       (facts_received role slot room (pdu_read_in facts (whole_in max_rx opens heard)) facts)).last_good
-      ≡ fold slot_after (slot_of facts.last_good) (heard_where (is_good (verdict_by max_rx opens (is_forged_pdu facts) heard)) slot octets)
+      ≡ fold slot_after (slot_of facts.last_good) (heard_as (verdict_by max_rx opens (is_forged_pdu facts) heard) slot octets)
   heard_slot role slot octets room max_rx opens NotOurs facts = refl
   heard_slot role slot octets room max_rx opens Faulty facts = refl
   heard_slot role slot octets room max_rx opens (Whole pdu) facts = by (has_room_for max_rx opens pdu.items)
@@ -95,13 +94,13 @@ module _ (side : Side) (number : ℕ) (setup : Setup) where
       by : (fits : Bool) → slot_of (facts_forged_if (is_forged_in facts (pdu_by fits pdu.items))
           (facts_received role slot room (pdu_read_in facts (pdu_by fits pdu.items)) facts)).last_good
           ≡ fold slot_after (slot_of facts.last_good)
-          (heard_where (is_good (if fits then (if is_forged_pdu facts pdu.items then Forged else Good) else Broken)) slot octets)
+          (heard_as (if fits then (if is_forged_pdu facts pdu.items then Forged else Good) else Broken) slot octets)
       by true = read_slot role slot octets room facts (pdu_read facts pdu.items)
       by false = refl
 
   received_slot : (slot : ℕ) (octets : List ℕ) (room : Bool) (facts : Facts)
       → slot_of (facts_after setup facts (PacketReceived slot octets room)).last_good
-      ≡ fold slot_after (slot_of facts.last_good) (heard_where (is_good (verdict_of setup facts octets)) slot octets)
+      ≡ fold slot_after (slot_of facts.last_good) (heard_as (verdict_of setup facts octets) slot octets)
   unfolding good_pdu is_forged verdict_of whole_pdu
   received_slot slot octets room facts =
       heard_slot setup.link.role slot octets room setup.link.max_rx (opens_now facts.encryption.end) (heard_of setup facts octets) facts

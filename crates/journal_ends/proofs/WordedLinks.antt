@@ -1,6 +1,6 @@
 -- A peripheral is given words before it hears a packet. It says and hears nothing by that, and is as it was but for what it
 -- would draw.
-use Rattle.std.proofs.Common.{◌≡◌, ℕ, ◌==◌, true, Option, Some, None, List, [], ◌∷◌, ◌++◌, refl, ap, ◌∙◌, append-nil}
+use Rattle.std.proofs.Common.{◌≡◌, ℕ, true, Option, Some, None, List, [], ◌∷◌, refl, ap, ◌∙◌, append-nil}
 use Rattle.std.specs.Option.{option_map}
 use Rattle.std.proofs.lemmas.Bool.{eqb-true}
 use Rattle.ble_base.specs.declared.roles.Side.{Side}

@@ -7,7 +7,7 @@ use Rattle.ble_base.specs.declared.roles.Side.{Side}
 use Rattle.host_answers.specs.Answered.{accepted_in}
 use Rattle.journal.specs.declared.entries.Entry.{Entry}
 use Rattle.journal_acks.specs.link_model.Step.{Step, KeyAnswered, RequestAnswered}
-use Rattle.journal_ends.specs.Asked.{step_asked}
+use Rattle.journal_ends.specs.Asked.{Words, step_asked}
 
 -- the parameters that the host lets pass, or the code with which it refuses; the key that it has, or that it has none
 abbrev pub answers_in_step : Step → List Step
@@ -20,12 +20,12 @@ answers_if None = []
 answers_if (Some step) = answers_in_step step
 
 -- the line answers a command of the host of this side, which answers the peer by it on the link with this number
-abbrev pub answers_in_line : Side → ℕ → List Entry → Entry → List Step
-answers_in_line side number front line =
-    flat_map (λ command. answers_if (step_asked side number front command)) (accepted_in side front line)
+abbrev pub answers_in_line : Words → Side → ℕ → List Entry → Entry → List Step
+answers_in_line words side number front line =
+    flat_map (λ command. answers_if (step_asked words side number front command)) (accepted_in side front line)
 
 -- those of lines that come after these
-abbrev pub answers_from : Side → ℕ → List Entry → List Entry → List Step
-answers_from side number front [] = []
-answers_from side number front (line ∷ lines) =
-    answers_in_line side number front line ++ answers_from side number (front ++ line ∷ []) lines
+abbrev pub answers_from : Words → Side → ℕ → List Entry → List Entry → List Step
+answers_from words side number front [] = []
+answers_from words side number front (line ∷ lines) =
+    answers_in_line words side number front line ++ answers_from words side number (front ++ line ∷ []) lines

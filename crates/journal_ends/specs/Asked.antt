@@ -16,6 +16,7 @@ use Rattle.journal_acks.specs.link_model.Facts.{no_peer}
 use Rattle.journal_acks.specs.link_model.Receiving.{peer_from}
 use Rattle.journal_acks.specs.link_model.Step.{Step}
 use Rattle.journal_acks.specs.link_model.declared.state.PeerFacts.{PeerFacts}
+use Rattle.journal_acks.specs.link_model.keyed_control.declared.material.Response.{Response}
 use Rattle.journal_acks.specs.run_model.Readers.{turns_of}
 
 -- ---- the end, by its lines
@@ -40,19 +41,27 @@ peer_after peer line = peer
 abbrev pub peer_by : List Entry → PeerFacts
 peer_by lines = fold peer_after no_peer lines
 
+-- ---- the words of a side
+
+-- what each side would draw after these lines: two random words, as halves of a session key diversifier and of an
+-- initialization vector (volume 6 part B, section 5.1.3.1)
+abbrev pub Words : Type 0
+Words = Side → List Entry → Response
+
 -- ---- a command in the turn of a slot
 
--- no command is accepted yet for which a side draws random words
-abbrev pub moment_in : ℕ → Moment
-moment_in slot = record { slot = slot; skd_m = 0; iv_m = 0 }
+-- a central draws them as it accepts LE Enable Encryption
+abbrev pub moment_in : Words → Side → List Entry → ℕ → Moment
+moment_in words side front slot =
+    record { slot = slot; skd_m = (words side front).skd_s; iv_m = (words side front).iv_s }
 
-abbrev pub step_if_open : Option (ℕ × Role) → PeerFacts → ℕ → Command → Option Step
-step_if_open None peer slot command = None
-step_if_open (Some (handle, role)) peer slot command = step_on handle command (moment_in slot) role peer
+abbrev pub step_if_open : Option (ℕ × Role) → PeerFacts → Moment → Command → Option Step
+step_if_open None peer moment command = None
+step_if_open (Some (handle, role)) peer moment command = step_on handle command moment role peer
 
 -- the step that a command asks of the end with these lines
-abbrev pub step_by : List Entry → ℕ → Command → Option Step
-step_by lines slot command = step_if_open (opened_by lines) (peer_by lines) slot command
+abbrev pub step_by : List Entry → Moment → Command → Option Step
+step_by lines moment command = step_if_open (opened_by lines) (peer_by lines) moment command
 
 -- a host is fed before the packets of a turn, so it asks nothing of a link in the turn in which that begins
 abbrev pub is_earlier : Option LinkBegun → ℕ → Bool
@@ -60,7 +69,9 @@ is_earlier None slot = false
 is_earlier (Some link) slot = nat_lt link.slot slot
 
 -- the step that a command asks of the end of a side on the link with a number, by the entries before its answer
-abbrev pub step_asked : Side → ℕ → List Entry → Command → Option Step
-step_asked side number front command =
+abbrev pub step_asked : Words → Side → ℕ → List Entry → Command → Option Step
+step_asked words side number front command =
     let slot = length (turns_of front) - 1 in
-    if is_earlier (link_numbered number front) slot then step_by (lines_of side number front) slot command else None
+    if is_earlier (link_numbered number front) slot
+    then step_by (lines_of side number front) (moment_in words side front slot) command
+    else None

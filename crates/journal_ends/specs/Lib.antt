@@ -1,5 +1,7 @@
 -- The definitions of this crate.
+pub mod Left
 pub mod Asked
+pub mod GivenWords
 pub mod Answering
 pub mod Seen
 pub mod Rows

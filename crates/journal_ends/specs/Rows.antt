@@ -1,9 +1,17 @@
--- Journals in which a host sends commands on its link, as worked examples have them.
+-- Journals in which a host sends commands on its link, or a packet is judged forged, as worked examples have them.
 use Rattle.std.specs.Prelude.{ℕ, List, [], ◌∷◌, ◌++◌}
 use Rattle.ble_base.specs.declared.roles.Side.TheVariants.{B}
 use Rattle.journal.specs.declared.entries.Entry.{Entry}
-use Rattle.journal.specs.declared.entries.Entry.TheVariants.{Fed, Took, Up}
+use Rattle.ble_base.specs.declared.verdicts.Verdict.TheVariants.{Forged}
+use Rattle.journal.specs.declared.entries.Entry.TheVariants.{Air, Fed, Took, Up}
+use Rattle.journal.specs.declared.entries.Mark.TheVariants.{Pass as Passed}
+use Rattle.journal_acks.specs.Rows.{data_packet, data_sent}
 use Rattle.journal_acks.specs.run_model.Rows.{one_connection_journal, turn_entry}
+use Rattle.journal_ends.specs.Asked.{Words}
+
+-- each side would draw these words in any turn
+abbrev pub some_words : Words
+some_words side front = record { skd_s = 0x11; iv_s = 0x22 }
 
 -- Read Remote Version Information, 041D, of handle 0, and its Command Status
 abbrev pub version_command : Entry
@@ -54,3 +62,7 @@ version_body = 0x0C ∷ 0x0B ∷ 0xFF ∷ 0xFF ∷ 0x01 ∷ 0x00 ∷ []
 
 abbrev pub asked_again : List Entry
 asked_again = next_turn ++ Took B 1 1 3 version_body ∷ version_command ∷ version_answer 0x00 ∷ []
+
+-- the peripheral judges the packet with the PDU of data of the central forged
+abbrev pub forged_data : List Entry
+forged_data = data_sent ++ Air B 25 data_packet Passed Forged ∷ []

@@ -11,14 +11,15 @@ ghost use Rattle.journal_acks.specs.link_model.Setup.{Setup};
 ghost use Rattle.journal_acks.specs.link_model.Step.{Step};
 ghost use Rattle.journal_acks.specs.link_model.declared.events.Reception.{Reception};
 ghost use Rattle.journal_acks.specs.Shut.{last_heard};
+ghost use Rattle.journal_ends.specs.Asked.{Words};
 ghost use Rattle.journal_ends.specs.Seen.{last_slot, lines_said, seen_of, seen_on};
 
 /// What the end of a side on a link says, by the lines of any journal, are the lines of that side
 /// on that link; and by its past they are its notes, after the one that says that the link was
 /// opened.
 pub fn what_an_end_says_is_its_lines()
-    ensures by_lines { (side : Side) (number : ℕ) (journal : List Entry)
-        → lines_said (seen_on side number journal) ≡ lines_of side number journal }
+    ensures by_lines { (words : Words) (side : Side) (number : ℕ) (journal : List Entry)
+        → lines_said (seen_on words side number journal) ≡ lines_of side number journal }
     ensures by_past { (side : Side) (number : ℕ) (setup : Setup) (past : List Step)
         → lines_said (seen_of side number setup past)
         ≡ map (line_of side number) (notes_opened_on setup past) }
@@ -28,8 +29,8 @@ pub fn what_an_end_says_is_its_lines()
 /// side on that link that its verdict finds good; and by its past, the last good packet that it
 /// received (Core 5.2, volume 6 part B, section 4.5.2).
 pub fn what_an_end_hears_last_is_its_last_good_packet()
-    ensures by_lines { (side : Side) (number : ℕ) (journal : List Entry)
-        → last_slot (seen_on side number journal) ≡ last_heard number side journal }
+    ensures by_lines { (words : Words) (side : Side) (number : ℕ) (journal : List Entry)
+        → last_slot (seen_on words side number journal) ≡ last_heard number side journal }
     ensures by_past { (side : Side) (number : ℕ) (setup : Setup) (past : List Step)
         → last_slot (seen_of side number setup past)
         ≡ option_map (λ (good : Reception). good.slot) (facts_of setup past).last_good }

@@ -14,6 +14,8 @@ use Rattle.journal_controls.specs.controller_model.Packets.{notes_doing, notes_s
 use Rattle.journal_controls.specs.controller_model.Side.{notes_after}
 use Rattle.journal_controls.specs.controller_model.Step.{PacketHeard}
 use Rattle.journal_controls.specs.journal_acks.link_calls.Uses.{listens_under}
+use Rattle.journal_controls.specs.journal_ends.Asked.{Words}
+use Rattle.journal_controls.specs.journal_ends.GivenWords.{GivesWords}
 use Rattle.journal_controls.specs.journal_ends.open_links.OpenLinks.{OpenLink, facts_in, link_after, link_at}
 use Rattle.journal_controls.specs.link_model.Acknowledgement.{Pdu, is_acked}
 use Rattle.journal_controls.specs.link_model.Controls.{pdu_fixed}
@@ -231,8 +233,8 @@ module _ (setup : Setup) (facts : Facts) (octets : List ℕ) (handle count llid 
 
 -- ---- in a run
 
-module _ (heard_whole : IsHeardWhole) (understood : IsUnderstood) (taken : AreTaken) (nth : AreNth) (apart : AreApart) (given : Given) (are_two : IsOfTwo given)
-    (six : HaveAddresses given) (before rest : List Event) (octets : List ℕ) (station handle count llid : ℕ) (body : List ℕ) (earlier later : List Note) (link : OpenLink)
+module _ (words : Words) (heard_whole : IsHeardWhole) (understood : IsUnderstood) (taken : AreTaken) (nth : AreNth) (apart : AreApart) (given : Given) (are_two : IsOfTwo given)
+    (six : HaveAddresses given) (gives : GivesWords given words) (before rest : List Event) (octets : List ℕ) (station handle count llid : ℕ) (body : List ℕ) (earlier later : List Note) (link : OpenLink)
     (in_it : is_in station given.stations ≡ true)
     (at : history_of (run_of given) ≡ before ++ Called station (PacketHeard octets) ∷ (map (Noted station) earlier ++ rest))
     (notes_are : notes_after (setup_at given station) (facts_at given station before) (PacketHeard octets) ≡ earlier ++ SentNote handle count llid (record { items = body }) ∷ later)
@@ -254,13 +256,13 @@ module _ (heard_whole : IsHeardWhole) (understood : IsUnderstood) (taken : AreTa
       ap (number_at station handle) (sym (append_assoc before (Called station (PacketHeard octets) ∷ []) (map (Noted station) earlier)))
       ∙ number_notes station handle (PacketHeard octets) before earlier answer.opens
 
-  pub fixing_in_answer : control_fixing side (number_at station handle now) (journal_of now) ≡ Some (keyed_of (facts_fixing link.setup link.past))
+  pub fixing_in_answer : control_fixing words side (number_at station handle now) (journal_of now) ≡ Some (keyed_of (facts_fixing link.setup link.past))
   fixing_in_answer =
-      ap (λ n. control_fixing side n (journal_of now)) number
-      ∙ fixing_in_call heard_whole understood taken nth apart given are_two six before rest octets answer.reply.pdu earlier station handle link in_it at is_open answer.on answer.reply.role answer.reply.good
+      ap (λ n. control_fixing words side n (journal_of now)) number
+      ∙ fixing_in_call words heard_whole understood taken nth apart given are_two six gives before rest octets answer.reply.pdu earlier station handle link in_it at is_open answer.on answer.reply.role answer.reply.good
 
-  pub pdu_in_answer : (fixing going : Keyed) → control_fixing side (number_at station handle now) (journal_of now) ≡ Some fixing
-      → control_going side (number_at station handle now) (journal_of now) ≡ Some going → said ≡ pdu_next fixing going (next_piece (data_cut (facts_fixing link.setup link.past)))
+  pub pdu_in_answer : (fixing going : Keyed) → control_fixing words side (number_at station handle now) (journal_of now) ≡ Some fixing
+      → control_going words side (number_at station handle now) (journal_of now) ≡ Some going → said ≡ pdu_next fixing going (next_piece (data_cut (facts_fixing link.setup link.past)))
   pdu_in_answer fixing going fixes goes =
       let facts = facts_at given station before in
       let slot = facts.turn.slot in
@@ -268,5 +270,5 @@ module _ (heard_whole : IsHeardWhole) (understood : IsUnderstood) (taken : AreTa
       let heard = end_after link.setup (facts_in link) (PacketReceived slot octets room) in
       let acked = answer.new.acked in
       answer.new.is ∙ sym (ap (λ b. if b then pdu_fixed heard else heard.acknowledgement.last) acked)
-      ∙ answer_by_lines heard_whole understood taken nth apart given are_two six before rest octets answer.reply.pdu earlier station handle link in_it at is_open answer.on answer.reply.role answer.reply.good
-      fixing (ap (λ n. control_fixing side n (journal_of now)) (sym number) ∙ fixes) slot room going (ap (λ n. control_going side n (journal_of now)) (sym number) ∙ goes) acked
+      ∙ answer_by_lines words heard_whole understood taken nth apart given are_two six gives before rest octets answer.reply.pdu earlier station handle link in_it at is_open answer.on answer.reply.role answer.reply.good
+      fixing (ap (λ n. control_fixing words side n (journal_of now)) (sym number) ∙ fixes) slot room going (ap (λ n. control_going words side n (journal_of now)) (sym number) ∙ goes) acked

@@ -13,6 +13,8 @@ use Rattle.journal_controls.specs.controller_model.Step.{Step as Call, TurnBegin
 use Rattle.journal.specs.declared.entries.Entry.{Entry}
 use Rattle.journal_controls.specs.TurnSteps.{first_if, steps_begun}
 use Rattle.journal_controls.specs.journal_acks.link_calls.Uses.{fixes_under, sends_under}
+use Rattle.journal_controls.specs.journal_ends.Asked.{Words}
+use Rattle.journal_controls.specs.journal_ends.GivenWords.{GivesWords}
 use Rattle.journal_controls.specs.journal_links.LinkLines.{line_of}
 use Rattle.journal_controls.specs.journal_ends.open_links.OpenLinks.{OpenLink, facts_in, link_at}
 use Rattle.journal_controls.specs.journal_ends.open_links.Turns.{enters_in}
@@ -75,8 +77,8 @@ first_role : (phases : ℕ) (role : Role) → phases ≡ 0 → ((phases ≡ 0) �
 first_role phases role is (inl first) = first.1
 first_role phases role is (inr later) = absurd (let one = later.0 in omega (arith, is, one))
 
-module _ (heard_whole : IsHeardWhole) (understood : IsUnderstood) (taken : AreTaken) (nth : AreNth) (apart : AreApart) (given : Given) (are_two : IsOfTwo given)
-    (six : HaveAddresses given) (history rest : List Event) (station slot : ℕ) (on : Bool) (handle count llid : ℕ) (body : List ℕ) (earlier later : List Note) (link : OpenLink)
+module _ (words : Words) (heard_whole : IsHeardWhole) (understood : IsUnderstood) (taken : AreTaken) (nth : AreNth) (apart : AreApart) (given : Given) (are_two : IsOfTwo given)
+    (six : HaveAddresses given) (gives : GivesWords given words) (history rest : List Event) (station slot : ℕ) (on : Bool) (handle count llid : ℕ) (body : List ℕ) (earlier later : List Note) (link : OpenLink)
     (in_it : is_in station given.stations ≡ true) (at : history_of (run_of given) ≡ history ++ Called station (TurnBegins slot on) ∷ rest)
     (notes_are : notes_after (setup_at given station) (facts_at given station history) (TurnBegins slot on) ≡ earlier ++ SentNote handle count llid (record { items = body }) ∷ later)
     (is_open : link_at handle (facts_at given station (history ++ Called station (TurnBegins slot on) ∷ map (Noted station) earlier)).links ≡ Some link) where
@@ -107,8 +109,8 @@ module _ (heard_whole : IsHeardWhole) (understood : IsUnderstood) (taken : AreTa
   abbrev sent : EndFacts
   sent = end_after link.setup held PduFixed
 
-  begun : IsBegun given history station slot on
-  begun = fixing_before_begin heard_whole understood taken nth apart given are_two six history rest station slot on at
+  begun : IsBegun words given history station slot on
+  begun = fixing_before_begin words heard_whole understood taken nth apart given are_two six gives history rest station slot on at
 
   -- the facts of a station do not change in the middle of a call
   same_facts : (notes : List Note) → facts_at given station (history ++ Called station call ∷ map (Noted station) notes) ≡ facts_at given station after
@@ -135,7 +137,7 @@ module _ (heard_whole : IsHeardWhole) (understood : IsUnderstood) (taken : AreTa
   of_line : IsOfLine
   of_line =
       let setup = setup_at given station in
-      let at_now = held_at given station call history in_it begun.lined begun.lined_after handle link open_after in
+      let at_now = held_at words given station call history in_it begun.lined begun.lined_after handle link open_after in
       let has = turn_begun_under setup facts slot on handle link at_now in
       let base = has.link in
       let next = facts_after setup facts call in
@@ -144,9 +146,9 @@ module _ (heard_whole : IsHeardWhole) (understood : IsUnderstood) (taken : AreTa
       let fixes = fixes_under handle doing in
       let sends = sends_under handle doing in
       let past = has.past_is ∙ begun_past slot handle doing base in
-      let lines = own_lines given station call refl history begun.lined begun.lined_after in_it handle link open_after number base has.was (steps_begun enters fixes sends slot) has.setup_is past in
+      let lines = own_lines words given station call refl history begun.lined begun.lined_after in_it handle link open_after number base has.was (steps_begun enters fixes sends slot) has.setup_is past in
       let begun_facts : Bool → EndFacts = λ b. fold (end_after base.setup) (facts_in base) (first_if enters (EventEntered slot) (first_if b PduFixed [])) in
-      let new = said_in given station call history earlier later handle count llid body notes_are opens (IsSaidBy sends (begun_facts fixes))
+      let new = said_in words given station call history earlier later handle count llid body notes_are opens (IsSaidBy sends (begun_facts fixes))
       (map (line_of side own) (notes_from base.setup (facts_in base) (steps_begun enters fixes sends slot))) lines
       (begun_said side own nothing_withheld no_response slot base.setup (facts_in base) enters fixes sends) in
       let phase = begins_in setup slot on facts in
@@ -161,11 +163,11 @@ module _ (heard_whole : IsHeardWhole) (understood : IsUnderstood) (taken : AreTa
         role = first_role 0 link.setup.link.role refl (sender_role 0 next.links doing handle link phase new.sends at_now);
       }
 
-  pub fixing_in_begin : control_fixing side (number_at station handle now) (journal_of now) ≡ Some (keyed_of held)
+  pub fixing_in_begin : control_fixing words side (number_at station handle now) (journal_of now) ≡ Some (keyed_of held)
   fixing_in_begin =
-      ap (λ n. control_fixing side n (journal_of now)) (number_then given station call history earlier later handle count llid body notes_are opens)
-      ∙ fixing_then given station call history earlier later handle count llid body notes_are opens
-      ∙ ap (λ n. fixing_at n side after) (sym number)
+      ap (λ n. control_fixing words side n (journal_of now)) (number_then words given station call history earlier later handle count llid body notes_are opens)
+      ∙ fixing_then words given station call history earlier later handle count llid body notes_are opens
+      ∙ ap (λ n. fixing_at words n side after) (sym number)
       ∙ begun.fixing handle link open_after (sends_uses handle (facts_at given station after).turn.doing of_line.sends)
 
   free : IsFree held
@@ -185,27 +187,27 @@ module _ (heard_whole : IsHeardWhole) (understood : IsUnderstood) (taken : AreTa
   journal_now : journal_of now ≡ journal_of history ++ middle
   journal_now = journal_more history (Called station call ∷ map (Noted station) earlier)
 
-  unfixed : is_fixed side own (journal_of now) ≡ false
+  unfixed : is_fixed words side own (journal_of now) ≡ false
   unfixed =
-      ap (is_fixed side own) journal_now
-      ∙ notes_unfixed side own station (links_of history) earlier (journal_of history)
+      ap (is_fixed words side own) journal_now
+      ∙ notes_unfixed words side own station (links_of history) earlier (journal_of history)
       (sends_last (setup_at given station) slot on facts earlier later (SentNote handle count llid (record { items = body })) notes_are) (begun.unfixed own)
 
-  unheard : has_heard side own (journal_of now) ≡ false
+  unheard : has_heard words side own (journal_of now) ≡ false
   unheard =
-      ap (has_heard side own) journal_now
-      ∙ notes_unheard side side own (journal_of history) middle (notes_noted (links_of history) station earlier)
-      (going_before_call heard_whole understood taken nth apart given are_two six history rest station call at side own)
+      ap (has_heard words side own) journal_now
+      ∙ notes_unheard words side side own (journal_of history) middle (notes_noted (links_of history) station earlier)
+      (going_before_call words heard_whole understood taken nth apart given are_two six gives history rest station call at side own)
 
-  pub going_in_begin : control_going side (number_at station handle now) (journal_of now) ≡ Some (keyed_of held)
+  pub going_in_begin : control_going words side (number_at station handle now) (journal_of now) ≡ Some (keyed_of held)
   going_in_begin =
-      let numbers = number_then given station call history earlier later handle count llid body notes_are opens in
-      ap (λ n. control_going side n (journal_of now)) numbers ∙ going_now side own (journal_of now) unheard ∙ sym (fixing_now side own (journal_of now) unfixed)
-      ∙ ap (λ n. control_fixing side n (journal_of now)) (sym numbers) ∙ fixing_in_begin
+      let numbers = number_then words given station call history earlier later handle count llid body notes_are opens in
+      ap (λ n. control_going words side n (journal_of now)) numbers ∙ going_now words side own (journal_of now) unheard ∙ sym (fixing_now words side own (journal_of now) unfixed)
+      ∙ ap (λ n. control_fixing words side n (journal_of now)) (sym numbers) ∙ fixing_in_begin
 
   -- the line says the PDU that is next
-  pub pdu_in_begin : (fixing going : Keyed) → control_fixing side (number_at station handle now) (journal_of now) ≡ Some fixing
-      → control_going side (number_at station handle now) (journal_of now) ≡ Some going → pdu ≡ pdu_next fixing going (next_piece (data_cut held))
+  pub pdu_in_begin : (fixing going : Keyed) → control_fixing words side (number_at station handle now) (journal_of now) ≡ Some fixing
+      → control_going words side (number_at station handle now) (journal_of now) ≡ Some going → pdu ≡ pdu_next fixing going (next_piece (data_cut held))
   pdu_in_begin fixing going fixing_is going_is =
       let same = same_some (keyed_of held) fixing (sym fixing_in_begin ∙ fixing_is) in
       let goes = same_some (keyed_of held) going (sym going_in_begin ∙ going_is) in

@@ -11,6 +11,7 @@ use Rattle.journal_controls.specs.controller_model.Radio.{outcome_begun}
 use Rattle.journal_controls.specs.controller_model.Side.{notes_after}
 use Rattle.journal_controls.specs.controller_model.Step.{TurnBegins}
 use Rattle.journal.specs.declared.entries.Entry.{Entry}
+use Rattle.journal_controls.specs.journal_ends.Asked.{Words}
 use Rattle.journal_controls.specs.link_model.Acknowledgement.{Pdu}
 use Rattle.journal_controls.specs.link_model.Sending.{sent_notes_if}
 use Rattle.journal_controls.specs.run_model.History.{Noted}
@@ -67,13 +68,13 @@ fixes_none side own number link_of last (SentNote handle count llid body) none =
 fixes_none side own number link_of last (UpNote packet) none = (refl, refl)
 fixes_none side own number link_of last note none = (refl, refl)
 
-pub notes_unfixed : (side : Side) (number station : ℕ) (links : Links) (notes : List Note) (front : List Entry) → All SendsNone notes → is_fixed side number front ≡ false
-    → is_fixed side number (front ++ journal_from links (map (Noted station) notes)) ≡ false
-notes_unfixed side number station links [] front none unfixed = ap (is_fixed side number) (append-nil front) ∙ unfixed
-notes_unfixed side number station links (note ∷ notes) front none unfixed =
+pub notes_unfixed : (words : Words) (side : Side) (number station : ℕ) (links : Links) (notes : List Note) (front : List Entry) → All SendsNone notes → is_fixed words side number front ≡ false
+    → is_fixed words side number (front ++ journal_from links (map (Noted station) notes)) ≡ false
+notes_unfixed words side number station links [] front none unfixed = ap (is_fixed words side number) (append-nil front) ∙ unfixed
+notes_unfixed words side number station links (note ∷ notes) front none unfixed =
     let line = entry_of (side_of station) (links.link_of station) (links.last_of station) note in
     let later = links_after links (Noted station note) in
     let fixes = fixes_none side (side_of station) number (links.link_of station) (links.last_of station) note (All-head SendsNone note notes none) in
-    ap (is_fixed side number) (sym (append_assoc front (line ∷ []) (journal_from later (map (Noted station) notes))))
-    ∙ notes_unfixed side number station later notes (front ++ line ∷ []) (All-tail SendsNone note notes none)
-    (fixed_is side number front line fixes.0 ∙ (λ i. unfixed i || fixes.1 i))
+    ap (is_fixed words side number) (sym (append_assoc front (line ∷ []) (journal_from later (map (Noted station) notes))))
+    ∙ notes_unfixed words side number station later notes (front ++ line ∷ []) (All-tail SendsNone note notes none)
+    (fixed_is words side number front line fixes.0 ∙ (λ i. unfixed i || fixes.1 i))

@@ -10,6 +10,7 @@ use Rattle.data_pdu.specs.Header.{header_in}
 use Rattle.journal_controls.specs.journal_acks.link_calls.Phases.{link_receiving}
 use Rattle.journal_controls.specs.journal_acks.link_calls.Turns.{sent_if}
 use Rattle.journal_controls.specs.journal_acks.link_calls.Uses.{listens_under, sends_under, uses_under}
+use Rattle.journal_controls.specs.journal_ends.Asked.{Words}
 use Rattle.journal_controls.specs.link_model.Facts.{Facts as EndFacts, keyed_of}
 use Rattle.journal_controls.specs.link_model.Receiving.{acks_control, has_acknowledged, keyed_acked_if}
 use Rattle.journal_controls.specs.link_model.keyed_control.Keyed.{Keyed}
@@ -26,9 +27,9 @@ use Rattle.journal_fixing.specs.OnLines.{control_going, has_heard}
 abbrev pub control_acking : EndFacts → List ℕ → Keyed
 control_acking facts pdu = keyed_acked_if (acks_control (has_acknowledged facts (header_in pdu)) facts) (keyed_of facts)
 
-pub record IsGoing (number : ℕ) (side : Side) (history : List Event) (k : Keyed) : Type 0 where
-  pub heard : has_heard side number (journal_of history) ≡ true
-  pub going : control_going side number (journal_of history) ≡ Some k
+pub record IsGoing (words : Words) (number : ℕ) (side : Side) (history : List Event) (k : Keyed) : Type 0 where
+  pub heard : has_heard words side number (journal_of history) ≡ true
+  pub going : control_going words side number (journal_of history) ≡ Some k
 
 -- ---- an exchange goes on under this handle, in which the end heard nothing yet
 

@@ -15,6 +15,8 @@ use Rattle.journal_controls.specs.LineSteps.{keyed_on, turn_now}
 use Rattle.journal_controls.specs.TurnSteps.{steps_begun}
 use Rattle.journal_controls.specs.journal_acks.link_calls.Phases.{HasPassed, IsNew, Stays, Takes}
 use Rattle.journal_controls.specs.journal_acks.link_calls.Uses.{sends_under, uses_under}
+use Rattle.journal_controls.specs.journal_ends.Asked.{Words}
+use Rattle.journal_controls.specs.journal_ends.GivenWords.{GivesWords}
 use Rattle.journal_controls.specs.journal_links.LinkLines.{line_of, lines_of}
 use Rattle.journal_controls.specs.link_model.End.{notes_from}
 use Rattle.journal_controls.specs.link_model.Step.{Step}
@@ -66,69 +68,69 @@ use Rattle.journal_fixing.proofs.UnfixedEnds.{apart_same, feed_same}
 
 -- ---- what is kept
 
-abbrev pub fixing_at : ℕ → Side → List Event → Option Keyed
-fixing_at number side history = control_fixing side number (journal_of history)
+abbrev pub fixing_at : Words → ℕ → Side → List Event → Option Keyed
+fixing_at words number side history = control_fixing words side number (journal_of history)
 
-abbrev pub IsFixing : List Event → ℕ → ℕ → OpenLink → Type 0
-IsFixing history station handle link =
-    fixing_at (number_at station handle history) (side_of station) history ≡ Some (keyed_of (facts_fixing link.setup link.past))
+abbrev pub IsFixing : Words → List Event → ℕ → ℕ → OpenLink → Type 0
+IsFixing words history station handle link =
+    fixing_at words (number_at station handle history) (side_of station) history ≡ Some (keyed_of (facts_fixing link.setup link.past))
 
 -- of each end of a station that sends or listens
-abbrev pub AreFixingOf : Given → List Event → ℕ → Type 0
-AreFixingOf given history station = (handle : ℕ) (link : OpenLink) → link_at handle (facts_at given station history).links ≡ Some link
-    → uses_under handle (facts_at given station history).turn.doing ≡ true → IsFixing history station handle link
+abbrev pub AreFixingOf : Words → Given → List Event → ℕ → Type 0
+AreFixingOf words given history station = (handle : ℕ) (link : OpenLink) → link_at handle (facts_at given station history).links ≡ Some link
+    → uses_under handle (facts_at given station history).turn.doing ≡ true → IsFixing words history station handle link
 
-abbrev pub AreFixing : Given → List Event → Type 0
-AreFixing given history = (station : ℕ) → is_in station given.stations ≡ true → AreFixingOf given history station
+abbrev pub AreFixing : Words → Given → List Event → Type 0
+AreFixing words given history = (station : ℕ) → is_in station given.stations ≡ true → AreFixingOf words given history station
 
 -- no end of a station has its next PDU fixed, or each end of any has
-abbrev pub IsUnfixed : List Event → ℕ → Type 0
-IsUnfixed history station = (number : ℕ) → is_fixed (side_of station) number (journal_of history) ≡ false
+abbrev pub IsUnfixed : Words → List Event → ℕ → Type 0
+IsUnfixed words history station = (number : ℕ) → is_fixed words (side_of station) number (journal_of history) ≡ false
 
-abbrev AreAllFixed : List Event → Type 0
-AreAllFixed history = (side : Side) (number : ℕ) → is_fixed side number (journal_of history) ≡ true
+abbrev AreAllFixed : Words → List Event → Type 0
+AreAllFixed words history = (side : Side) (number : ℕ) → is_fixed words side number (journal_of history) ≡ true
 
 -- before a station has begun the turn
-abbrev AreUnfixed : Given → Place → List Event → Type 0
-AreUnfixed given (AtFeeds done left) history = (station : ℕ) → IsUnfixed history station
-AreUnfixed given (AtBegins done left) history = (station : ℕ) → is_in station given.stations ≡ true → is_in station done ≡ false → IsUnfixed history station
-AreUnfixed given place history = Unit {0}
+abbrev AreUnfixed : Words → Given → Place → List Event → Type 0
+AreUnfixed words given (AtFeeds done left) history = (station : ℕ) → IsUnfixed words history station
+AreUnfixed words given (AtBegins done left) history = (station : ℕ) → is_in station given.stations ≡ true → is_in station done ≡ false → IsUnfixed words history station
+AreUnfixed words given place history = Unit {0}
 
 -- before a station begins a turn, as the call leaves its ends
-pub record IsBegun (given : Given) (before : List Event) (station slot : ℕ) (on : Bool) : Type 0 where
-  pub unfixed : IsUnfixed before station
+pub record IsBegun (words : Words) (given : Given) (before : List Event) (station slot : ℕ) (on : Bool) : Type 0 where
+  pub unfixed : IsUnfixed words before station
   pub lined : AreLined given before
   pub lined_after : AreLined given (after_call given station (TurnBegins slot on) before)
-  pub fixing : AreFixingOf given (after_call given station (TurnBegins slot on) before) station
+  pub fixing : AreFixingOf words given (after_call given station (TurnBegins slot on) before) station
 
 -- before a packet, and before a station is called in a phase
-abbrev pub AtCall : Given → List Event → ℕ → Call → Type 0
-AtCall given before station (TurnBegins slot on) = IsBegun given before station slot on
-AtCall given before station (PacketHeard octets) = AreFixing given before
-AtCall given before station NothingHeard = AreFixing given before
-AtCall given before station call = Unit {0}
+abbrev pub AtCall : Words → Given → List Event → ℕ → Call → Type 0
+AtCall words given before station (TurnBegins slot on) = IsBegun words given before station slot on
+AtCall words given before station (PacketHeard octets) = AreFixing words given before
+AtCall words given before station NothingHeard = AreFixing words given before
+AtCall words given before station call = Unit {0}
 
-abbrev pub FixingBefore : Given → List Event → Event → Type 0
-FixingBefore given before (TurnBegan slot radios) = Unit {0}
-FixingBefore given before (HostFed station octets) = Unit {0}
-FixingBefore given before (Called station call) = AtCall given before station call
-FixingBefore given before (Noted station note) = Unit {0}
-FixingBefore given before (Transmitted station channel octets hearings) = AreFixing given before
+abbrev pub FixingBefore : Words → Given → List Event → Event → Type 0
+FixingBefore words given before (TurnBegan slot radios) = Unit {0}
+FixingBefore words given before (HostFed station octets) = Unit {0}
+FixingBefore words given before (Called station call) = AtCall words given before station call
+FixingBefore words given before (Noted station note) = Unit {0}
+FixingBefore words given before (Transmitted station channel octets hearings) = AreFixing words given before
 
-pub record AreFixingAt (given : Given) (place : Place) (history : List Event) : Type 0 where
-  pub seen : AreSeenAt given place history
-  unfixed : AreUnfixed given place history
-  aired : (station : ℕ) (octets : List ℕ) → is_in station given.stations ≡ true → packet_received station history ≡ Some octets → AreAllFixed history
-  pub fixing : AreFixing given history
-  pub each : Each (FixingBefore given) [] history
+pub record AreFixingAt (words : Words) (given : Given) (place : Place) (history : List Event) : Type 0 where
+  pub seen : AreSeenAt words given place history
+  unfixed : AreUnfixed words given place history
+  aired : (station : ℕ) (octets : List ℕ) → is_in station given.stations ≡ true → packet_received station history ≡ Some octets → AreAllFixed words history
+  pub fixing : AreFixing words given history
+  pub each : Each (FixingBefore words given) [] history
 
 -- ---- a station that uses no link
 
-unused : (given : Given) (history : List Event) (station : ℕ) → ((handle : ℕ) → uses_under handle (facts_at given station history).turn.doing ≡ false) → AreFixingOf given history station
-unused given history station none = λ handle link at uses. absurd (let h : true ≡ false = sym uses ∙ none handle in absurd cc)
+unused : (words : Words) (given : Given) (history : List Event) (station : ℕ) → ((handle : ℕ) → uses_under handle (facts_at given station history).turn.doing ≡ false) → AreFixingOf words given history station
+unused words given history station none = λ handle link at uses. absurd (let h : true ≡ false = sym uses ∙ none handle in absurd cc)
 
-rests : (given : Given) (history : List Event) (station : ℕ) → (facts_at given station history).turn.doing ≡ Rests → AreFixingOf given history station
-rests given history station is = unused given history station (λ handle. ap (uses_under handle) is)
+rests : (words : Words) (given : Given) (history : List Event) (station : ℕ) → (facts_at given station history).turn.doing ≡ Rests → AreFixingOf words given history station
+rests words given history station is = unused words given history station (λ handle. ap (uses_under handle) is)
 
 -- ---- events and calls that leave an end as it is
 
@@ -136,18 +138,18 @@ received_turn : (received : Option (List ℕ)) → is_octet (step_of received) �
 received_turn None = refl
 received_turn (Some octets) = refl
 
-module _ (given : Given) where
+module _ (words : Words) (given : Given) where
   -- an event that is no call
   fixing_event : (history : List Event) (event : Event) → ((station : ℕ) → steps_in station event ≡ [])
-      → ((number : ℕ) (side : Side) → fixing_at number side (history ++ event ∷ []) ≡ fixing_at number side history)
+      → ((number : ℕ) (side : Side) → fixing_at words number side (history ++ event ∷ []) ≡ fixing_at words number side history)
       → ((station handle : ℕ) → number_at station handle (history ++ event ∷ []) ≡ number_at station handle history)
-      → AreFixing given history → AreFixing given (history ++ event ∷ [])
+      → AreFixing words given history → AreFixing words given (history ++ event ∷ [])
   fixing_event history event none same number are = λ station in_it handle link at uses.
       let after = history ++ event ∷ [] in
       let facts = facts_event given station history event (none station) in
       let is = are station in_it handle link (ap (λ (f : Facts). link_at handle f.links) (sym facts) ∙ at)
       (ap (λ (f : Facts). uses_under handle f.turn.doing) (sym facts) ∙ uses) in
-      ap (λ n. fixing_at n (side_of station) after) (number station handle) ∙ same (number_at station handle history) (side_of station) ∙ is
+      ap (λ n. fixing_at words n (side_of station) after) (number station handle) ∙ same (number_at station handle history) (side_of station) ∙ is
 
   -- a call of a turn
   module _ (station : ℕ) (call : Call) (in_turn : is_octet call ≡ false) (history : List Event) (lined : AreLined given history)
@@ -156,7 +158,7 @@ module _ (given : Given) where
     after = after_call given station call history
 
     -- a station that is not called
-    fixing_other : (other : ℕ) → is_in other given.stations ≡ true → (other == station) ≡ false → AreFixingOf given history other → AreFixingOf given after other
+    fixing_other : (other : ℕ) → is_in other given.stations ≡ true → (other == station) ≡ false → AreFixingOf words given history other → AreFixingOf words given after other
     fixing_other other in_it differs are = λ handle link at uses.
         let side = side_of other in
         let number = number_at other handle history in
@@ -165,14 +167,14 @@ module _ (given : Given) where
         let was = ap (λ (f : Facts). link_at handle f.links) (sym facts) ∙ at in
         let now = subst (λ n. lines_of side n (journal_of after) ≡ map (line_of side n) (notes_opened_on link.setup link.past)) numbers (lined_after other handle link in_it at) in
         let is = are handle link was (ap (λ (f : Facts). uses_under handle f.turn.doing) (sym facts) ∙ uses) in
-        ap (λ n. fixing_at n side after) numbers ∙ call_still side number history given station call in_turn (now ∙ sym (lined other handle link in_it was)) ∙ is
+        ap (λ n. fixing_at words n side after) numbers ∙ call_still words side number history given station call in_turn (now ∙ sym (lined other handle link in_it was)) ∙ is
 
-    fixing_call : AreFixingOf given after station → ((other : ℕ) → is_in other given.stations ≡ true → (other == station) ≡ false → AreFixingOf given history other)
-        → AreFixing given after
+    fixing_call : AreFixingOf words given after station → ((other : ℕ) → is_in other given.stations ≡ true → (other == station) ≡ false → AreFixingOf words given history other)
+        → AreFixing words given after
     fixing_call own others = λ other in_it. by other in_it (other == station) refl
       where
-        by : (other : ℕ) → is_in other given.stations ≡ true → (same : Bool) → (other == station) ≡ same → AreFixingOf given after other
-        by other in_it true one = subst (AreFixingOf given after) (sym (eqb-true other station one)) own
+        by : (other : ℕ) → is_in other given.stations ≡ true → (same : Bool) → (other == station) ≡ same → AreFixingOf words given after other
+        by other in_it true one = subst (AreFixingOf words given after) (sym (eqb-true other station one)) own
         by other in_it false differs = fixing_other other in_it differs (others other in_it differs)
 
     -- its own station
@@ -196,31 +198,31 @@ module _ (given : Given) where
           ∙ ap (λ xs. xs ++ map (line_of side own) notes) (sym (lined station handle base in_it was))
 
       -- nothing happened to it
-      own_still : link ≡ base → IsFixing history station handle base → IsFixing after station handle link
+      own_still : link ≡ base → IsFixing words history station handle base → IsFixing words after station handle link
       own_still same is =
-          ap (λ n. fixing_at n side after) number
-          ∙ call_still side own history given station call in_turn
+          ap (λ n. fixing_at words n side after) number
+          ∙ call_still words side own history given station call in_turn
           (own_lines [] (ap (λ (l : OpenLink). l.setup) same) (ap (λ (l : OpenLink). l.past) same ∙ sym (append-nil base.past)) ∙ append-nil (lines_of side own (journal_of history)))
           ∙ is ∙ ap (λ (l : OpenLink). Some (keyed_of (facts_fixing l.setup l.past))) (sym same)
 
 -- ---- a turn begins at a station
 
-module _ (given : Given) (station slot : ℕ) (on : Bool) (history : List Event) (lined : AreLined given history)
+module _ (words : Words) (given : Given) (station slot : ℕ) (on : Bool) (history : List Event) (lined : AreLined given history)
     (lined_after : AreLined given (after_call given station (TurnBegins slot on) history)) (in_it : is_in station given.stations ≡ true)
     (controls : (handle : ℕ) (link : OpenLink) → link_at handle (facts_at given station history).links ≡ Some link
-    → keyed_on (side_of station) (number_at station handle history) (journal_of history) ≡ Some (keyed_of (facts_in link)))
-    (turn : turn_now (journal_of history) ≡ slot) (unfixed : IsUnfixed history station) where
+    → keyed_on words (side_of station) (number_at station handle history) (journal_of history) ≡ Some (keyed_of (facts_in link)))
+    (turn : turn_now (journal_of history) ≡ slot) (unfixed : IsUnfixed words history station) where
   abbrev call : Call
   call = TurnBegins slot on
 
-  begins_fixing : AreFixingOf given (after_call given station call history) station
+  begins_fixing : AreFixingOf words given (after_call given station call history) station
   begins_fixing = λ handle link at uses.
       let setup = setup_at given station in
       let facts = facts_at given station history in
       let after = after_call given station call history in
       let side = side_of station in
       let own = number_at station handle history in
-      let held = held_at given station call history in_it lined lined_after handle link at in
+      let held = held_at words given station call history in_it lined lined_after handle link at in
       let next = facts_after setup facts call in
       let doing = next.turn.doing in
       let used = ap (λ (f : Facts). uses_under handle f.turn.doing) (sym (own_facts given station call history)) ∙ uses in
@@ -232,20 +234,20 @@ module _ (given : Given) (station slot : ℕ) (on : Bool) (history : List Event)
       let past = has.past_is ∙ begun_past slot handle doing base ∙ ap (λ b. base.past ++ steps_begun enters b sends slot) fixes in
       let number = number_called given station call history handle (begin_noted (OpensNone handle) (opening_none handle) setup slot on facts) in
       let steps = steps_begun enters true sends slot in
-      ap (λ n. fixing_at n side after) number
-      ∙ begun_fixes side own slot given station call history base.setup (facts_in base) enters true sends refl
-      (own_lines given station call refl history lined lined_after in_it handle link at number base has.was steps has.setup_is past) turn (unfixed own) (controls handle base has.was)
+      ap (λ n. fixing_at words n side after) number
+      ∙ begun_fixes words side own slot given station call history base.setup (facts_in base) enters true sends refl
+      (own_lines words given station call refl history lined lined_after in_it handle link at number base has.was steps has.setup_is past) turn (unfixed own) (controls handle base has.was)
       ∙ ap (λ (f : EndFacts). Some (keyed_of f)) (sym (facts_begun base.setup base.past enters sends slot))
       ∙ (λ i. Some (keyed_of (facts_fixing (sym has.setup_is i) (sym past i))))
 
 -- ---- a phase passes at a station
 
-module _ (given : Given) (station phases : ℕ) (history : List Event) (lined : AreLined given history)
+module _ (words : Words) (given : Given) (station phases : ℕ) (history : List Event) (lined : AreLined given history)
     (lined_after : AreLined given (after_call given station (step_of (packet_received station history)) history)) (in_it : is_in station given.stations ≡ true)
     (phased : PhasedBy given history station (at_stage (Within phases) (turns_begun history)))
     (new_station : IsStation (setup_at given station) (facts_at given station (after_call given station (step_of (packet_received station history)) history)))
     (same_slot : (facts_at given station (after_call given station (step_of (packet_received station history)) history)).turn.slot ≡ (facts_at given station history).turn.slot)
-    (aired : (octets : List ℕ) → packet_received station history ≡ Some octets → AreAllFixed history) (are : AreFixingOf given history station) where
+    (aired : (octets : List ℕ) → packet_received station history ≡ Some octets → AreAllFixed words history) (are : AreFixingOf words given history station) where
   abbrev received : Option (List ℕ)
   received = packet_received station history
 
@@ -259,19 +261,19 @@ module _ (given : Given) (station phases : ℕ) (history : List Event) (lined : 
   later = facts_after (setup_at given station) held (step_of received)
 
   passed_fixing : (handle : ℕ) (link : OpenLink) → link_at handle (facts_at given station passed).links ≡ Some link → number_at station handle passed ≡ number_at station handle history
-      → uses_under handle later.turn.doing ≡ true → HasPassed (setup_at given station) held (has_room (setup_at given station) held) received handle later.turn.doing link → IsFixing passed station handle link
+      → uses_under handle later.turn.doing ≡ true → HasPassed (setup_at given station) held (has_room (setup_at given station) held) received handle later.turn.doing link → IsFixing words passed station handle link
   passed_fixing handle link at number uses (IsNew end made opened off) = absurd (let h : true ≡ false = sym (uses_on handle later.turn.doing uses) ∙ off in absurd cc)
   passed_fixing handle link at number uses (Stays was none nothing listened) =
       let sent = listened (listens_then handle later.turn.doing none uses) in
-      own_still given station (step_of received) (received_turn received) history lined lined_after in_it handle link at number link was refl
+      own_still words given station (step_of received) (received_turn received) history lined lined_after in_it handle link at number link was refl
       (are handle link was (sends_uses handle held.turn.doing sent))
   passed_fixing handle link at number uses (Takes base octets was some on same) =
       let side = side_of station in
       let own = number_at station handle history in
       let room = has_room (setup_at given station) held in
       let sends = sends_under handle later.turn.doing in
-      ap (λ n. fixing_at n side passed) number
-      ∙ call_fixing side own history given station (step_of received) (aired octets some side own)
+      ap (λ n. fixing_at words n side passed) number
+      ∙ call_fixing words side own history given station (step_of received) (aired octets some side own)
       ∙ are handle base was (listens_uses handle held.turn.doing on)
       ∙ ap (λ (f : EndFacts). Some (keyed_of f)) (sym (receiving_fixed sends (setup_at given station) handle room octets held base))
       ∙ ap (λ (l : OpenLink). Some (keyed_of (facts_fixing l.setup l.past))) (sym same)
@@ -285,9 +287,9 @@ module _ (given : Given) (station phases : ℕ) (history : List Event) (lined : 
       let same = same_slot in
       absurd (omega (arith, before, now, same))
 
-  passes_fixing : AreFixingOf given passed station
+  passes_fixing : AreFixingOf words given passed station
   passes_fixing = λ handle link at uses.
-      let at_now = held_at given station (step_of received) history in_it lined lined_after handle link at in
+      let at_now = held_at words given station (step_of received) history in_it lined lined_after handle link at in
       let used = ap (λ (f : Facts). uses_under handle f.turn.doing) (sym (own_facts given station (step_of received) history)) ∙ uses in
       let passing = passes_under (setup_at given station) held received handle link phased.uses.in_turn.listens at_now in
       by handle link at uses used at_now passing (phase_quiet (setup_at given station) held received handle)
@@ -301,89 +303,89 @@ module _ (given : Given) (station phases : ℕ) (history : List Event) (lined : 
           → All (OpensNone handle) (notes_after (setup_at given station) (facts_at given station history) (step_of (packet_received station history)))
           ⊎ ((one : OpenLink) → link_at handle (facts_after (setup_at given station) (facts_at given station history) (step_of (packet_received station history))).links ≡ Some one
           → IsOpenedNow (facts_at given station history).turn.slot one)
-          → IsFixing (after_call given station (step_of (packet_received station history)) history) station handle link
+          → IsFixing words (after_call given station (step_of (packet_received station history)) history) station handle link
       by handle link at uses used at_now passing (inl quiet) = passed_fixing handle link at (number_called given station (step_of received) history handle quiet) used passing
       by handle link at uses used at_now passing (inr new) = absurd (new_unused handle link at (new link at_now).opened uses)
 
 -- ---- each step
 
 -- before a controller begins a turn, each of its open ends is by the journal what it holds
-abbrev pub AreKnownAtBegins : Given → Type 0
-AreKnownAtBegins given = (before rest : List Event) (station slot : ℕ) (on : Bool) (handle : ℕ) (link : OpenLink)
+abbrev pub AreKnownAtBegins : Words → Given → Type 0
+AreKnownAtBegins words given = (before rest : List Event) (station slot : ℕ) (on : Bool) (handle : ℕ) (link : OpenLink)
     → history_of (run_of given) ≡ before ++ Called station (TurnBegins slot on) ∷ rest → is_in station given.stations ≡ true
     → link_at handle (facts_at given station before).links ≡ Some link
-    → keyed_on (side_of station) (number_at station handle before) (journal_of before) ≡ Some (keyed_of (facts_in link))
+    → keyed_on words (side_of station) (number_at station handle before) (journal_of before) ≡ Some (keyed_of (facts_in link))
 
 -- a call, and all that is noted in it
-call_each : (given : Given) (station : ℕ) (call : Call) (history : List Event) → Each (FixingBefore given) [] history → AtCall given history station call
-    → Each (FixingBefore given) [] (after_call given station call history)
-call_each given station call history each is =
-    each_called (FixingBefore given) station call (notes_after (setup_at given station) (facts_at given station history) call) history each is (λ before note. tt)
+call_each : (words : Words) (given : Given) (station : ℕ) (call : Call) (history : List Event) → Each (FixingBefore words given) [] history → AtCall words given history station call
+    → Each (FixingBefore words given) [] (after_call given station call history)
+call_each words given station call history each is =
+    each_called (FixingBefore words given) station call (notes_after (setup_at given station) (facts_at given station history) call) history each is (λ before note. tt)
 
-at_phase : (given : Given) (history : List Event) (station : ℕ) (received : Option (List ℕ)) → AreFixing given history → AtCall given history station (step_of received)
-at_phase given history station None are = are
-at_phase given history station (Some octets) are = are
+at_phase : (words : Words) (given : Given) (history : List Event) (station : ℕ) (received : Option (List ℕ)) → AreFixing words given history → AtCall words given history station (step_of received)
+at_phase words given history station None are = are
+at_phase words given history station (Some octets) are = are
 
-pub at_phase_back : (given : Given) (history : List Event) (station : ℕ) (received : Option (List ℕ)) → AtCall given history station (step_of received) → AreFixing given history
-at_phase_back given history station None are = are
-at_phase_back given history station (Some octets) are = are
+pub at_phase_back : (words : Words) (given : Given) (history : List Event) (station : ℕ) (received : Option (List ℕ)) → AtCall words given history station (step_of received) → AreFixing words given history
+at_phase_back words given history station None are = are
+at_phase_back words given history station (Some octets) are = are
 
-call_aired : (given : Given) (station : ℕ) (call : Call) (history : List Event) → AreAllFixed history → AreAllFixed (after_call given station call history)
-call_aired given station call history are = λ side number. call_fixed side number history given station call (are side number)
+call_aired : (words : Words) (given : Given) (station : ℕ) (call : Call) (history : List Event) → AreAllFixed words history → AreAllFixed words (after_call given station call history)
+call_aired words given station call history are = λ side number. call_fixed words side number history given station call (are side number)
 
 -- what a station received was on the air before another one is called
-received_aired : (given : Given) (station : ℕ) (call : Call) (history : List Event)
-    → ((one : ℕ) (octets : List ℕ) → is_in one given.stations ≡ true → packet_received one history ≡ Some octets → AreAllFixed history)
+received_aired : (words : Words) (given : Given) (station : ℕ) (call : Call) (history : List Event)
+    → ((one : ℕ) (octets : List ℕ) → is_in one given.stations ≡ true → packet_received one history ≡ Some octets → AreAllFixed words history)
     → (one : ℕ) (octets : List ℕ) → is_in one given.stations ≡ true → packet_received one (after_call given station call history) ≡ Some octets
-    → AreAllFixed (after_call given station call history)
-received_aired given station call history are one octets in_it is = by (one == station) refl
+    → AreAllFixed words (after_call given station call history)
+received_aired words given station call history are one octets in_it is = by (one == station) refl
   where
-    by : (same : Bool) → (one == station) ≡ same → AreAllFixed (after_call given station call history)
+    by : (same : Bool) → (one == station) ≡ same → AreAllFixed words (after_call given station call history)
     by true same = absurd (let h : None ≡ Some octets = sym (received_by given one station call history true same) ∙ is in absurd cc)
-    by false differs = call_aired given station call history (are one octets in_it (sym (received_by given one station call history false differs) ∙ is))
+    by false differs = call_aired words given station call history (are one octets in_it (sym (received_by given one station call history false differs) ∙ is))
 
-none_received : (history : List Event) (station : ℕ) (octets : List ℕ) → packet_received station history ≡ None → packet_received station history ≡ Some octets → AreAllFixed history
-none_received history station octets none is = absurd (let h : None ≡ Some octets = sym none ∙ is in absurd cc)
+none_received : (words : Words) (history : List Event) (station : ℕ) (octets : List ℕ) → packet_received station history ≡ None → packet_received station history ≡ Some octets → AreAllFixed words history
+none_received words history station octets none is = absurd (let h : None ≡ Some octets = sym none ∙ is in absurd cc)
 
-octets_each : (given : Given) (station : ℕ) (octets : List ℕ) (history : List Event) → Each (FixingBefore given) [] history → Each (FixingBefore given) [] (after_octets given station octets history)
-octets_each given station [] history each = each
-octets_each given station (octet ∷ octets) history each =
-    octets_each given station octets (after_call given station (HostOctet octet) history) (call_each given station (HostOctet octet) history each tt)
+octets_each : (words : Words) (given : Given) (station : ℕ) (octets : List ℕ) (history : List Event) → Each (FixingBefore words given) [] history → Each (FixingBefore words given) [] (after_octets given station octets history)
+octets_each words given station [] history each = each
+octets_each words given station (octet ∷ octets) history each =
+    octets_each words given station octets (after_call given station (HostOctet octet) history) (call_each words given station (HostOctet octet) history each tt)
 
-feed_each : (given : Given) (station : ℕ) (octets : List ℕ) (history : List Event) → Each (FixingBefore given) [] history → Each (FixingBefore given) [] (after_feed given station octets history)
-feed_each given station [] history each = each
-feed_each given station (octet ∷ octets) history each =
-    octets_each given station (octet ∷ octets) (history ++ HostFed station (octet ∷ octets) ∷ [])
-    (each_event (FixingBefore given) history (HostFed station (octet ∷ octets)) each tt)
+feed_each : (words : Words) (given : Given) (station : ℕ) (octets : List ℕ) (history : List Event) → Each (FixingBefore words given) [] history → Each (FixingBefore words given) [] (after_feed given station octets history)
+feed_each words given station [] history each = each
+feed_each words given station (octet ∷ octets) history each =
+    octets_each words given station (octet ∷ octets) (history ++ HostFed station (octet ∷ octets) ∷ [])
+    (each_event (FixingBefore words given) history (HostFed station (octet ∷ octets)) each tt)
 
 turn_is : (history : List Event) (slot : ℕ) → turns_begun history ≡ slot + 1 → turn_now (journal_of history) ≡ slot
 turn_is history slot is = last_turn (length (turns_of (journal_of history))) slot (turns_are history ∙ is)
 
-module _ (understood : IsUnderstood) (taken : AreTaken) (nth : AreNth) (apart : AreApart) (given : Given) (are_two : IsOfTwo given) (six : HaveAddresses given)
-    (controls : AreKnownAtBegins given) where
+module _ (words : Words) (understood : IsUnderstood) (taken : AreTaken) (nth : AreNth) (apart : AreApart) (given : Given) (are_two : IsOfTwo given) (six : HaveAddresses given) (gives : GivesWords given words)
+    (controls : AreKnownAtBegins words given) where
   -- where a station stands, by the place of the run
-  phase_by : (place : Place) (history : List Event) → AreSeenAt given place history → (station : ℕ) → is_in station given.stations ≡ true
+  phase_by : (place : Place) (history : List Event) → AreSeenAt words given place history → (station : ℕ) → is_in station given.stations ≡ true
       → PhasedBy given history station (stands_at place station (turns_begun history))
   phase_by place history seen station in_it = phased_at given place history seen.holds.hearing.stand station in_it
 
-  between : (place : Place) (history : List Event) (begun : ℕ) → AreSeenAt given place history
-      → ((station : ℕ) → stands_at place station (turns_begun history) ≡ at_stage Between begun) → AreFixing given history
+  between : (place : Place) (history : List Event) (begun : ℕ) → AreSeenAt words given place history
+      → ((station : ℕ) → stands_at place station (turns_begun history) ≡ at_stage Between begun) → AreFixing words given history
   between place history begun seen stands = λ station in_it.
-      rests given history station (subst (PhasedBy given history station) (stands station) (phase_by place history seen station in_it)).phase
+      rests words given history station (subst (PhasedBy given history station) (stands station) (phase_by place history seen station in_it)).phase
 
   -- the turn ends at each station, or no exchange is left in it
-  ending : (done left : List ℕ) (history : List Event) → AreSeenAt given (AtEnds done left) history → AreFixing given history
+  ending : (done left : List ℕ) (history : List Event) → AreSeenAt words given (AtEnds done left) history → AreFixing words given history
   ending done left history seen = λ station in_it. by station (is_in station done) (phase_by (AtEnds done left) history seen station in_it)
     where
       by : (station : ℕ) (ended : Bool) → PhasedBy given history station (if ended then at_stage Between (turns_begun history) else at_stage (Within 3) (turns_begun history))
-          → AreFixingOf given history station
-      by station true phased = rests given history station phased.phase
-      by station false phased = unused given history station (λ handle. late_rests 1 handle (facts_at given station history).links (facts_at given station history).turn.doing phased.phase)
+          → AreFixingOf words given history station
+      by station true phased = rests words given history station phased.phase
+      by station false phased = unused words given history station (λ handle. late_rests 1 handle (facts_at given station history).links (facts_at given station history).turn.doing phased.phase)
 
   -- a phase passes in one slot
   one_slot : (phases : ℕ) (done left : List ℕ) (station : ℕ) (history after : List Event) → is_in station given.stations ≡ true
       → PhasedBy given history station (at_stage (Within phases) (turns_begun history)) → turns_begun after ≡ turns_begun history
-      → AreSeenAt given (AtListening phases (done ++ station ∷ []) left) after
+      → AreSeenAt words given (AtListening phases (done ++ station ∷ []) left) after
       → (facts_at given station after).turn.slot ≡ (facts_at given station history).turn.slot
   one_slot phases done left station history after in_it phased turns seen =
       let later = subst (λ b. PhasedBy given after station (if b then at_stage (Within (suc phases)) (turns_begun after) else at_stage (Within phases) (turns_begun after)))
@@ -392,29 +394,29 @@ module _ (understood : IsUnderstood) (taken : AreTaken) (nth : AreNth) (apart : 
       let two = later.uses.in_turn.slot_is in
       omega (arith, one, two, turns)
 
-  pub fixing_kept : IsKept given (AreFixingAt given)
+  pub fixing_kept : IsKept given (AreFixingAt words given)
   fixing_kept =
-      let keeps = seen_kept understood taken nth apart given are_two six in
+      let keeps = seen_kept words understood taken nth apart given are_two six gives in
       let distinct = are_distinct given are_two in record {
         on_turn = λ slot plan history begun at has.
             let event = TurnBegan slot (map plan.radio_of given.stations) in
             let after = history ++ event ∷ [] in
             let seen = keeps.on_turn slot plan history begun at has.seen in record {
               seen = seen;
-              unfixed = λ station number. turn_unfixed (side_of station) number history slot (map plan.radio_of given.stations);
-              aired = λ station octets in_it. none_received after station octets (seen.holds.hearing.hears station in_it);
+              unfixed = λ station number. turn_unfixed words (side_of station) number history slot (map plan.radio_of given.stations);
+              aired = λ station octets in_it. none_received words after station octets (seen.holds.hearing.hears station in_it);
               fixing = between (AtFeeds [] given.stations) after (turns_begun after - 1) seen (λ station. refl);
-              each = each_event (FixingBefore given) history event has.each tt;
+              each = each_event (FixingBefore words given) history event has.each tt;
             };
         on_feed = λ plan done left station history are some now has.
             let octets = take (plan.feed_of station) (octets_left given station history) in
             let after = after_feed given station octets history in
             let seen = keeps.on_feed plan done left station history are some now has.seen in record {
               seen = seen;
-              unfixed = λ one number. feed_same (side_of one) number given station octets history ∙ has.unfixed one number;
-              aired = λ one heard in_one. none_received after one heard (seen.holds.hearing.hears one in_one);
+              unfixed = λ one number. feed_same words (side_of one) number given station octets history ∙ has.unfixed one number;
+              aired = λ one heard in_one. none_received words after one heard (seen.holds.hearing.hears one in_one);
               fixing = between (AtFeeds (done ++ station ∷ []) left) after (turns_begun after - 1) seen (λ one. refl);
-              each = feed_each given station octets history has.each;
+              each = feed_each words given station octets history has.each;
             };
         on_fed = λ history has. record {
           seen = keeps.on_fed history has.seen;
@@ -436,16 +438,16 @@ module _ (understood : IsUnderstood) (taken : AreTaken) (nth : AreNth) (apart : 
             let at = front.at ∙ append_assoc history (Called station call ∷ notes) front.rest in
             let unfixed = has.unfixed station in_it (not_before given.stations done left station distinct are) in
             let own =
-            begins_fixing given station slot on history lined lined_after in_it (λ handle link open_is. controls history (notes ++ front.rest) station slot on handle link at in_it open_is)
+            begins_fixing words given station slot on history lined lined_after in_it (λ handle link open_is. controls history (notes ++ front.rest) station slot on handle link at in_it open_is)
             (turn_is history slot due.slot_is) unfixed in record {
               seen = seen;
               unfixed = λ other in_other out number.
                   let not = not_yet other done station out (other == station) refl in
-                  apart_same (side_of other) number given station call history (other_apart given are_two other station in_other in_it (differs_back other station not.0))
+                  apart_same words (side_of other) number given station call history (other_apart given are_two other station in_other in_it (differs_back other station not.0))
                   ∙ has.unfixed other in_other not.1 number;
-              aired = λ one octets in_one. none_received after one octets (seen.holds.hearing.hears one in_one);
-              fixing = fixing_call given station call refl history lined lined_after own (λ other in_other differs. has.fixing other in_other);
-              each = call_each given station call history has.each (record { unfixed = unfixed; lined = lined; lined_after = lined_after; fixing = own });
+              aired = λ one octets in_one. none_received words after one octets (seen.holds.hearing.hears one in_one);
+              fixing = fixing_call words given station call refl history lined lined_after own (λ other in_other differs. has.fixing other in_other);
+              each = call_each words given station call history has.each (record { unfixed = unfixed; lined = lined; lined_after = lined_after; fixing = own });
             };
         on_begun = λ history has.
             record { seen = keeps.on_begun history has.seen; unfixed = tt; aired = has.aired; fixing = has.fixing; each = has.each };
@@ -461,11 +463,11 @@ module _ (understood : IsUnderstood) (taken : AreTaken) (nth : AreNth) (apart : 
             let same = ap (λ xs. history ++ Transmitted station channel octets xs ∷ []) one in record {
               seen = keeps.on_packet phases plan done left station channel octets history are some due has.seen;
               unfixed = tt;
-              aired = λ other heard in_other is side number. ap (λ h. is_fixed side number (journal_of h)) same ∙ packet_fixed side number history station channel octets hearing;
-              fixing = fixing_event given history event (λ other. refl)
-                  (λ number side. ap (fixing_at number side) same ∙ packet_fixing side number history station channel octets hearing)
+              aired = λ other heard in_other is side number. ap (λ h. is_fixed words side number (journal_of h)) same ∙ packet_fixed words side number history station channel octets hearing;
+              fixing = fixing_event words given history event (λ other. refl)
+                  (λ number side. ap (fixing_at words number side) same ∙ packet_fixing words side number history station channel octets hearing)
                   (λ other handle. number_sent other handle history station channel octets hearings) has.fixing;
-              each = each_event (FixingBefore given) history event has.each has.fixing;
+              each = each_event (FixingBefore words given) history event has.each has.fixing;
             };
         on_air = λ phases history has.
             record { seen = keeps.on_air phases history has.seen; unfixed = tt; aired = has.aired; fixing = has.fixing; each = has.each };
@@ -483,12 +485,12 @@ module _ (understood : IsUnderstood) (taken : AreTaken) (nth : AreNth) (apart : 
             let turns = turns_called station call (notes_after (setup_at given station) (facts_at given station history) call) history in record {
               seen = seen;
               unfixed = tt;
-              aired = received_aired given station call history has.aired;
-              fixing = fixing_call given station call (received_turn received) history lined lined_after
-                  (passes_fixing given station phases history lined lined_after in_it phased (seen.holds.so_far.last.each station in_it)
+              aired = received_aired words given station call history has.aired;
+              fixing = fixing_call words given station call (received_turn received) history lined lined_after
+                  (passes_fixing words given station phases history lined lined_after in_it phased (seen.holds.so_far.last.each station in_it)
                   (one_slot phases done left station history after in_it phased turns seen) (λ octets. has.aired station octets in_it) (has.fixing station in_it))
                   (λ other in_other differs. has.fixing other in_other);
-              each = call_each given station call history has.each (at_phase given history station received has.fixing);
+              each = call_each words given station call history has.each (at_phase words given history station received has.fixing);
             };
         on_heard = λ phases history has.
             record { seen = keeps.on_heard phases history has.seen; unfixed = tt; aired = has.aired; fixing = has.fixing; each = has.each };
@@ -499,9 +501,9 @@ module _ (understood : IsUnderstood) (taken : AreTaken) (nth : AreNth) (apart : 
             let seen = keeps.on_end done left station history are some has.seen in record {
               seen = seen;
               unfixed = tt;
-              aired = received_aired given station TurnEnds history has.aired;
+              aired = received_aired words given station TurnEnds history has.aired;
               fixing = ending (done ++ station ∷ []) left after seen;
-              each = call_each given station TurnEnds history has.each tt;
+              each = call_each words given station TurnEnds history has.each tt;
             };
         on_ended = λ history has.
             record { seen = keeps.on_ended history has.seen; unfixed = tt; aired = has.aired; fixing = has.fixing; each = has.each };
@@ -512,11 +514,11 @@ module _ (understood : IsUnderstood) (taken : AreTaken) (nth : AreNth) (apart : 
       not_yet one done station out true is = absurd (let h : true ≡ false = sym (in_more_same one station done is) ∙ out in absurd cc)
       not_yet one done station out false is = (refl, sym (in_more_other one station done is) ∙ out)
 
-pub fixing_first : (given : Given) → AreFixingAt given NoTurn []
-fixing_first given = record {
-  seen = seen_first given;
+pub fixing_first : (words : Words) (given : Given) → AreFixingAt words given NoTurn []
+fixing_first words given = record {
+  seen = seen_first words given;
   unfixed = tt;
-  aired = λ station octets in_it. none_received [] station octets ((seen_first given).holds.hearing.hears station in_it);
-  fixing = λ station in_it. rests given [] station (phased_at given NoTurn [] (seen_first given).holds.hearing.stand station in_it).phase;
+  aired = λ station octets in_it. none_received words [] station octets ((seen_first words given).holds.hearing.hears station in_it);
+  fixing = λ station in_it. rests words given [] station (phased_at given NoTurn [] (seen_first words given).holds.hearing.stand station in_it).phase;
   each = tt;
 }

@@ -12,6 +12,8 @@ use Rattle.journal_controls.specs.controller_model.declared.doing.Turn.{Turn}
 use Rattle.radio_replay.specs.declared.fates.Fate.{Fate}
 use Rattle.journal_controls.specs.journal_acks.link_calls.Phases.{HasPassed, IsNew, Stays, Takes}
 use Rattle.journal_controls.specs.journal_acks.link_calls.Uses.{is_on_link, listens_under, sends_under, uses_under}
+use Rattle.journal_controls.specs.journal_ends.Asked.{Words}
+use Rattle.journal_controls.specs.journal_ends.GivenWords.{GivesWords}
 use Rattle.journal_controls.specs.journal_ends.open_links.OpenLinks.{OpenLink, facts_in, link_at}
 use Rattle.journal_controls.specs.link_model.Facts.{keyed_of}
 use Rattle.journal_controls.specs.link_model.Packets.{good_pdu}
@@ -58,94 +60,94 @@ use Rattle.journal_fixing.proofs.GoingPackets.{IsGoingAt, IsUnheardAt, packet_aw
 -- ---- what is kept
 
 -- no end heard anything yet in the turn
-abbrev pub AreSilent : List Event → Type 0
-AreSilent history = (side : Side) (number : ℕ) → has_heard side number (journal_of history) ≡ false
+abbrev pub AreSilent : Words → List Event → Type 0
+AreSilent words history = (side : Side) (number : ℕ) → has_heard words side number (journal_of history) ≡ false
 
-abbrev AreUnheardOf : Given → List Event → ℕ → Type 0
-AreUnheardOf given history station = (handle : ℕ) (link : OpenLink) → link_at handle (facts_at given station history).links ≡ Some link
-    → IsUnheardAt (packet_received station history) handle (facts_at given station history).turn (number_at station handle history) (side_of station) history
+abbrev AreUnheardOf : Words → Given → List Event → ℕ → Type 0
+AreUnheardOf words given history station = (handle : ℕ) (link : OpenLink) → link_at handle (facts_at given station history).links ≡ Some link
+    → IsUnheardAt words (packet_received station history) handle (facts_at given station history).turn (number_at station handle history) (side_of station) history
 
-abbrev AreGoingOf : Given → List Event → ℕ → Type 0
-AreGoingOf given history station = (handle : ℕ) (link : OpenLink) → link_at handle (facts_at given station history).links ≡ Some link
-    → IsGoingAt (packet_received station history) handle (facts_at given station history).turn link (number_at station handle history) (side_of station) history
+abbrev AreGoingOf : Words → Given → List Event → ℕ → Type 0
+AreGoingOf words given history station = (handle : ℕ) (link : OpenLink) → link_at handle (facts_at given station history).links ≡ Some link
+    → IsGoingAt words (packet_received station history) handle (facts_at given station history).turn link (number_at station handle history) (side_of station) history
 
-record AreHeard (given : Given) (history : List Event) : Type 0 where
-  unheard : (station : ℕ) → is_in station given.stations ≡ true → AreUnheardOf given history station
-  going : (station : ℕ) → is_in station given.stations ≡ true → AreGoingOf given history station
+record AreHeard (words : Words) (given : Given) (history : List Event) : Type 0 where
+  unheard : (station : ℕ) → is_in station given.stations ≡ true → AreUnheardOf words given history station
+  going : (station : ℕ) → is_in station given.stations ≡ true → AreGoingOf words given history station
 
-abbrev IsSoFar : Given → Place → List Event → Type 0
-IsSoFar given (AtFeeds done left) history = AreSilent history
-IsSoFar given (AtBegins done left) history = AreSilent history
-IsSoFar given (AfterPhases phases) history = AreHeard given history
-IsSoFar given (AtPackets phases done left) history = AreHeard given history
-IsSoFar given (AtListening phases done left) history = AreHeard given history
-IsSoFar given place history = Unit {0}
+abbrev IsSoFar : Words → Given → Place → List Event → Type 0
+IsSoFar words given (AtFeeds done left) history = AreSilent words history
+IsSoFar words given (AtBegins done left) history = AreSilent words history
+IsSoFar words given (AfterPhases phases) history = AreHeard words given history
+IsSoFar words given (AtPackets phases done left) history = AreHeard words given history
+IsSoFar words given (AtListening phases done left) history = AreHeard words given history
+IsSoFar words given place history = Unit {0}
 
 -- before a station begins a turn, and before it is called with a packet
-abbrev pub AtCall : Given → List Event → ℕ → Call → Type 0
-AtCall given before station (TurnBegins slot on) = AreSilent before
-AtCall given before station (PacketHeard octets) = is_in station given.stations ≡ true → (handle : ℕ) (link : OpenLink) (pdu : List ℕ)
+abbrev pub AtCall : Words → Given → List Event → ℕ → Call → Type 0
+AtCall words given before station (TurnBegins slot on) = AreSilent words before
+AtCall words given before station (PacketHeard octets) = is_in station given.stations ≡ true → (handle : ℕ) (link : OpenLink) (pdu : List ℕ)
     → link_at handle (facts_at given station before).links ≡ Some link → listens_under handle (facts_at given station before).turn.doing ≡ true
-    → good_pdu link.setup (facts_in link) octets ≡ Some pdu → IsGoing (number_at station handle before) (side_of station) before (control_acking (facts_in link) pdu)
-AtCall given before station call = Unit {0}
+    → good_pdu link.setup (facts_in link) octets ≡ Some pdu → IsGoing words (number_at station handle before) (side_of station) before (control_acking (facts_in link) pdu)
+AtCall words given before station call = Unit {0}
 
-abbrev pub GoingBefore : Given → List Event → Event → Type 0
-GoingBefore given before (Called station call) = AtCall given before station call
-GoingBefore given before (TurnBegan slot radios) = Unit {0}
-GoingBefore given before (HostFed station octets) = Unit {0}
-GoingBefore given before (Noted station note) = Unit {0}
-GoingBefore given before (Transmitted station channel octets hearings) = Unit {0}
+abbrev pub GoingBefore : Words → Given → List Event → Event → Type 0
+GoingBefore words given before (Called station call) = AtCall words given before station call
+GoingBefore words given before (TurnBegan slot radios) = Unit {0}
+GoingBefore words given before (HostFed station octets) = Unit {0}
+GoingBefore words given before (Noted station note) = Unit {0}
+GoingBefore words given before (Transmitted station channel octets hearings) = Unit {0}
 
-pub record AreGoingAt (given : Given) (place : Place) (history : List Event) : Type 0 where
-  pub controls : AreControlledAt given place history
-  so_far : IsSoFar given place history
-  pub each : Each (GoingBefore given) [] history
+pub record AreGoingAt (words : Words) (given : Given) (place : Place) (history : List Event) : Type 0 where
+  pub controls : AreControlledAt words given place history
+  so_far : IsSoFar words given place history
+  pub each : Each (GoingBefore words given) [] history
 
 -- ---- what a host sends, and a call
 
-octets_silent : (given : Given) (station : ℕ) (octets : List ℕ) (history : List Event) → AreSilent history → AreSilent (after_octets given station octets history)
-octets_silent given station [] history none = none
-octets_silent given station (octet ∷ octets) history none =
-    octets_silent given station octets (after_call given station (HostOctet octet) history) (λ side number. call_unheard side number history given station (HostOctet octet) (none side number))
+octets_silent : (words : Words) (given : Given) (station : ℕ) (octets : List ℕ) (history : List Event) → AreSilent words history → AreSilent words (after_octets given station octets history)
+octets_silent words given station [] history none = none
+octets_silent words given station (octet ∷ octets) history none =
+    octets_silent words given station octets (after_call given station (HostOctet octet) history) (λ side number. call_unheard words side number history given station (HostOctet octet) (none side number))
 
-feed_silent : (given : Given) (station : ℕ) (octets : List ℕ) (history : List Event) → AreSilent history → AreSilent (after_feed given station octets history)
-feed_silent given station [] history none = none
-feed_silent given station (octet ∷ octets) history none =
-    octets_silent given station (octet ∷ octets) (history ++ HostFed station (octet ∷ octets) ∷ [])
-    (λ side number. feed_unheard side number history station (octet ∷ octets) (none side number))
+feed_silent : (words : Words) (given : Given) (station : ℕ) (octets : List ℕ) (history : List Event) → AreSilent words history → AreSilent words (after_feed given station octets history)
+feed_silent words given station [] history none = none
+feed_silent words given station (octet ∷ octets) history none =
+    octets_silent words given station (octet ∷ octets) (history ++ HostFed station (octet ∷ octets) ∷ [])
+    (λ side number. feed_unheard words side number history station (octet ∷ octets) (none side number))
 
 -- a call, and all that is noted in it
-call_each : (given : Given) (station : ℕ) (call : Call) (history : List Event) → Each (GoingBefore given) [] history → AtCall given history station call
-    → Each (GoingBefore given) [] (after_call given station call history)
-call_each given station call history each is =
-    each_called (GoingBefore given) station call (notes_after (setup_at given station) (facts_at given station history) call) history each is (λ before note. tt)
+call_each : (words : Words) (given : Given) (station : ℕ) (call : Call) (history : List Event) → Each (GoingBefore words given) [] history → AtCall words given history station call
+    → Each (GoingBefore words given) [] (after_call given station call history)
+call_each words given station call history each is =
+    each_called (GoingBefore words given) station call (notes_after (setup_at given station) (facts_at given station history) call) history each is (λ before note. tt)
 
-octets_each : (given : Given) (station : ℕ) (octets : List ℕ) (history : List Event) → Each (GoingBefore given) [] history → Each (GoingBefore given) [] (after_octets given station octets history)
-octets_each given station [] history each = each
-octets_each given station (octet ∷ octets) history each =
-    octets_each given station octets (after_call given station (HostOctet octet) history) (call_each given station (HostOctet octet) history each tt)
+octets_each : (words : Words) (given : Given) (station : ℕ) (octets : List ℕ) (history : List Event) → Each (GoingBefore words given) [] history → Each (GoingBefore words given) [] (after_octets given station octets history)
+octets_each words given station [] history each = each
+octets_each words given station (octet ∷ octets) history each =
+    octets_each words given station octets (after_call given station (HostOctet octet) history) (call_each words given station (HostOctet octet) history each tt)
 
-feed_each : (given : Given) (station : ℕ) (octets : List ℕ) (history : List Event) → Each (GoingBefore given) [] history → Each (GoingBefore given) [] (after_feed given station octets history)
-feed_each given station [] history each = each
-feed_each given station (octet ∷ octets) history each =
-    octets_each given station (octet ∷ octets) (history ++ HostFed station (octet ∷ octets) ∷ [])
-    (each_event (GoingBefore given) history (HostFed station (octet ∷ octets)) each tt)
+feed_each : (words : Words) (given : Given) (station : ℕ) (octets : List ℕ) (history : List Event) → Each (GoingBefore words given) [] history → Each (GoingBefore words given) [] (after_feed given station octets history)
+feed_each words given station [] history each = each
+feed_each words given station (octet ∷ octets) history each =
+    octets_each words given station (octet ∷ octets) (history ++ HostFed station (octet ∷ octets) ∷ [])
+    (each_event (GoingBefore words given) history (HostFed station (octet ∷ octets)) each tt)
 
-at_phase : (given : Given) (station : ℕ) (history : List Event) (received : Option (List ℕ)) → packet_received station history ≡ received
-    → (is_in station given.stations ≡ true → AreGoingOf given history station) → AtCall given history station (step_of received)
-at_phase given station history None is are = tt
-at_phase given station history (Some octets) is are = λ in_it handle link pdu at on good. are in_it handle link at octets pdu on is good
+at_phase : (words : Words) (given : Given) (station : ℕ) (history : List Event) (received : Option (List ℕ)) → packet_received station history ≡ received
+    → (is_in station given.stations ≡ true → AreGoingOf words given history station) → AtCall words given history station (step_of received)
+at_phase words given station history None is are = tt
+at_phase words given station history (Some octets) is are = λ in_it handle link pdu at on good. are in_it handle link at octets pdu on is good
 
 -- as the phases of a turn begin
-all_silent : (given : Given) (history : List Event) → ((station : ℕ) → is_in station given.stations ≡ true → packet_received station history ≡ None) → AreSilent history → AreHeard given history
-all_silent given history deaf none = record {
+all_silent : (words : Words) (given : Given) (history : List Event) → ((station : ℕ) → is_in station given.stations ≡ true → packet_received station history ≡ None) → AreSilent words history → AreHeard words given history
+all_silent words given history deaf none = record {
   unheard = λ station in_it handle link at awaits silent. none (side_of station) (number_at station handle history);
   going = λ station in_it handle link at octets pdu on some good. absurd (let h : Some octets ≡ None = sym some ∙ deaf station in_it in absurd cc);
 }
 
 -- ---- a call in a phase
 
-module _ (given : Given) (station : ℕ) (call : Call) (history : List Event) where
+module _ (words : Words) (given : Given) (station : ℕ) (call : Call) (history : List Event) where
   abbrev called : List Event
   called = after_call given station call history
 
@@ -157,49 +159,49 @@ module _ (given : Given) (station : ℕ) (call : Call) (history : List Event) wh
     other_received : packet_received other called ≡ packet_received other history
     other_received = received_by given other station call history false differs
 
-    unheard_other : AreUnheardOf given history other → AreUnheardOf given called other
+    unheard_other : AreUnheardOf words given history other → AreUnheardOf words given called other
     unheard_other are = λ handle link at awaits none.
         let facts = sym same_facts in
-        ap (λ n. has_heard (side_of other) n (journal_of called)) (number_other given station call history other handle differs)
-        ∙ call_unheard (side_of other) (number_at other handle history) history given station call
+        ap (λ n. has_heard words (side_of other) n (journal_of called)) (number_other given station call history other handle differs)
+        ∙ call_unheard words (side_of other) (number_at other handle history) history given station call
         (are handle link (ap (λ (f : Facts). link_at handle f.links) facts ∙ at) (ap (λ (f : Facts). awaits_under handle f.turn.doing) facts ∙ awaits)
         (λ on. sym other_received ∙ none (ap (λ (f : Facts). listens_under handle f.turn.doing) same_facts ∙ on)))
 
-    going_other : AreGoingOf given history other → AreGoingOf given called other
+    going_other : AreGoingOf words given history other → AreGoingOf words given called other
     going_other are = λ handle link at octets pdu on some good.
         let facts = sym same_facts in
         let number = number_at other handle history in
         let was = are handle link (ap (λ (f : Facts). link_at handle f.links) facts ∙ at) octets pdu (ap (λ (f : Facts). listens_under handle f.turn.doing) facts ∙ on)
         (sym other_received ∙ some) good in
-        subst (λ n. IsGoing n (side_of other) called (control_acking (facts_in link) pdu)) (sym (number_other given station call history other handle differs)) (record {
-          heard = call_heard (side_of other) number history given station call was.heard;
-          going = call_going (side_of other) number history given station call was.heard ∙ was.going;
+        subst (λ n. IsGoing words n (side_of other) called (control_acking (facts_in link) pdu)) (sym (number_other given station call history other handle differs)) (record {
+          heard = call_heard words (side_of other) number history given station call was.heard;
+          going = call_going words (side_of other) number history given station call was.heard ∙ was.going;
         })
 
-  heard_call : AreUnheardOf given called station → AreHeard given history → AreHeard given called
+  heard_call : AreUnheardOf words given called station → AreHeard words given history → AreHeard words given called
   heard_call own are = record {
     unheard = λ other in_it. unheard other in_it (other == station) refl;
     going = λ other in_it. going other in_it (other == station) refl;
   }
     where
-      unheard : (other : ℕ) → is_in other given.stations ≡ true → (same : Bool) → (other == station) ≡ same → AreUnheardOf given (after_call given station call history) other
-      unheard other in_it true one = subst (AreUnheardOf given (after_call given station call history)) (sym (eqb-true other station one)) own
+      unheard : (other : ℕ) → is_in other given.stations ≡ true → (same : Bool) → (other == station) ≡ same → AreUnheardOf words given (after_call given station call history) other
+      unheard other in_it true one = subst (AreUnheardOf words given (after_call given station call history)) (sym (eqb-true other station one)) own
       unheard other in_it false differs = unheard_other other differs (are.unheard other in_it)
 
-      going : (other : ℕ) → is_in other given.stations ≡ true → (same : Bool) → (other == station) ≡ same → AreGoingOf given (after_call given station call history) other
+      going : (other : ℕ) → is_in other given.stations ≡ true → (same : Bool) → (other == station) ≡ same → AreGoingOf words given (after_call given station call history) other
       going other in_it true one = λ handle link at octets pdu on some good.
           absurd (let h : Some octets ≡ None = sym some ∙ received_by given other station call history true one in absurd cc)
       going other in_it false differs = going_other other differs (are.going other in_it)
 
 -- its own station, as a phase passes
-module _ (given : Given) (station phases : ℕ) (history : List Event) (lined : AreLined given history)
+module _ (words : Words) (given : Given) (station phases : ℕ) (history : List Event) (lined : AreLined given history)
     (lined_after : AreLined given (after_call given station (step_of (packet_received station history)) history)) (in_it : is_in station given.stations ≡ true)
     (phased : PhasedBy given history station (at_stage (Within phases) (turns_begun history)))
     (later : PhasedBy given (after_call given station (step_of (packet_received station history)) history) station
     (at_stage (Within (suc phases)) (turns_begun (after_call given station (step_of (packet_received station history)) history))))
     (new_station : IsStation (setup_at given station) (facts_at given station (after_call given station (step_of (packet_received station history)) history)))
     (same_slot : (facts_at given station (after_call given station (step_of (packet_received station history)) history)).turn.slot ≡ (facts_at given station history).turn.slot)
-    (are : AreUnheardOf given history station) where
+    (are : AreUnheardOf words given history station) where
   abbrev received : Option (List ℕ)
   received = packet_received station history
 
@@ -220,15 +222,15 @@ module _ (given : Given) (station phases : ℕ) (history : List Event) (lined : 
 
   passed_unheard : (handle : ℕ) (link : OpenLink) → link_at handle now.links ≡ Some link → number_at station handle passed ≡ number_at station handle history
       → awaits_under handle now.turn.doing ≡ true → HasPassed (setup_at given station) held (has_room (setup_at given station) held) received handle next.turn.doing link
-      → has_heard (side_of station) (number_at station handle passed) (journal_of passed) ≡ false
+      → has_heard words (side_of station) (number_at station handle passed) (journal_of passed) ≡ false
   passed_unheard handle link at number awaits (IsNew end made opened off) =
       absurd (let h : true ≡ false = sym (uses_on handle now.turn.doing (awaits_uses handle now.turn.doing awaits)) ∙ ap (λ (f : Facts). is_on_link f.turn.doing) same_now ∙ off in absurd cc)
   passed_unheard handle link at number awaits (Stays was none nothing listened) =
       let side = side_of station in
       let on = later_listens phases handle now.links now.turn.doing later.phase awaits in
       let sent = listened (ap (λ (f : Facts). listens_under handle f.turn.doing) (sym same_now) ∙ on) in
-      ap (λ n. has_heard side n (journal_of passed)) number
-      ∙ call_unheard side (number_at station handle history) history given station (step_of received)
+      ap (λ n. has_heard words side n (journal_of passed)) number
+      ∙ call_unheard words side (number_at station handle history) history given station (step_of received)
       (are handle link was (sent_first phases handle held.links now.links held.turn.doing now.turn.doing phased.phase later.phase on sent) nothing)
   passed_unheard handle link at number awaits (Takes base octets was some on same) =
       absurd (listens_once phases base link (ap (λ (l : OpenLink). l.setup) same ∙ receiving_setup (sends_under handle next.turn.doing) (setup_at given station) handle (has_room (setup_at given station) held) octets held base)
@@ -242,9 +244,9 @@ module _ (given : Given) (station phases : ℕ) (history : List Event) (lined : 
       let same = same_slot in
       absurd (omega (arith, before, opened, same))
 
-  passes_unheard : AreUnheardOf given passed station
+  passes_unheard : AreUnheardOf words given passed station
   passes_unheard = λ handle link at awaits none.
-      let at_now = held_at given station (step_of received) history in_it lined lined_after handle link at in
+      let at_now = held_at words given station (step_of received) history in_it lined lined_after handle link at in
       by handle link at awaits at_now (passes_under (setup_at given station) held received handle link phased.uses.in_turn.listens at_now)
       (phase_quiet (setup_at given station) held received handle)
     where
@@ -256,20 +258,20 @@ module _ (given : Given) (station phases : ℕ) (history : List Event) (lined : 
           → All (OpensNone handle) (notes_after (setup_at given station) (facts_at given station history) (step_of (packet_received station history)))
           ⊎ ((one : OpenLink) → link_at handle (facts_after (setup_at given station) (facts_at given station history) (step_of (packet_received station history))).links ≡ Some one
           → IsOpenedNow (facts_at given station history).turn.slot one)
-          → has_heard (side_of station) (number_at station handle (after_call given station (step_of (packet_received station history)) history))
+          → has_heard words (side_of station) (number_at station handle (after_call given station (step_of (packet_received station history)) history))
           (journal_of (after_call given station (step_of (packet_received station history)) history)) ≡ false
       by handle link at awaits at_now passing (inl quiet) = passed_unheard handle link at (number_called given station (step_of received) history handle quiet) awaits passing
       by handle link at awaits at_now passing (inr new) = absurd (new_unused handle link at (new link at_now).opened (awaits_uses handle now.turn.doing awaits))
 
 -- ---- each step
 
-module _ (heard_whole : IsHeardWhole) (understood : IsUnderstood) (taken : AreTaken) (nth : AreNth) (apart : AreApart) (given : Given) (are_two : IsOfTwo given)
-    (six : HaveAddresses given) where
+module _ (words : Words) (heard_whole : IsHeardWhole) (understood : IsUnderstood) (taken : AreTaken) (nth : AreNth) (apart : AreApart) (given : Given) (are_two : IsOfTwo given)
+    (six : HaveAddresses given) (gives : GivesWords given words) where
   -- ---- a packet
 
   -- before it, no end has one to take
   none_before : (phases : ℕ) (done left : List ℕ) (station channel : ℕ) (octets : List ℕ) (history : List Event) → given.stations ≡ done ++ station ∷ left
-      → use_at given station history ≡ Sends channel octets → AreSeenAt given (AtPackets phases done (station ∷ left)) history
+      → use_at given station history ≡ Sends channel octets → AreSeenAt words given (AtPackets phases done (station ∷ left)) history
       → (one handle : ℕ) (link : OpenLink) → is_in one given.stations ≡ true → link_at handle (facts_at given one history).links ≡ Some link
       → listens_under handle (facts_at given one history).turn.doing ≡ true → packet_received one history ≡ None
   none_before phases done left station channel octets history are wanted has = λ one handle link in_one at on. by one handle link in_one at on (one == station) refl
@@ -287,7 +289,7 @@ module _ (heard_whole : IsHeardWhole) (understood : IsUnderstood) (taken : AreTa
           has.silent one station in_one (among given.stations done left station are) differs (not_before given.stations done left station (are_distinct given are_two) are)
 
   module _ (phases : ℕ) (done left : List ℕ) (station channel : ℕ) (octets : List ℕ) (fates : List Fate) (history : List Event) (stations_are : given.stations ≡ done ++ station ∷ left)
-      (wanted : use_at given station history ≡ Sends channel octets) (has : AreGoingAt given (AtPackets phases done (station ∷ left)) history) where
+      (wanted : use_at given station history ≡ Sends channel octets) (has : AreGoingAt words given (AtPackets phases done (station ∷ left)) history) where
     abbrev place_before : Place
     place_before = AtPackets phases done (station ∷ left)
 
@@ -309,7 +311,7 @@ module _ (heard_whole : IsHeardWhole) (understood : IsUnderstood) (taken : AreTa
     aired_is : after ≡ aired
     aired_is = ap (λ xs. history ++ Transmitted station channel octets xs ∷ []) (one_hearing given are_two fates station channel octets history (among given.stations done left station stations_are))
 
-    module _ (controls : AreControlledAt given place_after after) (one : ℕ) (in_one : is_in one given.stations ≡ true) (handle : ℕ) (link : OpenLink)
+    module _ (controls : AreControlledAt words given place_after after) (one : ℕ) (in_one : is_in one given.stations ≡ true) (handle : ℕ) (link : OpenLink)
         (at : link_at handle (facts_at given one after).links ≡ Some link) where
       abbrev side : Side
       side = side_of one
@@ -335,22 +337,22 @@ module _ (heard_whole : IsHeardWhole) (understood : IsUnderstood) (taken : AreTa
       none : listens_under handle turn.doing ≡ true → packet_received one history ≡ None
       none = none_before phases done left station channel octets history stations_are wanted has.controls.seen one handle link in_one was_open
 
-      unheard_before : awaits_under handle turn.doing ≡ true → has_heard side number (journal_of history) ≡ false
+      unheard_before : awaits_under handle turn.doing ≡ true → has_heard words side number (journal_of history) ≡ false
       unheard_before awaits = has.so_far.unheard one in_one handle link was_open awaits none
 
-      was_control : keyed_at number side history ≡ Some (keyed_of (facts_in link))
-      was_control = control_whole (packet_received one history) handle turn link number side history none (has.controls.control one handle link in_one was_open)
+      was_control : keyed_at words number side history ≡ Some (keyed_of (facts_in link))
+      was_control = control_whole words (packet_received one history) handle turn link number side history none (has.controls.control one handle link in_one was_open)
 
       abbrev received_too : Option (List ℕ)
       received_too = packet_received one after
 
-      was_seen : seen_at number side history ≡ seen_in_link number side link
-      was_seen = seen_whole (packet_received one history) handle turn link number side history none (has.controls.seen.seen one handle link in_one was_open)
+      was_seen : seen_at words number side history ≡ seen_in_link number side link
+      was_seen = seen_whole words (packet_received one history) handle turn link number side history none (has.controls.seen.seen one handle link in_one was_open)
 
-      now_seen : IsSeenAt received_too handle turn link number side aired
+      now_seen : IsSeenAt words received_too handle turn link number side aired
       now_seen =
-          subst (λ h. IsSeenAt received_too handle turn link number side h) aired_is
-          (seen_moved handle link side after received_too received_too (facts_at given one after).turn turn (number_at one handle after) number refl (sym turns) (sym numbers)
+          subst (λ h. IsSeenAt words received_too handle turn link number side h) aired_is
+          (seen_moved words handle link side after received_too received_too (facts_at given one after).turn turn (number_at one handle after) number refl (sym turns) (sym numbers)
           (controls.seen.seen one handle link in_one at))
 
       now_counted : IsEndCounted (unsent place_after one) received_too handle turn link (exchange_at number aired side)
@@ -359,50 +361,50 @@ module _ (heard_whole : IsHeardWhole) (understood : IsUnderstood) (taken : AreTa
           (exchange_at (number_at one handle after) after side) (exchange_at number aired side) refl refl (sym turns) (sym (λ i. exchange_at (numbers i) (aired_is i) side))
           (controls.lined.counts.counted one handle link in_one at)
 
-      now_unheard : IsUnheardAt received_too handle (facts_at given one after).turn (number_at one handle after) side after
+      now_unheard : IsUnheardAt words received_too handle (facts_at given one after).turn (number_at one handle after) side after
       now_unheard =
           let front = front_at given place_before history has.controls.seen.known.front in
-          let is = packet_awaited number side history station channel octets hearing (packet_received one history) received_too handle turn link (unsent place_before one) (unsent place_after one)
+          let is = packet_awaited words number side history station channel octets hearing (packet_received one history) received_too handle turn link (unsent place_before one) (unsent place_after one)
           none was_control was_seen now_seen (has.controls.lined.counts.counted one handle link in_one was_open) now_counted (has.controls.lined.lines one handle link in_one was_open)
           (fixed_in given history front.rest one handle link (are_distinct given are_two) in_one front.at was_open).fixes unheard_before in
-          subst (λ t. IsUnheardAt received_too handle t (number_at one handle after) side after) (sym turns)
-          (subst (λ n. IsUnheardAt received_too handle turn n side after) (sym numbers) (subst (λ h. IsUnheardAt received_too handle turn number side h) (sym aired_is) is))
+          subst (λ t. IsUnheardAt words received_too handle t (number_at one handle after) side after) (sym turns)
+          (subst (λ n. IsUnheardAt words received_too handle turn n side after) (sym numbers) (subst (λ h. IsUnheardAt words received_too handle turn number side h) (sym aired_is) is))
 
-      now_going : IsGoingAt received_too handle (facts_at given one after).turn link (number_at one handle after) side after
+      now_going : IsGoingAt words received_too handle (facts_at given one after).turn link (number_at one handle after) side after
       now_going =
           let front = front_at given place_before history has.controls.seen.known.front in
-          let is = packet_goes number side history station channel octets hearing (packet_received one history) received_too handle turn link (unsent place_before one) (unsent place_after one)
+          let is = packet_goes words number side history station channel octets hearing (packet_received one history) received_too handle turn link (unsent place_before one) (unsent place_after one)
           none was_control was_seen now_seen (has.controls.lined.counts.counted one handle link in_one was_open) now_counted (has.controls.lined.lines one handle link in_one was_open)
           (fixed_in given history front.rest one handle link (are_distinct given are_two) in_one front.at was_open).fixes unheard_before in
-          subst (λ t. IsGoingAt received_too handle t link (number_at one handle after) side after) (sym turns)
-          (subst (λ n. IsGoingAt received_too handle turn link n side after) (sym numbers) (subst (λ h. IsGoingAt received_too handle turn link number side h) (sym aired_is) is))
+          subst (λ t. IsGoingAt words received_too handle t link (number_at one handle after) side after) (sym turns)
+          (subst (λ n. IsGoingAt words received_too handle turn link n side after) (sym numbers) (subst (λ h. IsGoingAt words received_too handle turn link number side h) (sym aired_is) is))
 
-  pub going_kept : IsKept given (AreGoingAt given)
+  pub going_kept : IsKept given (AreGoingAt words given)
   going_kept =
-      let keeps = controls_kept heard_whole understood taken nth apart given are_two six in
+      let keeps = controls_kept words heard_whole understood taken nth apart given are_two six gives in
       let distinct = are_distinct given are_two in record {
         on_turn = λ slot plan history begun at has.
             let event = TurnBegan slot (map plan.radio_of given.stations) in record {
               controls = keeps.on_turn slot plan history begun at has.controls;
-              so_far = λ side number. turn_unheard side number history slot (map plan.radio_of given.stations);
-              each = each_event (GoingBefore given) history event has.each tt;
+              so_far = λ side number. turn_unheard words side number history slot (map plan.radio_of given.stations);
+              each = each_event (GoingBefore words given) history event has.each tt;
             };
         on_feed = λ plan done left station history are some now has.
             let octets = take (plan.feed_of station) (octets_left given station history) in record {
               controls = keeps.on_feed plan done left station history are some now has.controls;
-              so_far = feed_silent given station octets history has.so_far;
-              each = feed_each given station octets history has.each;
+              so_far = feed_silent words given station octets history has.so_far;
+              each = feed_each words given station octets history has.each;
             };
         on_fed = λ history has. record { controls = keeps.on_fed history has.controls; so_far = has.so_far; each = has.each };
         on_begin = λ slot plan done left station history are due has.
             let call = TurnBegins slot (plan.radio_of station) in record {
               controls = keeps.on_begin slot plan done left station history are due has.controls;
-              so_far = λ side number. call_unheard side number history given station call (has.so_far side number);
-              each = call_each given station call history has.each has.so_far;
+              so_far = λ side number. call_unheard words side number history given station call (has.so_far side number);
+              each = call_each words given station call history has.each has.so_far;
             };
         on_begun = λ history has.
             let controls = keeps.on_begun history has.controls in
-            record { controls = controls; so_far = all_silent given history has.controls.seen.holds.hearing.hears has.so_far; each = has.each };
+            record { controls = controls; so_far = all_silent words given history has.controls.seen.holds.hearing.hears has.so_far; each = has.each };
         on_phase = λ phases history few has. record { controls = keeps.on_phase phases history few has.controls; so_far = has.so_far; each = has.each };
         on_silence = λ phases done left station history are none has.
             record { controls = keeps.on_silence phases done left station history are none has.controls; so_far = has.so_far; each = has.each };
@@ -414,7 +416,7 @@ module _ (heard_whole : IsHeardWhole) (understood : IsUnderstood) (taken : AreTa
                 unheard = λ one in_one handle link at. now_unheard phases done left station channel octets plan.fates history are wanted has controls one in_one handle link at;
                 going = λ one in_one handle link at. now_going phases done left station channel octets plan.fates history are wanted has controls one in_one handle link at;
               };
-              each = each_event (GoingBefore given) history (Transmitted station channel octets (hearings_of given plan.fates station channel octets history)) has.each tt;
+              each = each_event (GoingBefore words given) history (Transmitted station channel octets (hearings_of given plan.fates station channel octets history)) has.each tt;
             };
         on_air = λ phases history has. record { controls = keeps.on_air phases history has.controls; so_far = has.so_far; each = has.each };
         on_hearing = λ phases done left station history are some has.
@@ -435,20 +437,20 @@ module _ (heard_whole : IsHeardWhole) (understood : IsUnderstood) (taken : AreTa
             let one = phased.uses.in_turn.slot_is in
             let two = later.uses.in_turn.slot_is in record {
               controls = controls;
-              so_far = heard_call given station call history
-                  (passes_unheard given station phases history lined lined_after in_it phased later (controls.seen.holds.so_far.last.each station in_it) (omega (arith, one, two, turns))
+              so_far = heard_call words given station call history
+                  (passes_unheard words given station phases history lined lined_after in_it phased later (controls.seen.holds.so_far.last.each station in_it) (omega (arith, one, two, turns))
                   (has.so_far.unheard station in_it)) has.so_far;
-              each = call_each given station call history has.each (at_phase given station history received refl (λ is. has.so_far.going station is));
+              each = call_each words given station call history has.each (at_phase words given station history received refl (λ is. has.so_far.going station is));
             };
         on_heard = λ phases history has. record { controls = keeps.on_heard phases history has.controls; so_far = has.so_far; each = has.each };
         on_phases = λ history has. record { controls = keeps.on_phases history has.controls; so_far = tt; each = has.each };
         on_end = λ done left station history are some has. record {
           controls = keeps.on_end done left station history are some has.controls;
           so_far = tt;
-          each = call_each given station TurnEnds history has.each tt;
+          each = call_each words given station TurnEnds history has.each tt;
         };
         on_ended = λ history has. record { controls = keeps.on_ended history has.controls; so_far = tt; each = has.each };
       }
 
-pub going_first : (given : Given) → AreGoingAt given NoTurn []
-going_first given = record { controls = controls_first given; so_far = tt; each = tt }
+pub going_first : (words : Words) (given : Given) → AreGoingAt words given NoTurn []
+going_first words given = record { controls = controls_first words given; so_far = tt; each = tt }

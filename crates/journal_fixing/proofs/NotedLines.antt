@@ -1,5 +1,5 @@
 -- An end as its next PDU is fixed, and as that goes, by a journal with the lines of notes more.
-use Rattle.std.proofs.Common.{◌≡◌, ℕ, ◌-◌, ◌==◌, ◌&&◌, ◌||◌, Bool, true, false, Option, Some, None, List, [], ◌∷◌, ◌++◌, length, map, refl, sym, ap, ◌∙◌, append-nil, append_assoc, if◌then◌else◌}
+use Rattle.std.proofs.Common.{◌≡◌, ℕ, ◌-◌, ◌==◌, ◌&&◌, ◌||◌, Bool, true, false, Option, Some, None, List, [], ◌∷◌, ◌++◌, length, map, refl, sym, ap, subst, ◌∙◌, append-nil, append_assoc, if◌then◌else◌}
 use Rattle.std.specs.List.{AllByRecursion}
 use Rattle.std.proofs.lemmas.Grind.{flat_map-append}
 use Rattle.ble_base.specs.declared.roles.Side.{Side}
@@ -7,20 +7,22 @@ use Rattle.ble_base.specs.declared.roles.Side.TheVariants.{A, B}
 use Rattle.journal_controls.proofs.host_answers.LineAnswers.{statuses_in}
 use Rattle.journal_controls.specs.host_masks.Masks.{masks_of}
 use Rattle.journal.specs.declared.entries.Entry.{Entry}
-use Rattle.journal.specs.declared.entries.Entry.TheVariants.{Air, Fed, Sent, Turn}
-use Rattle.journal_controls.specs.KeyedLines.{drawn_by}
-use Rattle.journal_controls.specs.Withheld.{withheld_by}
-use Rattle.journal_controls.specs.LineSteps.{keyed_in_line, keyed_on, turn_now, withholds}
+use Rattle.journal.specs.declared.entries.Entry.TheVariants.{Air, Fed, Sent, Took, Turn}
+use Rattle.journal_controls.specs.KeyedLines.{keyed_by_all}
+use Rattle.journal_controls.specs.Withheld.{Withheld, withheld_by}
+use Rattle.journal_controls.specs.LineSteps.{keyed_in_line, keyed_on, steps_said, turn_now, withholds}
 use Rattle.journal_controls.specs.SaidLines.{NoneOpens, moved_by}
+use Rattle.journal_controls.specs.journal_ends.Asked.{Words}
 use Rattle.journal_controls.specs.journal_ends.Seen.{Says, heard_in_line}
 use Rattle.journal_controls.specs.journal_links.LinkLines.{lines_of, link_named, where_named}
 use Rattle.journal_controls.specs.journal_packets.Belonging.{is_side}
 use Rattle.journal_controls.specs.link_model.keyed_control.Keyed.{Keyed}
+use Rattle.journal_controls.specs.link_model.keyed_control.declared.material.Response.{Response}
 use Rattle.journal_controls.specs.run_model.Order.{AreNotes, side_of_note}
 use Rattle.journal_controls.specs.run_model.Readers.{PairOpening, fed_in, fed_to_side, of_side, pair_openings_in, turns_of}
 use Rattle.journal_controls.proofs.LineFolds.{keyed_more, line_moves, moved_both}
 use Rattle.journal_controls.proofs.journal_ends.SeenEvents.{unaccepted_by, unanswered_in, unasked_by}
-use Rattle.journal_fixing.specs.OnLines.{before_sending, begins_turn, control_fixing, control_going, has_heard, is_fixed, is_fixed_from, is_heard_at, is_sending, is_some_seen}
+use Rattle.journal_fixing.specs.OnLines.{NoneTakes, before_sending, begins_turn, control_fixing, control_going, has_heard, is_fixed, is_fixed_from, is_heard_at, is_sending, is_taking, hears_good}
 use Rattle.journal_fixing.proofs.ControlKept.{fixed_is, fixing_now, fixing_quiet, fixing_stays, going_stays, heard_is}
 
 -- ---- the line of a note
@@ -61,63 +63,63 @@ none_both (line ∷ lines) more none = absurd cc
 abbrev pub AreSilent : Side → List Entry → Type 0
 AreSilent side lines = AllByRecursion (λ line. statuses_in side line ≡ []) lines
 
-module _ (own side : Side) (number : ℕ) where
-  pub notes_fixing : (journal lines : List Entry) → AreNotes own lines → is_fixed side number journal ≡ true
-      → control_fixing side number (journal ++ lines) ≡ control_fixing side number journal
-  notes_fixing journal [] are is = ap (control_fixing side number) (append-nil journal)
+module _ (words : Words) (own side : Side) (number : ℕ) where
+  pub notes_fixing : (journal lines : List Entry) → AreNotes own lines → is_fixed words side number journal ≡ true
+      → control_fixing words side number (journal ++ lines) ≡ control_fixing words side number journal
+  notes_fixing journal [] are is = ap (control_fixing words side number) (append-nil journal)
   notes_fixing journal (line ∷ lines) are is =
       let next = journal ++ line ∷ [] in
       let goes = note_goes line own are.0 in
       let fixed = ap (λ b. b || is_fixed_from side number line) is in
-      ap (control_fixing side number) (sym (append_assoc journal (line ∷ []) lines))
-      ∙ notes_fixing next lines are.1 (fixed_is side number journal line goes ∙ fixed)
-      ∙ fixing_stays side number journal line goes fixed
+      ap (control_fixing words side number) (sym (append_assoc journal (line ∷ []) lines))
+      ∙ notes_fixing next lines are.1 (fixed_is words side number journal line goes ∙ fixed)
+      ∙ fixing_stays words side number journal line goes fixed
 
-  pub notes_fixed : (journal lines : List Entry) → AreNotes own lines → is_fixed side number journal ≡ true → is_fixed side number (journal ++ lines) ≡ true
-  notes_fixed journal [] are is = ap (is_fixed side number) (append-nil journal) ∙ is
+  pub notes_fixed : (journal lines : List Entry) → AreNotes own lines → is_fixed words side number journal ≡ true → is_fixed words side number (journal ++ lines) ≡ true
+  notes_fixed journal [] are is = ap (is_fixed words side number) (append-nil journal) ∙ is
   notes_fixed journal (line ∷ lines) are is =
       let goes = note_goes line own are.0 in
-      ap (is_fixed side number) (sym (append_assoc journal (line ∷ []) lines))
-      ∙ notes_fixed (journal ++ line ∷ []) lines are.1 (fixed_is side number journal line goes ∙ ap (λ b. b || is_fixed_from side number line) is)
+      ap (is_fixed words side number) (sym (append_assoc journal (line ∷ []) lines))
+      ∙ notes_fixed (journal ++ line ∷ []) lines are.1 (fixed_is words side number journal line goes ∙ ap (λ b. b || is_fixed_from side number line) is)
 
-  pub notes_heard : (journal lines : List Entry) → AreNotes own lines → has_heard side number journal ≡ true → has_heard side number (journal ++ lines) ≡ true
-  notes_heard journal [] are is = ap (has_heard side number) (append-nil journal) ∙ is
+  pub notes_heard : (journal lines : List Entry) → AreNotes own lines → has_heard words side number journal ≡ true → has_heard words side number (journal ++ lines) ≡ true
+  notes_heard journal [] are is = ap (has_heard words side number) (append-nil journal) ∙ is
   notes_heard journal (line ∷ lines) are is =
       let goes = note_goes line own are.0 in
-      ap (has_heard side number) (sym (append_assoc journal (line ∷ []) lines))
-      ∙ notes_heard (journal ++ line ∷ []) lines are.1 (heard_is side number journal line goes ∙ ap (λ b. b || is_heard_at side number journal line) is)
+      ap (has_heard words side number) (sym (append_assoc journal (line ∷ []) lines))
+      ∙ notes_heard (journal ++ line ∷ []) lines are.1 (heard_is words side number journal line goes ∙ ap (λ b. b || is_heard_at side number journal line) is)
 
-  pub notes_going : (journal lines : List Entry) → AreNotes own lines → has_heard side number journal ≡ true
-      → control_going side number (journal ++ lines) ≡ control_going side number journal
-  notes_going journal [] are is = ap (control_going side number) (append-nil journal)
+  pub notes_going : (journal lines : List Entry) → AreNotes own lines → has_heard words side number journal ≡ true
+      → control_going words side number (journal ++ lines) ≡ control_going words side number journal
+  notes_going journal [] are is = ap (control_going words side number) (append-nil journal)
   notes_going journal (line ∷ lines) are is =
       let next = journal ++ line ∷ [] in
       let goes = note_goes line own are.0 in
-      ap (control_going side number) (sym (append_assoc journal (line ∷ []) lines))
-      ∙ notes_going next lines are.1 (heard_is side number journal line goes ∙ ap (λ b. b || is_heard_at side number journal line) is)
-      ∙ going_stays side number journal line goes is
+      ap (control_going words side number) (sym (append_assoc journal (line ∷ []) lines))
+      ∙ notes_going next lines are.1 (heard_is words side number journal line goes ∙ ap (λ b. b || is_heard_at side number journal line) is)
+      ∙ going_stays words side number journal line goes is
 
   -- notes of another end
   pub notes_still : (journal lines : List Entry) → AreNotes own lines → AreSilent side lines → lines_of side number lines ≡ []
-      → control_fixing side number (journal ++ lines) ≡ control_fixing side number journal
-  notes_still journal [] are silent none = ap (control_fixing side number) (append-nil journal)
+      → control_fixing words side number (journal ++ lines) ≡ control_fixing words side number journal
+  notes_still journal [] are silent none = ap (control_fixing words side number) (append-nil journal)
   notes_still journal (line ∷ lines) are silent none =
       let goes = note_goes line own are.0 in
       let parts = none_both (where_named side number (link_named line) line) (lines_of side number lines) none in
-      ap (control_fixing side number) (sym (append_assoc journal (line ∷ []) lines))
+      ap (control_fixing words side number) (sym (append_assoc journal (line ∷ []) lines))
       ∙ notes_still (journal ++ line ∷ []) lines are.1 silent.1 parts.1
-      ∙ fixing_quiet side number journal line goes (λ i. unasked_by side number journal line silent.0 i ++ (note_deaf line own side number journal are.0 i ++ map Says (parts.0 i)))
-      (unanswered_in side number journal line (unaccepted_by side journal line silent.0))
+      ∙ fixing_quiet words side number journal line goes (λ i. unasked_by words side number journal line silent.0 i ++ (note_deaf line own side number journal are.0 i ++ map Says (parts.0 i)))
+      (unanswered_in words side number journal line (unaccepted_by side journal line silent.0))
 
   -- notes are no packets
-  pub notes_unheard : (journal lines : List Entry) → AreNotes own lines → has_heard side number journal ≡ false → has_heard side number (journal ++ lines) ≡ false
-  notes_unheard journal [] are none = ap (has_heard side number) (append-nil journal) ∙ none
+  pub notes_unheard : (journal lines : List Entry) → AreNotes own lines → has_heard words side number journal ≡ false → has_heard words side number (journal ++ lines) ≡ false
+  notes_unheard journal [] are none = ap (has_heard words side number) (append-nil journal) ∙ none
   notes_unheard journal (line ∷ lines) are none =
       let next = journal ++ line ∷ [] in
       let goes = note_goes line own are.0 in
-      ap (has_heard side number) (sym (append_assoc journal (line ∷ []) lines))
+      ap (has_heard words side number) (sym (append_assoc journal (line ∷ []) lines))
       ∙ notes_unheard next lines are.1
-      (heard_is side number journal line goes ∙ (λ i. none i || is_some_seen (note_deaf line own side number journal are.0 i)))
+      (heard_is words side number journal line goes ∙ (λ i. none i || hears_good (note_deaf line own side number journal are.0 i)))
 
   -- ---- up to the line of a new PDU
 
@@ -180,42 +182,61 @@ module _ (own side : Side) (number : ℕ) where
         ap (λ named. before_sending (named ++ rest)) none ∙ sym (ap (λ named. named ++ before_sending rest) none)
     unsent_here line is = unsent_named (link_named line) line refl
 
+  -- the words that are drawn matter to the line of a PDU that is taken, and there is none
+  undrawn : (withheld : Withheld) (one other : Response) (slot : ℕ) (line : Entry) (k : Keyed) → is_taking line ≡ false
+      → keyed_by_all (steps_said withheld one slot k line) k ≡ keyed_by_all (steps_said withheld other slot k line) k
+  undrawn withheld one other slot (Took by_side link count llid body) k is = absurd cc
+  undrawn withheld one other slot line k is = refl
+
+  moved_undrawn : (withheld : Withheld) (one other : Response) (slot : ℕ) (lines : List Entry) (k : Keyed) → NoneTakes lines
+      → moved_by withheld one slot lines k ≡ moved_by withheld other slot lines k
+  moved_undrawn withheld one other slot [] k none = refl
+  moved_undrawn withheld one other slot (line ∷ lines) k none =
+      ap (moved_by withheld one slot lines) (undrawn withheld one other slot line k none.0)
+      ∙ moved_undrawn withheld one other slot lines (keyed_by_all (steps_said withheld other slot k line) k) none.1
+
+  last_untaken : (lines more : List Entry) → NoneTakes (lines ++ more) → NoneTakes more
+  last_untaken [] more none = none
+  last_untaken (line ∷ lines) more none = last_untaken lines more none.1
+
   pub notes_fix : (journal lines : List Entry) (k : Keyed) → AreNotes own lines → AreSilent side lines → NoneOpens (lines_of side number lines)
-      → is_fixed side number journal ≡ false → keyed_on side number journal ≡ Some k
-      → control_fixing side number (journal ++ lines) ≡ Some (moved_by (withholds side journal) (drawn_by side journal) (turn_now journal) (before_sending (lines_of side number lines)) k)
-  notes_fix journal [] k are silent opens none was = ap (control_fixing side number) (append-nil journal) ∙ fixing_now side number journal none ∙ was
-  notes_fix journal (line ∷ lines) k are silent opens none was =
-      by (is_fixed_from side number line) refl (λ moved none_yet now.
-      notes_fix (journal ++ line ∷ []) lines moved are.1 silent.1 (last_none (where_named side number (link_named line) line) (lines_of side number lines) opens) none_yet now)
+      → NoneTakes (before_sending (lines_of side number lines)) → is_fixed words side number journal ≡ false → keyed_on words side number journal ≡ Some k
+      → control_fixing words side number (journal ++ lines) ≡ Some (moved_by (withholds side journal) (words side journal) (turn_now journal) (before_sending (lines_of side number lines)) k)
+  notes_fix journal [] k are silent opens untaken none was = ap (control_fixing words side number) (append-nil journal) ∙ fixing_now words side number journal none ∙ was
+  notes_fix journal (line ∷ lines) k are silent opens untaken none was =
+      by (is_fixed_from side number line) refl (λ moved takes none_yet now.
+      notes_fix (journal ++ line ∷ []) lines moved are.1 silent.1 (last_none (where_named side number (link_named line) line) (lines_of side number lines) opens) takes none_yet now)
     where
       by : (from : Bool) → is_fixed_from side number line ≡ from
-          → ((moved : Keyed) → is_fixed side number (journal ++ line ∷ []) ≡ false → keyed_on side number (journal ++ line ∷ []) ≡ Some moved
-          → control_fixing side number ((journal ++ line ∷ []) ++ lines) ≡ Some (moved_by (withholds side (journal ++ line ∷ [])) (drawn_by side (journal ++ line ∷ [])) (turn_now (journal ++ line ∷ [])) (before_sending (lines_of side number lines)) moved))
-          → control_fixing side number (journal ++ line ∷ lines)
-          ≡ Some (moved_by (withholds side journal) (drawn_by side journal) (turn_now journal) (before_sending (where_named side number (link_named line) line ++ lines_of side number lines)) k)
+          → ((moved : Keyed) → NoneTakes (before_sending (lines_of side number lines)) → is_fixed words side number (journal ++ line ∷ []) ≡ false → keyed_on words side number (journal ++ line ∷ []) ≡ Some moved
+          → control_fixing words side number ((journal ++ line ∷ []) ++ lines) ≡ Some (moved_by (withholds side (journal ++ line ∷ [])) (words side (journal ++ line ∷ [])) (turn_now (journal ++ line ∷ [])) (before_sending (lines_of side number lines)) moved))
+          → control_fixing words side number (journal ++ line ∷ lines)
+          ≡ Some (moved_by (withholds side journal) (words side journal) (turn_now journal) (before_sending (where_named side number (link_named line) line ++ lines_of side number lines)) k)
       by true from later =
           let next = journal ++ line ∷ [] in
           let rest = lines_of side number lines in
           let goes = note_goes line own are.0 in
-          let fixed : (is_fixed side number journal || is_fixed_from side number line) ≡ true = λ i. none i || from i in
-          ap (control_fixing side number) (sym (append_assoc journal (line ∷ []) lines))
-          ∙ notes_fixing next lines are.1 (fixed_is side number journal line goes ∙ fixed)
-          ∙ fixing_stays side number journal line goes fixed ∙ fixing_now side number journal none ∙ was
-          ∙ ap (λ xs. Some (moved_by (withholds side journal) (drawn_by side journal) (turn_now journal) xs k)) (sym (sent_here rest line are.0 from))
+          let fixed : (is_fixed words side number journal || is_fixed_from side number line) ≡ true = λ i. none i || from i in
+          ap (control_fixing words side number) (sym (append_assoc journal (line ∷ []) lines))
+          ∙ notes_fixing next lines are.1 (fixed_is words side number journal line goes ∙ fixed)
+          ∙ fixing_stays words side number journal line goes fixed ∙ fixing_now words side number journal none ∙ was
+          ∙ ap (λ xs. Some (moved_by (withholds side journal) (words side journal) (turn_now journal) xs k)) (sym (sent_here rest line are.0 from))
       by false from later =
           let next = journal ++ line ∷ [] in
           let named = where_named side number (link_named line) line in
           let rest = lines_of side number lines in
           let slot = turn_now journal in
           let held = withholds side journal in
-          let words = drawn_by side journal in
+          let response = words side journal in
           let goes = note_goes line own are.0 in
-          let unfixed : (is_fixed side number journal || is_fixed_from side number line) ≡ false = λ i. none i || from i in
-          let moves : keyed_on side number next ≡ Some (moved_by held words slot named k) =
-          keyed_more side number journal line ∙ ap (λ before. keyed_in_line (drawn_by side) side number journal before line) was
-          ∙ line_moves side number journal line k (note_deaf line own side number journal are.0) (unaccepted_by side journal line silent.0) (first_none named rest opens) in
-          ap (control_fixing side number) (sym (append_assoc journal (line ∷ []) lines))
-          ∙ later (moved_by held words slot named k) (fixed_is side number journal line goes ∙ unfixed) moves
-          ∙ (λ i. Some (moved_by (withholds_stay own side journal line are.0 i) words (turn_stays journal line goes i) (before_sending rest) (moved_by held words slot named k)))
-          ∙ ap Some (sym (moved_both held words slot named (before_sending rest) k))
-          ∙ ap (λ xs. Some (moved_by held words slot xs k)) (sym (unsent_here rest line from))
+          let takes = last_untaken named (before_sending rest) (subst NoneTakes (unsent_here rest line from) untaken) in
+          let unfixed : (is_fixed words side number journal || is_fixed_from side number line) ≡ false = λ i. none i || from i in
+          let moves : keyed_on words side number next ≡ Some (moved_by held response slot named k) =
+          keyed_more words side number journal line ∙ ap (λ before. keyed_in_line words side number journal before line) was
+          ∙ line_moves words side number journal line k (note_deaf line own side number journal are.0) (unaccepted_by side journal line silent.0) (first_none named rest opens) in
+          ap (control_fixing words side number) (sym (append_assoc journal (line ∷ []) lines))
+          ∙ later (moved_by held response slot named k) takes (fixed_is words side number journal line goes ∙ unfixed) moves
+          ∙ ap Some (moved_undrawn (withholds side next) (words side next) response (turn_now next) (before_sending rest) (moved_by held response slot named k) takes)
+          ∙ (λ i. Some (moved_by (withholds_stay own side journal line are.0 i) response (turn_stays journal line goes i) (before_sending rest) (moved_by held response slot named k)))
+          ∙ ap Some (sym (moved_both held response slot named (before_sending rest) k))
+          ∙ ap (λ xs. Some (moved_by held response slot xs k)) (sym (unsent_here rest line from))

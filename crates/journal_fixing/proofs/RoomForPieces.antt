@@ -1,7 +1,7 @@
 -- An end whose host asks only for values in range fixes a piece of data with room for an octet at least.
 use Rattle.std.proofs.Common.{◌≡◌, ◌≤◌, List, [], ◌∷◌, ◌++◌, fold, arith}
 use Rattle.ble_base.specs.Limits.{payload_octets}
-use Rattle.journal_controls.specs.link_model.ControlSteps.{AreAsksInRange, IsAskInRange}
+use Rattle.journal_controls.specs.link_model.AskRanges.{AreAsksInRange, IsAskInRange}
 use Rattle.journal_controls.specs.link_model.End.{facts_after, facts_of}
 use Rattle.journal_controls.specs.link_model.Facts.{Facts, first_facts, keyed_of}
 use Rattle.journal_controls.specs.link_model.Fixing.{data_cut}

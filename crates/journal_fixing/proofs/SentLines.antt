@@ -12,6 +12,7 @@ use Rattle.journal_controls.specs.controller_model.Side.{notes_after}
 use Rattle.journal_controls.specs.controller_model.Step.{Step as Call}
 use Rattle.journal.specs.declared.entries.Entry.{Entry}
 use Rattle.journal.specs.declared.entries.Entry.TheVariants.{Sent}
+use Rattle.journal_controls.specs.journal_ends.Asked.{Words}
 use Rattle.journal_controls.specs.journal_links.LinkLines.{lines_of, where_named}
 use Rattle.journal_controls.specs.journal_packets.Belonging.{is_side}
 use Rattle.journal_controls.specs.run_model.History.{Event, Called, Noted}
@@ -36,7 +37,7 @@ own_side : (side : Side) (number : ℕ) → (is_side side side && number == numb
 own_side A number = eq-eqb number number refl
 own_side B number = eq-eqb number number refl
 
-module _ (given : Given) (station : ℕ) (call : Call) (history : List Event) (earlier later : List Note) (handle count llid : ℕ) (body : List ℕ)
+module _ (words : Words) (given : Given) (station : ℕ) (call : Call) (history : List Event) (earlier later : List Note) (handle count llid : ℕ) (body : List ℕ)
     (notes_are : notes_after (setup_at given station) (facts_at given station history) call ≡ earlier ++ SentNote handle count llid (record { items = body }) ∷ later)
     (opens : All (OpensNone handle) (notes_after (setup_at given station) (facts_at given station history) call)) where
   abbrev note : Note
@@ -83,14 +84,14 @@ module _ (given : Given) (station : ℕ) (call : Call) (history : List Event) (e
       ∙ ap (λ n. journal_of now ++ Sent side n count llid body ∷ rest) number_then
 
   -- before the line the end as it fixed the PDU is the one after the call
-  pub fixing_then : control_fixing side own (journal_of now) ≡ control_fixing side own (journal_of after)
+  pub fixing_then : control_fixing words side own (journal_of now) ≡ control_fixing words side own (journal_of after)
   fixing_then =
       let front = journal_of now in
-      let fixes : (is_fixed side own front || is_fixed_from side own line) ≡ true = or_right (is_fixed side own front) (is_fixed_from side own line) (own_side side own) in
-      sym (ap (control_fixing side own) (journal_then ∙ sym (append_assoc front (line ∷ []) rest))
-      ∙ notes_fixing side side own (front ++ line ∷ []) rest (notes_noted (links_after (links_of now) (Noted station note)) station later)
-      (fixed_is side own front line refl ∙ fixes)
-      ∙ fixing_stays side own front line refl fixes)
+      let fixes : (is_fixed words side own front || is_fixed_from side own line) ≡ true = or_right (is_fixed words side own front) (is_fixed_from side own line) (own_side side own) in
+      sym (ap (control_fixing words side own) (journal_then ∙ sym (append_assoc front (line ∷ []) rest))
+      ∙ notes_fixing words side side own (front ++ line ∷ []) rest (notes_noted (links_after (links_of now) (Noted station note)) station later)
+      (fixed_is words side own front line refl ∙ fixes)
+      ∙ fixing_stays words side own front line refl fixes)
 
   lines_then : lines_of side own (journal_of after) ≡ lines_of side own (journal_of history) ++ (lines_of side own middle ++ line ∷ lines_of side own rest)
   lines_then =

@@ -8,6 +8,8 @@ use Rattle.journal.specs.declared.entries.Entry.{Entry}
 use Rattle.journal.specs.declared.entries.Entry.TheVariants.{Air}
 use Rattle.journal_controls.specs.LineSteps.{keyed_on}
 use Rattle.journal_controls.specs.journal_acks.link_calls.Uses.{listens_under, sends_under}
+use Rattle.journal_controls.specs.journal_ends.Asked.{Words}
+use Rattle.journal_controls.specs.journal_ends.GivenWords.{GivesWords}
 use Rattle.journal_controls.specs.journal_ends.open_links.OpenLinks.{OpenLink, facts_in, link_at}
 use Rattle.journal_controls.specs.link_model.Acknowledgement.{is_acked}
 use Rattle.journal_controls.specs.link_model.Data.{next_piece}
@@ -52,17 +54,17 @@ heard_air : (side : Side) (number : ℕ) (front : List Entry) (line : Entry) →
 heard_air side number front (Air sender channel octets fate verdict) is = refl
 heard_air side number front line is = absurd cc
 
-heard_fixed : (side : Side) (number : ℕ) (journal : List Entry) → has_heard side number journal ≡ true → is_fixed side number journal ≡ true
+heard_fixed : (words : Words) (side : Side) (number : ℕ) (journal : List Entry) → has_heard words side number journal ≡ true → is_fixed words side number journal ≡ true
 unfolding fixing_kept going_kept
-heard_fixed side number journal is =
-    kept_both (is_heard_at side number) (λ front line. is_fixed_from side number line) (control_answering side number) (λ front line. keyed_on side number front)
+heard_fixed words side number journal is =
+    kept_both (is_heard_at side number) (λ front line. is_fixed_from side number line) (control_answering words side number) (λ front line. keyed_on words side number front)
     (heard_air side number) [] None None journal (λ some. some) is
 
 pub same_some : (one other : Keyed) → Some one ≡ Some other → one ≡ other
 same_some one other is = cc
 
-module _ (heard_whole : IsHeardWhole) (understood : IsUnderstood) (taken : AreTaken) (nth : AreNth) (apart : AreApart) (given : Given) (are_two : IsOfTwo given)
-    (six : HaveAddresses given) where
+module _ (words : Words) (heard_whole : IsHeardWhole) (understood : IsUnderstood) (taken : AreTaken) (nth : AreNth) (apart : AreApart) (given : Given) (are_two : IsOfTwo given)
+    (six : HaveAddresses given) (gives : GivesWords given words) where
   -- ---- a peripheral, in the call in which it takes a good packet
 
   module _ (before rest : List Event) (octets pdu : List ℕ) (notes : List Note) (station handle : ℕ) (link : OpenLink) (in_it : is_in station given.stations ≡ true)
@@ -81,13 +83,13 @@ module _ (heard_whole : IsHeardWhole) (understood : IsUnderstood) (taken : AreTa
     abbrev held : EndFacts
     held = facts_fixing link.setup link.past
 
-    pub fixing_in_call : control_fixing side number (journal_of now) ≡ Some (keyed_of held)
+    pub fixing_in_call : control_fixing words side number (journal_of now) ≡ Some (keyed_of held)
     fixing_in_call =
-        ap (control_fixing side number) (journal_more before (Called station (PacketHeard octets) ∷ map (Noted station) notes))
-        ∙ notes_fixing side side number (journal_of before) (journal_from (links_of before) (map (Noted station) notes)) (notes_noted (links_of before) station notes)
-        (heard_fixed side number (journal_of before)
-        (heard_before_call heard_whole understood taken nth apart given are_two six before (map (Noted station) notes ++ rest) octets pdu station handle link in_it at is_open on good))
-        ∙ fixing_before_phase heard_whole understood taken nth apart given are_two six before (map (Noted station) notes ++ rest) station (Some octets) at station in_it handle link is_open
+        ap (control_fixing words side number) (journal_more before (Called station (PacketHeard octets) ∷ map (Noted station) notes))
+        ∙ notes_fixing words side side number (journal_of before) (journal_from (links_of before) (map (Noted station) notes)) (notes_noted (links_of before) station notes)
+        (heard_fixed words side number (journal_of before)
+        (heard_before_call words heard_whole understood taken nth apart given are_two six gives before (map (Noted station) notes ++ rest) octets pdu station handle link in_it at is_open on good))
+        ∙ fixing_before_phase words heard_whole understood taken nth apart given are_two six gives before (map (Noted station) notes ++ rest) station (Some octets) at station in_it handle link is_open
         (listens_uses handle (facts_at given station before).turn.doing on)
 
     answer_fixed : IsFixedBy (keyed_of held) (data_cut held) (facts_in link)
@@ -95,17 +97,17 @@ module _ (heard_whole : IsHeardWhole) (understood : IsUnderstood) (taken : AreTa
         let since = (since_in given before (Called station (PacketHeard octets) ∷ (map (Noted station) notes ++ rest)) station handle link (are_distinct given are_two) in_it at is_open).listens on role in
         subst (IsFixedBy (keyed_of held) (data_cut held)) (sym since.1) (fixed_by link.setup held since.0)
 
-    module _ (fixing : Keyed) (fixing_is : control_fixing side number (journal_of now) ≡ Some fixing) (slot : ℕ) (room : Bool) where
+    module _ (fixing : Keyed) (fixing_is : control_fixing words side number (journal_of now) ≡ Some fixing) (slot : ℕ) (room : Bool) where
       abbrev heard : EndFacts
       heard = facts_after link.setup (facts_in link) (PacketReceived slot octets room)
 
       fixing_same : keyed_of held ≡ fixing
       fixing_same = same_some (keyed_of held) fixing (sym fixing_in_call ∙ fixing_is)
 
-      pub answer_by_lines : (going : Keyed) → control_going side number (journal_of now) ≡ Some going → is_acked heard.acknowledgement ≡ true
+      pub answer_by_lines : (going : Keyed) → control_going words side number (journal_of now) ≡ Some going → is_acked heard.acknowledgement ≡ true
           → pdu_sent heard ≡ pdu_next fixing going (next_piece (data_cut held))
       answer_by_lines going going_is acked =
-          let goes = going_in_call heard_whole understood taken nth apart given are_two six before rest octets pdu notes station handle link in_it at is_open on good in
+          let goes = going_in_call words heard_whole understood taken nth apart given are_two six gives before rest octets pdu notes station handle link in_it at is_open on good in
           let same = same_some (control_acking (facts_in link) pdu) going (sym goes ∙ going_is) in
           answer_new link.setup (facts_in link) slot octets pdu room (keyed_of held) (data_cut held) role answer_fixed good acked
           ∙ (λ i. pdu_next (fixing_same i) (same i) (next_piece (data_cut held)))
@@ -129,7 +131,7 @@ module _ (heard_whole : IsHeardWhole) (understood : IsUnderstood) (taken : AreTa
       (at : history_of (run_of given) ≡ before ++ Transmitted sender channel octets hearings ∷ rest)
       (is_open : link_at handle (facts_at given station before).links ≡ Some link) (on : sends_under handle (facts_at given station before).turn.doing ≡ true)
       (role : link.setup.link.role ≡ Central) (fixing : Keyed)
-      (fixing_is : control_fixing (side_of station) (number_at station handle before) (journal_of before) ≡ Some fixing) where
+      (fixing_is : control_fixing words (side_of station) (number_at station handle before) (journal_of before) ≡ Some fixing) where
     abbrev held_then : EndFacts
     held_then = facts_fixing link.setup link.past
 
@@ -139,7 +141,7 @@ module _ (heard_whole : IsHeardWhole) (understood : IsUnderstood) (taken : AreTa
     sent_fixing : keyed_of held_then ≡ fixing
     sent_fixing =
         same_some (keyed_of held_then) fixing
-        (sym (fixing_before_packet heard_whole understood taken nth apart given are_two six before rest sender channel octets hearings at station in_it handle link is_open
+        (sym (fixing_before_packet words heard_whole understood taken nth apart given are_two six gives before rest sender channel octets hearings at station in_it handle link is_open
         (sends_uses handle (facts_at given station before).turn.doing on)) ∙ fixing_is)
 
     sent_fixed : IsFixedBy (keyed_of held_then) (data_cut held_then) sent

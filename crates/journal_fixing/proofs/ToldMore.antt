@@ -3,6 +3,8 @@ use Rattle.std.proofs.Common.{◌≡◌, ℕ, ◌≤◌, ◌&&◌, not, Bool, tr
 use Rattle.ble_base.specs.declared.roles.Side.{Side}
 use Rattle.journal_controls.specs.LineSteps.{keyed_on}
 use Rattle.journal_controls.specs.journal_acks.link_calls.Uses.{sends_under}
+use Rattle.journal_controls.specs.journal_ends.Asked.{Words}
+use Rattle.journal_controls.specs.journal_ends.GivenWords.{GivesWords}
 use Rattle.journal_controls.specs.journal_ends.open_links.OpenLinks.{OpenLink, facts_in, link_after}
 use Rattle.journal_controls.specs.journal_packets.Senders.{IsOfSendersLink}
 use Rattle.journal_controls.specs.link_model.Acknowledgement.{is_acked}
@@ -54,10 +56,10 @@ pub again_stays : (slot : ℕ) (facts : EndFacts) → is_acked facts.acknowledge
 again_stays slot facts unacked =
     sent_is slot facts ∙ again_by (is_acked facts.acknowledgement) facts.fixes_control (not (is_empty (pdu_fixed facts))) slot facts unacked
 
-module _ (heard_whole : IsHeardWhole) (understood : IsUnderstood) (taken : AreTaken) (nth : AreNth) (apart : AreApart) (given : Given) (are_two : IsOfTwo given)
-    (six : HaveAddresses given) (before rest : List Event) (station channel : ℕ) (octets : List ℕ) (hearings : List Hearing) (in_it : is_in station given.stations ≡ true)
+module _ (words : Words) (heard_whole : IsHeardWhole) (understood : IsUnderstood) (taken : AreTaken) (nth : AreNth) (apart : AreApart) (given : Given) (are_two : IsOfTwo given)
+    (six : HaveAddresses given) (gives : GivesWords given words) (before rest : List Event) (station channel : ℕ) (octets : List ℕ) (hearings : List Hearing) (in_it : is_in station given.stations ≡ true)
     (at : history_of (run_of given) ≡ before ++ Transmitted station channel octets hearings ∷ rest) (sent : IsOfSendersLink given before station channel octets)
-    (fixing : Keyed) (fixing_is : control_fixing (side_of station) (number_at station sent.handle before) (journal_of before) ≡ Some fixing) where
+    (fixing : Keyed) (fixing_is : control_fixing words (side_of station) (number_at station sent.handle before) (journal_of before) ≡ Some fixing) where
   abbrev side : Side
   side = side_of station
 
@@ -84,18 +86,18 @@ module _ (heard_whole : IsHeardWhole) (understood : IsUnderstood) (taken : AreTa
   fixing_same : keyed_of held ≡ fixing
   fixing_same =
       same_some (keyed_of held) fixing
-      (sym (fixing_before_packet heard_whole understood taken nth apart given are_two six before rest station channel octets hearings at station in_it sent.handle link sent.is_open
+      (sym (fixing_before_packet words heard_whole understood taken nth apart given are_two six gives before rest station channel octets hearings at station in_it sent.handle link sent.is_open
       (sends_uses sent.handle (facts_at given station before).turn.doing on) ∙ ap (λ (f : EndFacts). Some (keyed_of f)) held_is) ∙ fixing_is)
 
   pub new_tells : is_acked facts.acknowledgement ≡ true → more_sent facts ≡ more_with_new fixing (data_waits_after (pdu_sent facts) (data_cut held))
   new_tells acked = tells.new acked ∙ ap (λ k. more_with_new k (data_waits_after (pdu_sent facts) (data_cut held))) fixing_same
 
-  pub again_tells : (now : Keyed) → keyed_on side (number_at station sent.handle before) (journal_of before) ≡ Some now → is_acked facts.acknowledgement ≡ false
+  pub again_tells : (now : Keyed) → keyed_on words side (number_at station sent.handle before) (journal_of before) ≡ Some now → is_acked facts.acknowledgement ≡ false
       → more_sent facts ≡ more_with_old fixing now (data_waits (data_cut held))
   again_tells now now_is unacked =
       let ranges = ranges_in given before (Transmitted station channel octets hearings ∷ rest) station sent.handle link (are_distinct given are_two) in_it at sent.is_open in
       let some = subst (λ (f : EndFacts). 1 ≤ (data_cut f).limit) held_is (room_for_piece link ranges) in
-      let known = keyed_before_packet heard_whole understood taken nth apart given are_two six before rest station channel octets hearings at station in_it sent.handle link sent.is_open in
+      let known = keyed_before_packet words heard_whole understood taken nth apart given are_two six gives before rest station channel octets hearings at station in_it sent.handle link sent.is_open in
       let stays : keyed_of (facts_in link) ≡ keyed_of facts =
       ap (λ (f : EndFacts). keyed_of f) (step_facts sent.link (PacketSent sent.slot)) ∙ again_stays sent.slot facts unacked in
       let same = same_some (keyed_of facts) now (sym (known ∙ ap Some stays) ∙ now_is) in

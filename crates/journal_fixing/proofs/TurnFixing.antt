@@ -9,10 +9,11 @@ use Rattle.ble_base.specs.declared.roles.Side.{Side}
 use Rattle.journal_controls.specs.Withheld.{Withheld}
 use Rattle.journal_controls.specs.controller_model.Step.{Step as Call}
 use Rattle.journal.specs.declared.entries.Entry.{Entry}
-use Rattle.journal_controls.specs.KeyedLines.{drawn_by}
+use Rattle.journal.specs.declared.entries.Entry.TheVariants.{Applied as AppliedLine, Began as BeganLine, Done as DoneLine, Enter as EnterLine}
 use Rattle.journal_controls.specs.LineSteps.{keyed_on, turn_now, withholds}
 use Rattle.journal_controls.specs.SaidLines.{moved_by}
 use Rattle.journal_controls.specs.TurnSteps.{first_if, steps_begun}
+use Rattle.journal_controls.specs.journal_ends.Asked.{Words}
 use Rattle.journal_controls.specs.journal_links.LinkLines.{line_of, lines_of}
 use Rattle.journal_controls.specs.link_model.Acknowledgement.{Pdu, is_acked}
 use Rattle.journal_controls.specs.link_model.Controls.{goes_on, is_quiet_now, pdu_fixed}
@@ -37,7 +38,7 @@ use Rattle.journal_controls.specs.run_model.Journal.{journal_of}
 use Rattle.journal_controls.specs.run_model.Run.{Given, after_call}
 use Rattle.journal_controls.proofs.EndMoves.{steps_later}
 use Rattle.journal_controls.proofs.LineFolds.{moved_both}
-use Rattle.journal_fixing.specs.OnLines.{before_sending, control_fixing, is_fixed, is_sending}
+use Rattle.journal_fixing.specs.OnLines.{NoneTakes, before_sending, control_fixing, is_fixed, is_sending, is_taking}
 use Rattle.journal_fixing.proofs.FixingEvents.{call_fixes}
 use Rattle.journal_fixing.proofs.SaidPdus.{AreUnsent, IsSaidBy, all_both, sent_said, unsent_said}
 
@@ -47,8 +48,28 @@ before_unsent [] more none = refl
 before_unsent (line ∷ lines) more none =
     ap (λ b. if b then [] else line ∷ before_sending (lines ++ more)) none.0 ∙ ap (λ xs. line ∷ xs) (before_unsent lines more none.1)
 
-unsent_both : (lines more : List Entry) → AreUnsent lines → AreUnsent more → AreUnsent (lines ++ more)
-unsent_both lines more here there = all_both (λ line. is_sending line ≡ false) lines more here there
+-- what each line has that an end says as it enters an event
+record IsOfEvents (P : Entry → Type 0) : Type 0 where
+  applied : (side : Side) (link change event : ℕ) → P (AppliedLine side link change event)
+  entered : (side : Side) (link event channel : ℕ) → P (EnterLine side link event channel)
+  done : (side : Side) (link : ℕ) (kind : Kind) → P (DoneLine side link kind)
+  began : (side : Side) (link : ℕ) (kind : Kind) → P (BeganLine side link kind)
+
+none_sends : IsOfEvents (λ line. is_sending line ≡ false)
+none_sends = record {
+  applied = λ side link change event. refl;
+  entered = λ side link event channel. refl;
+  done = λ side link kind. refl;
+  began = λ side link kind. refl;
+}
+
+none_takes : IsOfEvents (λ line. is_taking line ≡ false)
+none_takes = record {
+  applied = λ side link change event. refl;
+  entered = λ side link event channel. refl;
+  done = λ side link kind. refl;
+  began = λ side link kind. refl;
+}
 
 module _ (side : Side) (number : ℕ) (withheld : Withheld) (response : Response) (slot : ℕ) where
   abbrev said : List Note → List Entry
@@ -58,18 +79,6 @@ module _ (side : Side) (number : ℕ) (withheld : Withheld) (response : Response
   said_both notes more = map-append (line_of side number) notes more
 
   -- ---- an event is entered
-
-  done_unsent : (handle : ℕ) (kind : Option Kind) → AreUnsent (said (done_notes handle kind))
-  done_unsent handle None = tt
-  done_unsent handle (Some kind) = (refl, tt)
-
-  began_unsent : (handle : ℕ) (kind : Option Kind) → AreUnsent (said (began_notes handle kind))
-  began_unsent handle None = tt
-  began_unsent handle (Some kind) = (refl, tt)
-
-  applied_unsent : (handle event : ℕ) (applied : Option ℕ) → AreUnsent (said (applied_notes handle event applied))
-  applied_unsent handle event None = tt
-  applied_unsent handle event (Some change) = (refl, tt)
 
   -- the notes come in four parts
   event_said : (handle : ℕ) (event : ConnectionEvent) (entry : Entered)
@@ -84,16 +93,37 @@ module _ (side : Side) (number : ℕ) (withheld : Withheld) (response : Response
       said_both ((applied ++ enter) ++ done) began
       ∙ ap (λ xs. xs ++ said began) (said_both (applied ++ enter) done ∙ ap (λ xs. xs ++ said done) (said_both applied enter))
 
-  event_unsent : (handle : ℕ) (event : ConnectionEvent) (entry : Entered) → AreUnsent (said (event_notes handle event entry))
-  event_unsent handle event entry =
-      let applied = said (applied_notes handle event.number entry.applied) in
-      let enter = said (Enter handle (record { 0 = event.number }) event.channel ∷ []) in
-      let done = said (done_notes handle entry.done) in
-      let began = said (began_notes handle entry.began) in
-      subst AreUnsent (sym (event_said handle event entry))
-      (unsent_both ((applied ++ enter) ++ done) began
-      (unsent_both (applied ++ enter) done (unsent_both applied enter (applied_unsent handle event.number entry.applied) (refl, tt)) (done_unsent handle entry.done))
-      (began_unsent handle entry.began))
+  module _ (P : Entry → Type 0) (has : IsOfEvents P) where
+    done_each : (handle : ℕ) (kind : Option Kind) → AllByRecursion P (said (done_notes handle kind))
+    done_each handle None = tt
+    done_each handle (Some kind) = (has.done side number kind, tt)
+
+    began_each : (handle : ℕ) (kind : Option Kind) → AllByRecursion P (said (began_notes handle kind))
+    began_each handle None = tt
+    began_each handle (Some kind) = (has.began side number kind, tt)
+
+    applied_each : (handle event : ℕ) (applied : Option ℕ) → AllByRecursion P (said (applied_notes handle event applied))
+    applied_each handle event None = tt
+    applied_each handle event (Some change) = (has.applied side number change event, tt)
+
+    event_each : (handle : ℕ) (event : ConnectionEvent) (entry : Entered) → AllByRecursion P (said (event_notes handle event entry))
+    event_each handle event entry =
+        let applied = said (applied_notes handle event.number entry.applied) in
+        let enter = said (Enter handle (record { 0 = event.number }) event.channel ∷ []) in
+        let done = said (done_notes handle entry.done) in
+        let began = said (began_notes handle entry.began) in
+        subst (AllByRecursion P) (sym (event_said handle event entry))
+        (all_both P ((applied ++ enter) ++ done) began
+        (all_both P (applied ++ enter) done
+        (all_both P applied enter (applied_each handle event.number entry.applied) (has.entered side number event.number event.channel, tt))
+        (done_each handle entry.done))
+        (began_each handle entry.began))
+
+    entry_if_each : (goes : Bool) (setup : Setup) (facts : Facts)
+        → AllByRecursion P (said (if goes then event_notes setup.link.handle (facts_entered setup slot facts).event (entry_of slot (is_quiet_now facts) (held_of facts.control)) else []))
+    entry_if_each false setup facts = tt
+    entry_if_each true setup facts =
+        event_each setup.link.handle (facts_entered setup slot facts).event (entry_of slot (is_quiet_now facts) (held_of facts.control))
 
   done_still : (handle : ℕ) (kind : Option Kind) (k : Keyed) → moved_by withheld response slot (said (done_notes handle kind)) k ≡ k
   done_still handle None k = refl
@@ -118,10 +148,6 @@ module _ (side : Side) (number : ℕ) (withheld : Withheld) (response : Response
       ∙ moved_both withheld response slot ((applied ++ enter) ++ done) began k ∙ began_still handle entry.began (moved_by withheld response slot ((applied ++ enter) ++ done) k)
       ∙ moved_both withheld response slot (applied ++ enter) done k ∙ done_still handle entry.done (moved_by withheld response slot (applied ++ enter) k)
       ∙ moved_both withheld response slot applied enter k ∙ ap (moved_by withheld response slot enter) (applied_still handle event.number entry.applied k)
-
-  entry_if_unsent : (goes : Bool) (setup : Setup) (facts : Facts) → AreUnsent (said (if goes then event_notes setup.link.handle (facts_entered setup slot facts).event (entry_of slot (is_quiet_now facts) (held_of facts.control)) else []))
-  entry_if_unsent false setup facts = tt
-  entry_if_unsent true setup facts = event_unsent setup.link.handle (facts_entered setup slot facts).event (entry_of slot (is_quiet_now facts) (held_of facts.control))
 
   entry_if_moves : (goes : Bool) (setup : Setup) (facts : Facts)
       → moved_by withheld response slot (said (if goes then event_notes setup.link.handle (facts_entered setup slot facts).event (entry_of slot (is_quiet_now facts) (held_of facts.control)) else [])) (keyed_of facts)
@@ -158,8 +184,22 @@ module _ (side : Side) (number : ℕ) (withheld : Withheld) (response : Response
       let later = notes_from setup now (first_if fixes PduFixed (first_if sends (PacketSent slot) [])) in
       ap (λ xs. moved_by withheld response slot (before_sending xs) (keyed_of facts)) (said_both here later)
       ∙ ap (λ xs. moved_by withheld response slot xs (keyed_of facts))
-      (before_unsent (said here) (said later) (entry_if_unsent (goes_on facts) setup facts) ∙ ap (λ xs. said here ++ xs) (fixed_before setup now fixes sends) ∙ append-nil (said here))
+      (before_unsent (said here) (said later) (entry_if_each (λ line. is_sending line ≡ false) none_sends (goes_on facts) setup facts) ∙ ap (λ xs. said here ++ xs) (fixed_before setup now fixes sends) ∙ append-nil (said here))
       ∙ entry_if_moves (goes_on facts) setup facts
+
+  -- none of them says that a PDU is taken
+  pub begun_takes : (setup : Setup) (facts : Facts) (enters fixes sends : Bool)
+      → NoneTakes (before_sending (said (notes_from setup facts (steps_begun enters fixes sends slot))))
+  begun_takes setup facts false fixes sends = subst NoneTakes (sym (fixed_before setup facts fixes sends)) tt
+  begun_takes setup facts true fixes sends =
+      let now = facts_after setup facts (EventEntered slot) in
+      let here = notes_after setup facts (EventEntered slot) in
+      let later = notes_from setup now (first_if fixes PduFixed (first_if sends (PacketSent slot) [])) in
+      subst NoneTakes
+      (sym (ap before_sending (said_both here later)
+      ∙ before_unsent (said here) (said later) (entry_if_each (λ line. is_sending line ≡ false) none_sends (goes_on facts) setup facts)
+      ∙ ap (λ xs. said here ++ xs) (fixed_before setup now fixes sends) ∙ append-nil (said here)))
+      (entry_if_each (λ line. is_taking line ≡ false) none_takes (goes_on facts) setup facts)
 
   -- ---- the line of a new PDU
 
@@ -182,20 +222,21 @@ module _ (side : Side) (number : ℕ) (withheld : Withheld) (response : Response
       let later = notes_from setup now (first_if fixes PduFixed (first_if sends (PacketSent slot) [])) in
       let sent = fold (facts_after setup) now (first_if fixes PduFixed []) in
       subst (AllByRecursion (IsSaidBy sends sent)) (sym (said_both here later))
-      (all_both (IsSaidBy sends sent) (said here) (said later) (unsent_said sends sent (said here) (entry_if_unsent (goes_on facts) setup facts)) (fixed_said setup now fixes sends))
+      (all_both (IsSaidBy sends sent) (said here) (said later) (unsent_said sends sent (said here) (entry_if_each (λ line. is_sending line ≡ false) none_sends (goes_on facts) setup facts)) (fixed_said setup now fixes sends))
 
 -- a call on the controller of its station
-pub begun_fixes : (side : Side) (number slot : ℕ) (given : Given) (station : ℕ) (call : Call) (history : List Event) (setup : Setup) (facts : Facts)
+pub begun_fixes : (words : Words) (side : Side) (number slot : ℕ) (given : Given) (station : ℕ) (call : Call) (history : List Event) (setup : Setup) (facts : Facts)
     → (enters fixes sends : Bool) → is_octet call ≡ false → lines_of side number (journal_of (after_call given station call history))
     ≡ lines_of side number (journal_of history) ++ map (line_of side number) (notes_from setup facts (steps_begun enters fixes sends slot))
-    → turn_now (journal_of history) ≡ slot → is_fixed side number (journal_of history) ≡ false → keyed_on side number (journal_of history) ≡ Some (keyed_of facts)
-    → control_fixing side number (journal_of (after_call given station call history))
+    → turn_now (journal_of history) ≡ slot → is_fixed words side number (journal_of history) ≡ false → keyed_on words side number (journal_of history) ≡ Some (keyed_of facts)
+    → control_fixing words side number (journal_of (after_call given station call history))
     ≡ Some (keyed_of (fold (facts_after setup) facts (first_if enters (EventEntered slot) [])))
-begun_fixes side number slot given station call history setup facts enters fixes sends in_turn lines turn none was =
+begun_fixes words side number slot given station call history setup facts enters fixes sends in_turn lines turn none was =
     let held = withholds side (journal_of history) in
-    let words = drawn_by side (journal_of history) in
+    let response = words side (journal_of history) in
     let steps = steps_begun enters fixes sends slot in
     let more = map (line_of side number) (notes_from setup facts steps) in
-    call_fixes side number history given station call in_turn more (keyed_of facts) lines (steps_later side number setup facts steps) none was
-    ∙ ap (λ now. Some (moved_by held words now (before_sending more) (keyed_of facts))) turn
-    ∙ ap Some (begun_before side number held words slot setup facts enters fixes sends)
+    call_fixes words side number history given station call in_turn more (keyed_of facts) lines (steps_later side number setup facts steps)
+    (begun_takes side number held response slot setup facts enters fixes sends) none was
+    ∙ ap (λ now. Some (moved_by held response now (before_sending more) (keyed_of facts))) turn
+    ∙ ap Some (begun_before side number held response slot setup facts enters fixes sends)

@@ -7,6 +7,7 @@ use Rattle.ble_base.specs.declared.roles.Side.{Side}
 use Rattle.journal_controls.specs.controller_model.Side.{notes_after}
 use Rattle.journal_controls.specs.controller_model.Step.{Step as Call, HostOctet}
 use Rattle.journal.specs.declared.entries.Entry.TheVariants.{Fed}
+use Rattle.journal_controls.specs.journal_ends.Asked.{Words}
 use Rattle.journal_controls.specs.journal_packets.Belonging.{is_side}
 use Rattle.journal_controls.specs.run_model.History.{Event, Called, HostFed, Noted}
 use Rattle.journal_controls.specs.run_model.Journal.{entry_of, journal_of, side_of}
@@ -22,9 +23,9 @@ or_none : (one other : Bool) → other ≡ false → (one || other) ≡ one
 or_none true other is = refl
 or_none false other is = is
 
-module _ (side : Side) (number : ℕ) where
+module _ (words : Words) (side : Side) (number : ℕ) where
   abbrev fixed_in : List Event → Bool
-  fixed_in history = is_fixed side number (journal_of history)
+  fixed_in history = is_fixed words side number (journal_of history)
 
   note_goes : (own : Side) (link_of : ℕ → ℕ) (last : ℕ) (note : Note) → begins_turn (entry_of own link_of last note) ≡ false
   note_goes own link_of last (Up packet) = refl
@@ -47,12 +48,12 @@ module _ (side : Side) (number : ℕ) where
       → fixed_in (history ++ Noted station note ∷ []) ≡ fixed_in history
   noted_same history station note none =
       let line = entry_of (side_of station) ((links_of history).link_of station) ((links_of history).last_of station) note in
-      ap (is_fixed side number) (journal_event history (Noted station note))
-      ∙ fixed_is side number (journal_of history) line (note_goes (side_of station) ((links_of history).link_of station) ((links_of history).last_of station) note)
+      ap (is_fixed words side number) (journal_event history (Noted station note))
+      ∙ fixed_is words side number (journal_of history) line (note_goes (side_of station) ((links_of history).link_of station) ((links_of history).last_of station) note)
       ∙ or_none (fixed_in history) (is_fixed_from side number line) none
 
   called_same : (history : List Event) (station : ℕ) (call : Call) → fixed_in (history ++ Called station call ∷ []) ≡ fixed_in history
-  called_same history station call = ap (is_fixed side number) (journal_event history (Called station call) ∙ append-nil (journal_of history))
+  called_same history station call = ap (is_fixed words side number) (journal_event history (Called station call) ∙ append-nil (journal_of history))
 
   -- a call in which no new PDU is noted
   unsent_same : (given : Given) (station : ℕ) (call : Call) (history : List Event) → All SendsNone (notes_after (setup_at given station) (facts_at given station history) call)
@@ -85,5 +86,5 @@ module _ (side : Side) (number : ℕ) where
   feed_same given station [] history = refl
   feed_same given station (octet ∷ octets) history =
       octets_same given station (octet ∷ octets) (history ++ HostFed station (octet ∷ octets) ∷ [])
-      ∙ ap (is_fixed side number) (journal_event history (HostFed station (octet ∷ octets)))
-      ∙ fixed_is side number (journal_of history) (Fed (side_of station) (octet ∷ octets)) refl ∙ or_none (fixed_in history) false refl
+      ∙ ap (is_fixed words side number) (journal_event history (HostFed station (octet ∷ octets)))
+      ∙ fixed_is words side number (journal_of history) (Fed (side_of station) (octet ∷ octets)) refl ∙ or_none (fixed_in history) false refl

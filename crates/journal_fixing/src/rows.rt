@@ -19,6 +19,7 @@ ghost use Rattle.journal_fixing.specs.Rows.{end_sent, length_taken, link_ended, 
 ghost use Rattle.journal_fixing.specs.Rows.{message_cut, message_pdu, own_version, terminate_pdu};
 ghost use Rattle.journal_fixing.specs.Rows.{two_waiting, version_begun, version_heard};
 ghost use Rattle.journal_fixing.specs.Rows.{not_quiet};
+ghost use Rattle.journal_controls.specs.journal_ends.Asked.{Words};
 
 /// A central whose exchange of versions begins sends LL_VERSION_IND next. A peripheral cuts its data
 /// at the effective length with which the turn began, though it takes LL_LENGTH_REQ before it
@@ -63,15 +64,15 @@ pub fn worked_md()
 /// that. The answer of a peripheral was fixed, and goes, as it is before it takes the PDU of the
 /// packet that it hears.
 pub fn worked_fixing()
-    ensures fixes { control_fixing B 1 version_sent
+    ensures fixes { (words : Words) → control_fixing words B 1 version_sent
         ≡ Some (keyed_after_all (Enters 2 ∷ []) (begun_on Central)) }
-    ensures later { control_fixing B 1 (version_sent ++ turn_entry 4 ∷ [])
+    ensures later { (words : Words) → control_fixing words B 1 (version_sent ++ turn_entry 4 ∷ [])
         ≡ Some (keyed_after_all (Enters 2 ∷ Sends 3 ∷ []) (begun_on Central)) }
-    ensures fixed { control_fixing A 1 version_heard
+    ensures fixed { (words : Words) → control_fixing words A 1 version_heard
         ≡ Some (keyed_after_all (Enters 2 ∷ []) (begun_on Peripheral)) }
-    ensures goes { control_going A 1 version_heard
+    ensures goes { (words : Words) → control_going words A 1 version_heard
         ≡ Some (keyed_after_all (Enters 2 ∷ []) (begun_on Peripheral)) }
-    ensures taken { keyed_on A 1 version_heard
+    ensures taken { (words : Words) → keyed_on words A 1 version_heard
         ≡ Some (keyed_after_all (Enters 2
         ∷ Takes (read_of version_pdu) 3 (drawn no_response) ∷ [])
         (begun_on Peripheral)) }

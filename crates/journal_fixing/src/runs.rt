@@ -29,6 +29,8 @@ ghost use Rattle.journal_controls.specs.run_model.Links.{links_of};
 ghost use Rattle.journal_controls.specs.run_model.Run.{Given, facts_at, history_of, run_of, step_of};
 ghost use Rattle.journal_fixing.specs.OnLines.{control_fixing, control_going, has_heard};
 ghost use Rattle.journal_fixing.specs.PastFixing.{facts_fixing};
+ghost use Rattle.journal_controls.specs.journal_ends.Asked.{Words};
+ghost use Rattle.journal_controls.specs.journal_ends.GivenWords.{GivesWords};
 
 /// In a run of two stations, with any number of links each and whatever procedures they carry: while
 /// an open end sends or listens, what it was as it fixed its next PDU, with its procedures, its phase
@@ -36,21 +38,21 @@ ghost use Rattle.journal_fixing.specs.PastFixing.{facts_fixing};
 /// which a controller takes what it heard in a phase (Core 5.2, volume 6 part B, sections 4.5.1 and
 /// 4.5.9; when a PDU is fixed is our choice).
 pub fn the_control_part_that_fixed_a_pdu_is_kept_by_the_lines()
-    ensures before_a_packet { (given : Given) (before rest : List Event) (sender channel : ℕ)
+    ensures before_a_packet { (words : Words) (given : Given) (before rest : List Event) (sender channel : ℕ)
         (octets : List ℕ) (hearings : List Hearing) (station handle : ℕ) (link : OpenLink)
-        → given.stations ≡ 0 ∷ 1 ∷ [] → HaveAddresses given → Contains given.stations station
+        → given.stations ≡ 0 ∷ 1 ∷ [] → HaveAddresses given → GivesWords given words → Contains given.stations station
         → history_of (run_of given) ≡ before ++ Transmitted sender channel octets hearings ∷ rest
         → link_at handle (facts_at given station before).links ≡ Some link
         → uses_under handle (facts_at given station before).turn.doing ≡ true
-        → control_fixing (side_of station) ((links_of before).link_of station handle)
+        → control_fixing words (side_of station) ((links_of before).link_of station handle)
         (journal_of before) ≡ Some (keyed_of (facts_fixing link.setup link.past)) }
-    ensures before_a_phase { (given : Given) (before rest : List Event) (called : ℕ)
+    ensures before_a_phase { (words : Words) (given : Given) (before rest : List Event) (called : ℕ)
         (received : Option (List ℕ)) (station handle : ℕ) (link : OpenLink)
-        → given.stations ≡ 0 ∷ 1 ∷ [] → HaveAddresses given → Contains given.stations station
+        → given.stations ≡ 0 ∷ 1 ∷ [] → HaveAddresses given → GivesWords given words → Contains given.stations station
         → history_of (run_of given) ≡ before ++ Called called (step_of received) ∷ rest
         → link_at handle (facts_at given station before).links ≡ Some link
         → uses_under handle (facts_at given station before).turn.doing ≡ true
-        → control_fixing (side_of station) ((links_of before).link_of station handle)
+        → control_fixing words (side_of station) ((links_of before).link_of station handle)
         (journal_of before) ≡ Some (keyed_of (facts_fixing link.setup link.past)) }
 {
     journal_controls::a_pdu_is_understood();
@@ -65,25 +67,25 @@ pub fn the_control_part_that_fixed_a_pdu_is_kept_by_the_lines()
 /// controller begins a turn no end heard anything yet (Core 5.2, volume 6 part B, section 4.5.9; the
 /// order is our choice).
 pub fn the_control_part_with_which_a_pdu_goes_is_kept_by_the_lines()
-    ensures heard { (given : Given) (before rest : List Event) (octets pdu : List ℕ)
+    ensures heard { (words : Words) (given : Given) (before rest : List Event) (octets pdu : List ℕ)
         (notes : List Note) (station handle : ℕ) (link : OpenLink)
-        → given.stations ≡ 0 ∷ 1 ∷ [] → HaveAddresses given → Contains given.stations station
+        → given.stations ≡ 0 ∷ 1 ∷ [] → HaveAddresses given → GivesWords given words → Contains given.stations station
         → history_of (run_of given) ≡ before
         ++ Called station (PacketHeard octets) ∷ (map (Noted station) notes ++ rest)
         → link_at handle (facts_at given station before).links ≡ Some link
         → listens_under handle (facts_at given station before).turn.doing ≡ true
         → good_pdu link.setup (facts_in link) octets ≡ Some pdu
-        → control_going (side_of station) ((links_of before).link_of station handle)
+        → control_going words (side_of station) ((links_of before).link_of station handle)
         (journal_of (before ++ Called station (PacketHeard octets) ∷ map (Noted station) notes))
         ≡ Some (keyed_acked_if
         (acks_control (has_acknowledged (facts_in link) (header_in pdu)) (facts_in link))
         (keyed_of (facts_in link))) }
-    ensures begins { (given : Given) (before rest : List Event) (slot : ℕ) (on : Bool)
+    ensures begins { (words : Words) (given : Given) (before rest : List Event) (slot : ℕ) (on : Bool)
         (notes : List Note) (station number : ℕ) (side : Side)
-        → given.stations ≡ 0 ∷ 1 ∷ [] → HaveAddresses given
+        → given.stations ≡ 0 ∷ 1 ∷ [] → HaveAddresses given → GivesWords given words
         → history_of (run_of given) ≡ before
         ++ Called station (TurnBegins slot on) ∷ (map (Noted station) notes ++ rest)
-        → has_heard side number
+        → has_heard words side number
         (journal_of (before ++ Called station (TurnBegins slot on) ∷ map (Noted station) notes))
         ≡ false }
 {

@@ -21,6 +21,8 @@ ghost use Rattle.journal_controls.specs.run_model.Run.{setup_at};
 ghost use Rattle.journal_fixing.specs.NextPdu.{pdu_next};
 ghost use Rattle.journal_fixing.specs.OnLines.{control_fixing, control_going};
 ghost use Rattle.journal_fixing.specs.PastFixing.{facts_fixing};
+ghost use Rattle.journal_controls.specs.journal_ends.Asked.{Words};
+ghost use Rattle.journal_controls.specs.journal_ends.GivenWords.{GivesWords};
 
 /// In a run of two stations, with any number of links each and whatever procedures they carry: as a
 /// controller begins a turn, the line of a new PDU of a link comes where the lines before it have the
@@ -28,34 +30,34 @@ ghost use Rattle.journal_fixing.specs.PastFixing.{facts_fixing};
 /// is next by that end, and by its data then (Core 5.2, volume 6 part B, sections 4.5.6 and 4.5.9;
 /// when a PDU is fixed is our choice).
 pub fn a_turn_begins_with_the_line_of_the_pdu_that_the_lines_fix()
-    ensures fixing { (given : Given) (before rest : List Event)
+    ensures fixing { (words : Words) (given : Given) (before rest : List Event)
         (station slot handle count llid : ℕ) (on : Bool) (body : List ℕ) (earlier later : List Note)
         (link : OpenLink)
-        → given.stations ≡ 0 ∷ 1 ∷ [] → HaveAddresses given → Contains given.stations station
+        → given.stations ≡ 0 ∷ 1 ∷ [] → HaveAddresses given → GivesWords given words → Contains given.stations station
         → history_of (run_of given) ≡ before ++ Called station (TurnBegins slot on) ∷ rest
         → notes_after (setup_at given station) (facts_at given station before)
         (TurnBegins slot on)
         ≡ earlier ++ Sent handle count llid (record { items = body }) ∷ later
         → let now = before ++ Called station (TurnBegins slot on) ∷ map (Noted station) earlier in
         link_at handle (facts_at given station now).links ≡ Some link
-        → control_fixing (side_of station) ((links_of now).link_of station handle)
+        → control_fixing words (side_of station) ((links_of now).link_of station handle)
         (journal_of now) ≡ Some (keyed_of (facts_fixing link.setup link.past)) }
-    ensures going { (given : Given) (before rest : List Event)
+    ensures going { (words : Words) (given : Given) (before rest : List Event)
         (station slot handle count llid : ℕ) (on : Bool) (body : List ℕ) (earlier later : List Note)
         (link : OpenLink)
-        → given.stations ≡ 0 ∷ 1 ∷ [] → HaveAddresses given → Contains given.stations station
+        → given.stations ≡ 0 ∷ 1 ∷ [] → HaveAddresses given → GivesWords given words → Contains given.stations station
         → history_of (run_of given) ≡ before ++ Called station (TurnBegins slot on) ∷ rest
         → notes_after (setup_at given station) (facts_at given station before)
         (TurnBegins slot on)
         ≡ earlier ++ Sent handle count llid (record { items = body }) ∷ later
         → let now = before ++ Called station (TurnBegins slot on) ∷ map (Noted station) earlier in
         link_at handle (facts_at given station now).links ≡ Some link
-        → control_going (side_of station) ((links_of now).link_of station handle)
+        → control_going words (side_of station) ((links_of now).link_of station handle)
         (journal_of now) ≡ Some (keyed_of (facts_fixing link.setup link.past)) }
-    ensures pdu { (given : Given) (before rest : List Event)
+    ensures pdu { (words : Words) (given : Given) (before rest : List Event)
         (station slot handle count llid : ℕ) (on : Bool) (body : List ℕ) (earlier later : List Note)
         (link : OpenLink) (fixing going : Keyed)
-        → given.stations ≡ 0 ∷ 1 ∷ [] → HaveAddresses given → Contains given.stations station
+        → given.stations ≡ 0 ∷ 1 ∷ [] → HaveAddresses given → GivesWords given words → Contains given.stations station
         → history_of (run_of given) ≡ before ++ Called station (TurnBegins slot on) ∷ rest
         → notes_after (setup_at given station) (facts_at given station before)
         (TurnBegins slot on)
@@ -64,8 +66,8 @@ pub fn a_turn_begins_with_the_line_of_the_pdu_that_the_lines_fix()
         let number = (links_of now).link_of station handle in
         let said : Pdu = record { llid = llid; body = body } in
         link_at handle (facts_at given station now).links ≡ Some link
-        → control_fixing (side_of station) number (journal_of now) ≡ Some fixing
-        → control_going (side_of station) number (journal_of now) ≡ Some going
+        → control_fixing words (side_of station) number (journal_of now) ≡ Some fixing
+        → control_going words (side_of station) number (journal_of now) ≡ Some going
         → said ≡ pdu_next fixing going
         (next_piece (data_cut (facts_fixing link.setup link.past))) }
 {
@@ -80,10 +82,10 @@ pub fn a_turn_begins_with_the_line_of_the_pdu_that_the_lines_fix()
 /// PDU that is next by the ends of the lines, and by the data of the end as it fixed that PDU (Core
 /// 5.2, volume 6 part B, sections 4.5.6 and 4.5.9; when a PDU is fixed is our choice).
 pub fn a_peripheral_answers_with_the_line_of_the_pdu_that_the_lines_fix()
-    ensures fixing { (given : Given) (before rest : List Event) (octets : List ℕ)
+    ensures fixing { (words : Words) (given : Given) (before rest : List Event) (octets : List ℕ)
         (station handle count llid : ℕ) (body : List ℕ) (earlier later : List Note)
         (link : OpenLink)
-        → given.stations ≡ 0 ∷ 1 ∷ [] → HaveAddresses given → Contains given.stations station
+        → given.stations ≡ 0 ∷ 1 ∷ [] → HaveAddresses given → GivesWords given words → Contains given.stations station
         → history_of (run_of given) ≡ before
         ++ Called station (PacketHeard octets) ∷ (map (Noted station) earlier ++ rest)
         → notes_after (setup_at given station) (facts_at given station before)
@@ -91,12 +93,12 @@ pub fn a_peripheral_answers_with_the_line_of_the_pdu_that_the_lines_fix()
         ≡ earlier ++ Sent handle count llid (record { items = body }) ∷ later
         → link_at handle (facts_at given station before).links ≡ Some link
         → let now = before ++ Called station (PacketHeard octets) ∷ map (Noted station) earlier in
-        control_fixing (side_of station) ((links_of now).link_of station handle)
+        control_fixing words (side_of station) ((links_of now).link_of station handle)
         (journal_of now) ≡ Some (keyed_of (facts_fixing link.setup link.past)) }
-    ensures pdu { (given : Given) (before rest : List Event) (octets : List ℕ)
+    ensures pdu { (words : Words) (given : Given) (before rest : List Event) (octets : List ℕ)
         (station handle count llid : ℕ) (body : List ℕ) (earlier later : List Note)
         (link : OpenLink) (fixing going : Keyed)
-        → given.stations ≡ 0 ∷ 1 ∷ [] → HaveAddresses given → Contains given.stations station
+        → given.stations ≡ 0 ∷ 1 ∷ [] → HaveAddresses given → GivesWords given words → Contains given.stations station
         → history_of (run_of given) ≡ before
         ++ Called station (PacketHeard octets) ∷ (map (Noted station) earlier ++ rest)
         → notes_after (setup_at given station) (facts_at given station before)
@@ -106,8 +108,8 @@ pub fn a_peripheral_answers_with_the_line_of_the_pdu_that_the_lines_fix()
         → let now = before ++ Called station (PacketHeard octets) ∷ map (Noted station) earlier in
         let number = (links_of now).link_of station handle in
         let said : Pdu = record { llid = llid; body = body } in
-        control_fixing (side_of station) number (journal_of now) ≡ Some fixing
-        → control_going (side_of station) number (journal_of now) ≡ Some going
+        control_fixing words (side_of station) number (journal_of now) ≡ Some fixing
+        → control_going words (side_of station) number (journal_of now) ≡ Some going
         → said ≡ pdu_next fixing going
         (next_piece (data_cut (facts_fixing link.setup link.past))) }
 {

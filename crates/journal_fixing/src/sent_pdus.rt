@@ -26,6 +26,8 @@ ghost use Rattle.journal_fixing.specs.NextPdu.{data_waits, data_waits_after, mor
 ghost use Rattle.journal_fixing.specs.NextPdu.{more_with_old, pdu_next};
 ghost use Rattle.journal_fixing.specs.OnLines.{control_fixing, control_going};
 ghost use Rattle.journal_fixing.specs.PastFixing.{facts_fixing};
+ghost use Rattle.journal_controls.specs.journal_ends.Asked.{Words};
+ghost use Rattle.journal_controls.specs.journal_ends.GivenWords.{GivesWords};
 
 /// In a run of two stations, with any number of links each and whatever procedures they carry: as a
 /// peripheral takes a good packet that leaves all its PDUs acknowledged, the PDU with which it
@@ -34,10 +36,10 @@ ghost use Rattle.journal_fixing.specs.PastFixing.{facts_fixing};
 /// now is not empty. So it is at each line of that call, also before the line of the new PDU (Core
 /// 5.2, volume 6 part B, sections 4.5.6 and 4.5.9; when a PDU is fixed is our choice).
 pub fn a_peripheral_answers_with_the_pdu_that_the_lines_fix()
-    ensures pdu { (given : Given) (before rest : List Event) (octets pdu : List ℕ)
+    ensures pdu { (words : Words) (given : Given) (before rest : List Event) (octets pdu : List ℕ)
         (notes : List Note) (station handle : ℕ) (link : OpenLink) (fixing going : Keyed)
         (slot : ℕ) (room : Bool)
-        → given.stations ≡ 0 ∷ 1 ∷ [] → HaveAddresses given → Contains given.stations station
+        → given.stations ≡ 0 ∷ 1 ∷ [] → HaveAddresses given → GivesWords given words → Contains given.stations station
         → history_of (run_of given) ≡ before
         ++ Called station (PacketHeard octets) ∷ (map (Noted station) notes ++ rest)
         → link_at handle (facts_at given station before).links ≡ Some link
@@ -48,15 +50,15 @@ pub fn a_peripheral_answers_with_the_pdu_that_the_lines_fix()
         (before ++ Called station (PacketHeard octets) ∷ map (Noted station) notes) in
         let number = (links_of before).link_of station handle in
         let heard = facts_after link.setup (facts_in link) (PacketReceived slot octets room) in
-        control_fixing (side_of station) number lines ≡ Some fixing
-        → control_going (side_of station) number lines ≡ Some going
+        control_fixing words (side_of station) number lines ≡ Some fixing
+        → control_going words (side_of station) number lines ≡ Some going
         → is_acked heard.acknowledgement ≡ true
         → pdu_sent heard ≡ pdu_next fixing going
         (next_piece (data_cut (facts_fixing link.setup link.past))) }
-    ensures more { (given : Given) (before rest : List Event) (octets pdu : List ℕ)
+    ensures more { (words : Words) (given : Given) (before rest : List Event) (octets pdu : List ℕ)
         (notes : List Note) (station handle : ℕ) (link : OpenLink) (fixing : Keyed)
         (slot : ℕ) (room : Bool)
-        → given.stations ≡ 0 ∷ 1 ∷ [] → HaveAddresses given → Contains given.stations station
+        → given.stations ≡ 0 ∷ 1 ∷ [] → HaveAddresses given → GivesWords given words → Contains given.stations station
         → history_of (run_of given) ≡ before
         ++ Called station (PacketHeard octets) ∷ (map (Noted station) notes ++ rest)
         → link_at handle (facts_at given station before).links ≡ Some link
@@ -67,14 +69,14 @@ pub fn a_peripheral_answers_with_the_pdu_that_the_lines_fix()
         (before ++ Called station (PacketHeard octets) ∷ map (Noted station) notes) in
         let number = (links_of before).link_of station handle in
         let heard = facts_after link.setup (facts_in link) (PacketReceived slot octets room) in
-        control_fixing (side_of station) number lines ≡ Some fixing
+        control_fixing words (side_of station) number lines ≡ Some fixing
         → is_acked heard.acknowledgement ≡ true
         → more_sent heard ≡ more_with_new fixing
         (data_waits_after (pdu_sent heard) (data_cut (facts_fixing link.setup link.past))) }
-    ensures again { (given : Given) (before rest : List Event) (octets pdu : List ℕ)
+    ensures again { (words : Words) (given : Given) (before rest : List Event) (octets pdu : List ℕ)
         (notes : List Note) (station handle : ℕ) (link : OpenLink) (fixing : Keyed)
         (slot : ℕ) (room : Bool)
-        → given.stations ≡ 0 ∷ 1 ∷ [] → HaveAddresses given → Contains given.stations station
+        → given.stations ≡ 0 ∷ 1 ∷ [] → HaveAddresses given → GivesWords given words → Contains given.stations station
         → history_of (run_of given) ≡ before
         ++ Called station (PacketHeard octets) ∷ (map (Noted station) notes ++ rest)
         → link_at handle (facts_at given station before).links ≡ Some link
@@ -86,7 +88,7 @@ pub fn a_peripheral_answers_with_the_pdu_that_the_lines_fix()
         let number = (links_of before).link_of station handle in
         let outgoing = data_cut (facts_fixing link.setup link.past) in
         let heard = facts_after link.setup (facts_in link) (PacketReceived slot octets room) in
-        control_fixing (side_of station) number lines ≡ Some fixing
+        control_fixing words (side_of station) number lines ≡ Some fixing
         → is_acked heard.acknowledgement ≡ false
         → more_sent heard ≡ more_with_old fixing (keyed_of heard) (data_waits outgoing) }
 {
@@ -102,43 +104,43 @@ pub fn a_peripheral_answers_with_the_pdu_that_the_lines_fix()
 /// says whether the fixed one is not empty (Core 5.2, volume 6 part B, sections 4.5.6 and 4.5.9;
 /// when a PDU is fixed is our choice).
 pub fn a_central_sends_the_pdu_that_the_lines_fix()
-    ensures pdu { (given : Given) (before rest : List Event) (sender channel : ℕ)
+    ensures pdu { (words : Words) (given : Given) (before rest : List Event) (sender channel : ℕ)
         (octets : List ℕ) (hearings : List Hearing) (station handle : ℕ) (link : OpenLink)
         (fixing : Keyed)
-        → given.stations ≡ 0 ∷ 1 ∷ [] → HaveAddresses given → Contains given.stations station
+        → given.stations ≡ 0 ∷ 1 ∷ [] → HaveAddresses given → GivesWords given words → Contains given.stations station
         → history_of (run_of given) ≡ before ++ Transmitted sender channel octets hearings ∷ rest
         → link_at handle (facts_at given station before).links ≡ Some link
         → sends_under handle (facts_at given station before).turn.doing ≡ true
         → link.setup.link.role ≡ Role.Central
-        → control_fixing (side_of station) ((links_of before).link_of station handle)
+        → control_fixing words (side_of station) ((links_of before).link_of station handle)
         (journal_of before) ≡ Some fixing
         → let sent = facts_after link.setup (facts_fixing link.setup link.past) PduFixed in
         is_acked sent.acknowledgement ≡ true
         → pdu_sent sent ≡ pdu_next fixing fixing
         (next_piece (data_cut (facts_fixing link.setup link.past))) }
-    ensures more { (given : Given) (before rest : List Event) (sender channel : ℕ)
+    ensures more { (words : Words) (given : Given) (before rest : List Event) (sender channel : ℕ)
         (octets : List ℕ) (hearings : List Hearing) (station handle : ℕ) (link : OpenLink)
         (fixing : Keyed)
-        → given.stations ≡ 0 ∷ 1 ∷ [] → HaveAddresses given → Contains given.stations station
+        → given.stations ≡ 0 ∷ 1 ∷ [] → HaveAddresses given → GivesWords given words → Contains given.stations station
         → history_of (run_of given) ≡ before ++ Transmitted sender channel octets hearings ∷ rest
         → link_at handle (facts_at given station before).links ≡ Some link
         → sends_under handle (facts_at given station before).turn.doing ≡ true
         → link.setup.link.role ≡ Role.Central
-        → control_fixing (side_of station) ((links_of before).link_of station handle)
+        → control_fixing words (side_of station) ((links_of before).link_of station handle)
         (journal_of before) ≡ Some fixing
         → let sent = facts_after link.setup (facts_fixing link.setup link.past) PduFixed in
         is_acked sent.acknowledgement ≡ true
         → more_sent sent ≡ more_with_new fixing
         (data_waits_after (pdu_sent sent) (data_cut (facts_fixing link.setup link.past))) }
-    ensures again { (given : Given) (before rest : List Event) (sender channel : ℕ)
+    ensures again { (words : Words) (given : Given) (before rest : List Event) (sender channel : ℕ)
         (octets : List ℕ) (hearings : List Hearing) (station handle : ℕ) (link : OpenLink)
         (fixing : Keyed)
-        → given.stations ≡ 0 ∷ 1 ∷ [] → HaveAddresses given → Contains given.stations station
+        → given.stations ≡ 0 ∷ 1 ∷ [] → HaveAddresses given → GivesWords given words → Contains given.stations station
         → history_of (run_of given) ≡ before ++ Transmitted sender channel octets hearings ∷ rest
         → link_at handle (facts_at given station before).links ≡ Some link
         → sends_under handle (facts_at given station before).turn.doing ≡ true
         → link.setup.link.role ≡ Role.Central
-        → control_fixing (side_of station) ((links_of before).link_of station handle)
+        → control_fixing words (side_of station) ((links_of before).link_of station handle)
         (journal_of before) ≡ Some fixing
         → let outgoing = data_cut (facts_fixing link.setup link.past) in
         let sent = facts_after link.setup (facts_fixing link.setup link.past) PduFixed in

@@ -19,6 +19,8 @@ ghost use Rattle.journal_fixing.specs.NextPdu.{data_waits, data_waits_after, mor
 ghost use Rattle.journal_fixing.specs.NextPdu.{more_with_old};
 ghost use Rattle.journal_fixing.specs.OnLines.{control_fixing};
 ghost use Rattle.journal_fixing.specs.PastFixing.{facts_fixing};
+ghost use Rattle.journal_controls.specs.journal_ends.Asked.{Words};
+ghost use Rattle.journal_controls.specs.journal_ends.GivenWords.{GivesWords};
 
 /// In a run of two stations, with any number of links each and whatever procedures they carry: each
 /// packet off the advertising channels is of a link that its sender has open. Its octets carry the
@@ -44,26 +46,26 @@ pub fn each_packet_carries_the_pdu_and_md_of_its_end()
 /// the end of the lines before the packet (Core 5.2, volume 6 part B, sections 4.5.6 and
 /// 4.5.9; when a PDU is fixed is our choice).
 pub fn each_packet_tells_what_waits_by_the_lines()
-    ensures new { (given : Given) (before rest : List Event) (station channel : ℕ)
+    ensures new { (words : Words) (given : Given) (before rest : List Event) (station channel : ℕ)
         (octets : List ℕ) (hearings : List Hearing)
         (sent : IsOfSendersLink given before station channel octets) (fixing : Keyed)
-        → given.stations ≡ 0 ∷ 1 ∷ [] → HaveAddresses given → Contains given.stations station
+        → given.stations ≡ 0 ∷ 1 ∷ [] → HaveAddresses given → GivesWords given words → Contains given.stations station
         → history_of (run_of given) ≡ before ++ Transmitted station channel octets hearings ∷ rest
-        → control_fixing (side_of station) ((links_of before).link_of station sent.handle)
+        → control_fixing words (side_of station) ((links_of before).link_of station sent.handle)
         (journal_of before) ≡ Some fixing
         → let facts = facts_in sent.link in
         is_acked facts.acknowledgement ≡ true
         → more_sent facts ≡ more_with_new fixing (data_waits_after (pdu_sent facts)
         (data_cut (facts_fixing sent.link.setup sent.link.past))) }
-    ensures again { (given : Given) (before rest : List Event) (station channel : ℕ)
+    ensures again { (words : Words) (given : Given) (before rest : List Event) (station channel : ℕ)
         (octets : List ℕ) (hearings : List Hearing)
         (sent : IsOfSendersLink given before station channel octets) (fixing now : Keyed)
-        → given.stations ≡ 0 ∷ 1 ∷ [] → HaveAddresses given → Contains given.stations station
+        → given.stations ≡ 0 ∷ 1 ∷ [] → HaveAddresses given → GivesWords given words → Contains given.stations station
         → history_of (run_of given) ≡ before ++ Transmitted station channel octets hearings ∷ rest
         → let number = (links_of before).link_of station sent.handle in
         let facts = facts_in sent.link in
-        control_fixing (side_of station) number (journal_of before) ≡ Some fixing
-        → keyed_on (side_of station) number (journal_of before) ≡ Some now
+        control_fixing words (side_of station) number (journal_of before) ≡ Some fixing
+        → keyed_on words (side_of station) number (journal_of before) ≡ Some now
         → is_acked facts.acknowledgement ≡ false
         → more_sent facts ≡ more_with_old fixing now
         (data_waits (data_cut (facts_fixing sent.link.setup sent.link.past))) }

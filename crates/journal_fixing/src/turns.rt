@@ -18,6 +18,7 @@ ghost use Rattle.journal_controls.specs.run_model.History.{Event};
 ghost use Rattle.journal_controls.specs.run_model.Journal.{journal_of};
 ghost use Rattle.journal_controls.specs.run_model.Run.{Given, after_call};
 ghost use Rattle.journal_fixing.specs.OnLines.{before_sending, control_fixing, is_fixed};
+ghost use Rattle.journal_controls.specs.journal_ends.Asked.{Words};
 
 /// As a turn begins, an end may enter an event, fix its next PDU, and send as a central: whichever
 /// of these it does, the lines that it says before that of a new PDU move it to the end that it is
@@ -34,16 +35,16 @@ pub fn the_lines_before_a_new_pdu_move_the_control_part_that_fixes_it()
 /// by its lines is what it holds, a call that begins the turn of the end leaves in the lines the end
 /// as it fixed its next PDU.
 pub fn a_call_that_begins_a_turn_keeps_the_control_part_that_fixes()
-    ensures { (given : Given) (side : Side) (number station slot : ℕ) (call : Call)
+    ensures { (words : Words) (given : Given) (side : Side) (number station slot : ℕ) (call : Call)
         (history : List Event) (setup : Setup) (past : List Step) (enters fixes sends : Bool)
         → let facts = facts_of setup past in is_octet call ≡ false
         → lines_of side number (journal_of (after_call given station call history))
         ≡ lines_of side number (journal_of history) ++ map (line_of side number)
         (notes_from setup facts (steps_begun enters fixes sends slot))
         → turn_now (journal_of history) ≡ slot
-        → is_fixed side number (journal_of history) ≡ false
-        → keyed_on side number (journal_of history) ≡ Some (keyed_of facts)
-        → control_fixing side number (journal_of (after_call given station call history))
+        → is_fixed words side number (journal_of history) ≡ false
+        → keyed_on words side number (journal_of history) ≡ Some (keyed_of facts)
+        → control_fixing words side number (journal_of (after_call given station call history))
         ≡ Some (keyed_of (fold (facts_after setup) facts
         (first_if enters (EventEntered slot) []))) }
 {}

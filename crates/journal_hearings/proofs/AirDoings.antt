@@ -30,6 +30,7 @@ use Rattle.journal_data.proofs.controller_model.Always.{MayBegin, left_doing}
 use Rattle.journal_data.proofs.controller_model.DataChannels.{link_channel}
 use Rattle.journal_data.proofs.controller_model.Phases.{EachOutcome, heard_is, unheard_is}
 use Rattle.journal_data.specs.run_model.Run.{step_of}
+use Rattle.journal_data.proofs.run_model.Handing.{IsUnforged, initiator_unforged, request_unforged, scanner_unforged}
 use Rattle.journal_data.proofs.run_laws.TurnPlaces.{Between, IsTurned, Stage, Within, at_stage, standing, turned}
 
 -- ---- in which phase
@@ -219,6 +220,13 @@ IsAnswered (Scans on) channel octets = on ≡ channel
 IsAnswered (Initiates on) channel octets = on ≡ channel
 IsAnswered (AwaitsRequest on) channel octets = (on ≡ channel) × (is_scan_request (pdu_heard on octets) ≡ true)
 IsAnswered other channel octets = ⊥
+
+-- it listens on an advertising channel, where nothing is forged
+pub answered_unforged : (facts : Facts) (doing : Doing) (channel : ℕ) (octets : List ℕ) → facts.turn.doing ≡ doing → IsAnswered doing channel octets → IsUnforged facts octets
+answered_unforged facts (Scans on) channel octets does answers = scanner_unforged facts on octets does
+answered_unforged facts (Initiates on) channel octets does answers = initiator_unforged facts on octets does
+answered_unforged facts (AwaitsRequest on) channel octets does answers = request_unforged facts on octets does
+answered_unforged facts other channel octets does answers = absurd answers
 
 none_asks : (doing : Doing) (channel : ℕ) (X : Type 0) → asks_on doing ≡ None → asks_on doing ≡ Some channel → X
 none_asks doing channel X none asks = absurd (let h : None ≡ Some channel = sym none ∙ asks in cc)

@@ -159,7 +159,7 @@ module _ (understood : IsUnderstood) (given : Given) (pair : IsOfTwo given) (six
         → history_of (run_of given) ≡ before ++ Transmitted sender channel octets hearings ∷ rest → IsWellKnown given before (other_of sender)
     well_known_at before rest sender channel octets hearings at =
         seen_packet given (IsDataAt given Q) (data_kept whole given Q known pair few_links six distinct eight) (λ history. ⊤) AreWellKnown
-        (record { turn = λ history is. tt; packet = well_known }) (first_data given).is before rest sender channel octets hearings at
+        (record { turn = λ history is. tt; packet = well_known }) (first_data given) before rest sender channel octets hearings at
 
     -- ---- a CONNECT_IND
 

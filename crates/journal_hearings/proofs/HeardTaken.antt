@@ -19,7 +19,8 @@ use Rattle.journal_data.specs.run_model.LinkEnds.{HaveAddresses}
 use Rattle.journal_data.specs.run_model.Links.{Links, begins_link, links_after, links_of, with_link}
 use Rattle.journal_data.specs.run_model.Run.{Given, after_call, after_feed, facts_at, hearings_of, octets_left, setup_at, step_of, unseen_in, use_at}
 use Rattle.journal_data.proofs.run_model.Fronts.{More, feed_more}
-use Rattle.journal_data.proofs.run_model.LinkEnds.{is_listener, received_by, received_packet}
+use Rattle.journal_data.proofs.run_model.Handing.{IsHanded, WasForged, WasNot, WasReceived}
+use Rattle.journal_data.proofs.run_model.LinkEnds.{is_listener, packet_handed, received_by, received_good}
 use Rattle.journal_data.proofs.run_model.LinksKnown.{last_by_call, links_event}
 use Rattle.journal_data.proofs.run_model.Parts.{journal_more}
 use Rattle.journal_data.proofs.run_model.Places.{each_event}
@@ -29,6 +30,7 @@ use Rattle.journal_data.proofs.run_laws.ByCalls.{first_hears}
 use Rattle.journal_data.proofs.run_laws.Hearings.{AreHearing, hearing_kept, other_facts, sends_deaf}
 use Rattle.journal_data.proofs.run_laws.InAgreement.{differs_back}
 use Rattle.journal_data.proofs.run_laws.TurnPlaces.{event_past, stands_first}
+use Rattle.journal_data.proofs.journal_links.OfTwo.{are_distinct}
 use Rattle.journal_data.proofs.journal_packets.EachEvent.{each_call, each_feed}
 use Rattle.journal_data.proofs.journal_acks.TwoStations.{IsOfTwo, other_is, other_of, same_number, side_same}
 use Rattle.journal_hearings.specs.Openings.{is_taken_by, takes}
@@ -193,7 +195,7 @@ module _ (given : Given) (pair : IsOfTwo given) where
 
     new_opens : Opens given after history event
     new_opens = λ will. inr (record {
-      heard = received_packet given fates (other_of sender) sender channel octets history seen ∙ ap (λ b. if b then Some octets else packet_received (other_of sender) history) will.received;
+      heard = received_good given fates sender channel octets history (other_of sender) (are_distinct given pair) seen will.received;
       same = ap (facts_of (setup_at given (other_of sender))) (event_past (other_of sender) history event refl);
       number = ap (λ (links : Links). links.last_of (other_of sender))
           (links_event history event ∙ ap (λ b. if b then with_link sender hearings (links_of history) else links_of history) will.begins)
@@ -202,17 +204,19 @@ module _ (given : Given) (pair : IsOfTwo given) where
     })
 
     packet_sent_by : SentBy given (AtPackets phases (done ++ sender ∷ []) left) after
-    packet_sent_by = λ station heard in_it is. by station heard in_it is (has_received station hearings) refl
+    packet_sent_by = λ station heard in_it is. by station heard in_it is (packet_handed given fates sender channel octets history station seen)
       where
-        by : (station : ℕ) (heard : List ℕ) → is_in station given.stations ≡ true → packet_received station after ≡ Some heard → (received : Bool)
-            → has_received station hearings ≡ received → is_in (other_of station) (done ++ sender ∷ []) ≡ true
-        by station heard in_it is true received =
-            let listener = is_listener given fates channel octets history sender station received in
-            let other = other_is given pair station sender in_it sender_in (differs_back station sender listener.differs) in
+        heard_other : (station : ℕ) → is_in station given.stations ≡ true → (station == sender) ≡ false → is_in (other_of station) (done ++ sender ∷ []) ≡ true
+        heard_other station in_it differs =
+            let other = other_is given pair station sender in_it sender_in (differs_back station sender differs) in
             in_more_same (other_of station) sender done (ap (λ n. n == sender) (sym other) ∙ same_number sender)
-        by station heard in_it is false received =
-            in_more (other_of station) sender done (opening.sent station heard in_it
-            (sym (received_packet given fates station sender channel octets history seen ∙ ap (λ b. if b then Some octets else packet_received station history) received) ∙ is))
+
+        by : (station : ℕ) (heard : List ℕ) → is_in station given.stations ≡ true → packet_received station after ≡ Some heard
+            → IsHanded (has_received station hearings) octets (packet_received station history) (packet_received station after) (facts_at given station history)
+            (use_at given station history) channel (station == sender) → is_in (other_of station) (done ++ sender ∷ []) ≡ true
+        by station heard in_it is (WasReceived received as_sent) = heard_other station in_it (is_listener given fates channel octets history sender station received).differs
+        by station heard in_it is (WasForged left as_left forged listens differs) = heard_other station in_it differs
+        by station heard in_it is (WasNot received as_before) = in_more (other_of station) sender done (opening.sent station heard in_it (sym as_before ∙ is))
 
     packet_opens : Each (Opens given after) [] after
     packet_opens = event_opens given history event heard_none new_opens opening.each

@@ -10,19 +10,19 @@ use Rattle.journal_data.specs.controller_model.Packets.{use_of}
 use Rattle.journal_data.specs.controller_model.Side.{facts_of}
 use Rattle.journal_data.specs.run_model.Due.{IsDue}
 use Rattle.journal_data.specs.run_model.Feeding.{AreDistinct}
-use Rattle.journal_data.specs.run_model.History.{Event, TurnBegan, HostFed, Called, Noted, Transmitted, Hearing, handed_or, has_received, one_if, packet_received, past_of, received_after, steps_in, turns_begun, turns_in}
+use Rattle.journal_data.specs.run_model.History.{Event, TurnBegan, HostFed, Called, Noted, Transmitted, Hearing, has_received, one_if, packet_received, past_of, received_after, steps_in, turns_begun, turns_in}
 use Rattle.journal_data.specs.run_model.LinkEnds.{HaveAddresses}
 use Rattle.journal_data.specs.run_model.Links.{Links, begins_link, links_after, links_noted, links_of, with_link}
-use Rattle.journal_data.specs.run_model.Run.{Given, history_of, run_of, setup_at, unseen_in, use_at}
+use Rattle.journal_data.specs.run_model.Run.{Given, facts_at, history_of, run_of, setup_at, unseen_in, use_at}
 use Rattle.journal_data.proofs.run_model.Calls.{flat_nothing, turns_same}
 use Rattle.journal_data.proofs.run_model.Dues.{run_due}
-use Rattle.journal_data.proofs.run_model.Handed.{handed_received}
-use Rattle.journal_data.proofs.run_model.LinkEnds.{is_listener, received_event}
+use Rattle.journal_data.proofs.run_model.Handing.{IsHanded, IsUnforged, WasForged, WasNot, WasReceived}
+use Rattle.journal_data.proofs.run_model.LinkEnds.{is_listener, packet_handed, received_event}
 use Rattle.journal_data.proofs.run_model.LinksKnown.{links_event}
 use Rattle.journal_data.proofs.run_model.Places.{each_at}
 use Rattle.journal_data.proofs.run_model.Stations.{is_in}
 use Rattle.journal_data.proofs.run_laws.ByCalls.{first_hears}
-use Rattle.journal_data.proofs.run_laws.Hearings.{AreHearing, hearing_kept}
+use Rattle.journal_data.proofs.run_laws.Hearings.{AreHearing, hearing_kept, unforged_same}
 use Rattle.journal_data.proofs.run_laws.TurnPlaces.{stands_first}
 use Rattle.journal_data.proofs.journal_acks.Seen.{IsSeen, seen_turn}
 
@@ -43,7 +43,7 @@ pub record IsHeardLast (given : Given) (history : List Event) (station : ℕ) (o
 
 abbrev pub HeardIf : Given → List Event → ℕ → Option (List ℕ) → Type 0
 HeardIf given history station None = ⊤
-HeardIf given history station (Some octets) = IsHeardLast given history station octets
+HeardIf given history station (Some octets) = IsUnforged (facts_at given station history) octets → IsHeardLast given history station octets
 
 -- a note changes no number that a station knows last
 noted_same : (station other : ℕ) (note : Note) (links : Links) → (links_noted other note links).last_of station ≡ links.last_of station
@@ -100,7 +100,9 @@ module _ (given : Given) (six : HaveAddresses given) (distinct : AreDistinct giv
         → (IsHeardLastOf : (octets : List ℕ) → IsHeardLast given history station octets → (links_after (links_of history) event).last_of station ≡ (links_of history).last_of station)
         → HeardIf given next station received
     same_by None heard steps turns last = tt
-    same_by (Some octets) heard steps turns last = one_same octets heard steps turns (last octets heard)
+    same_by (Some octets) heard steps turns last = λ unforged.
+        let before = heard (unforged_same given station history next octets (flat_nothing (steps_in station) history event steps) unforged) in
+        one_same octets before steps turns (last octets before)
 
   -- ---- each event
 
@@ -173,28 +175,35 @@ module _ (given : Given) (six : HaveAddresses given) (distinct : AreDistinct giv
       by false is =
           next_by history rest (Called other step) at (packet_received station history) (ap (λ b. if b then None else packet_received station history) is)
           (same_by history rest (Called other step) at (packet_received station history) heard (ap (λ b. one_if b step) is) refl (λ one at. refl))
-  event_heard history rest (Transmitted sender channel octets hearings) at heard = by (has_received station hearings) refl
+  event_heard history rest (Transmitted sender channel octets hearings) at heard = by handed
     where
       packet : IsDue given history (Transmitted sender channel octets hearings)
       packet = due history rest (Transmitted sender channel octets hearings) at
 
-      handed : handed_or (packet_received station history) station octets hearings ≡ (if has_received station hearings then Some octets else packet_received station history)
-      handed = subst (λ xs. handed_or (packet_received station history) station octets xs ≡ (if has_received station xs then Some octets else packet_received station history))
-          (sym packet.hearings_are)
-          (handed_received given packet.plan.fates sender channel octets history (packet_received station history) station
-          (ap (unseen_in octets) (sym packet.hearings_are) ∙ packet.is_seen))
+      event : Event
+      event = Transmitted sender channel octets hearings
 
-      by : (received : Bool) → has_received station hearings ≡ received
-          → HeardIf given (history ++ Transmitted sender channel octets hearings ∷ []) station (packet_received station (history ++ Transmitted sender channel octets hearings ∷ []))
-      by true is =
-          next_by history rest (Transmitted sender channel octets hearings) at (Some octets)
-          (handed ∙ ap (λ b. if b then Some octets else packet_received station history) is)
-          (new_heard history rest sender channel octets hearings at is)
-      by false is =
-          next_by history rest (Transmitted sender channel octets hearings) at (packet_received station history)
-          (handed ∙ ap (λ b. if b then Some octets else packet_received station history) is)
-          (same_by history rest (Transmitted sender channel octets hearings) at (packet_received station history) heard refl refl
-          (other_heard history rest sender channel octets hearings at is))
+      after : List Event
+      after = history ++ event ∷ []
+
+      Handed : List Hearing → Type 0
+      Handed found =
+          IsHanded (has_received station found) octets (packet_received station history) (packet_received station (history ++ Transmitted sender channel octets found ∷ []))
+          (facts_at given station history) (use_at given station history) channel (station == sender)
+
+      handed : Handed hearings
+      handed =
+          subst Handed (sym packet.hearings_are)
+          (packet_handed given packet.plan.fates sender channel octets history station (ap (unseen_in octets) (sym packet.hearings_are) ∙ packet.is_seen))
+
+      by : Handed hearings → HeardIf given after station (packet_received station after)
+      by (WasReceived is as_sent) = subst (HeardIf given after station) (sym as_sent) (λ unforged. new_heard history rest sender channel octets hearings at is)
+      by (WasForged left as_left forged listens differs) =
+          subst (HeardIf given after station) (sym as_left)
+          (λ unforged. absurd (unforged_same given station history after left (flat_nothing (steps_in station) history event refl) unforged forged))
+      by (WasNot is as_before) =
+          subst (HeardIf given after station) (sym as_before)
+          (same_by history rest event at (packet_received station history) heard refl refl (other_heard history rest sender channel octets hearings at is))
 
   -- ---- along the run
 
@@ -206,7 +215,7 @@ module _ (given : Given) (six : HaveAddresses given) (distinct : AreDistinct giv
       (along (before ++ event ∷ []) events rest (at ∙ sym (append_assoc before (event ∷ []) (events ++ rest))) (event_heard before (events ++ rest) event at heard))
 
   pub heard_last : (history rest : List Event) (octets : List ℕ) → history_of (run_of given) ≡ history ++ rest → packet_received station history ≡ Some octets
-      → IsHeardLast given history station octets
+      → IsUnforged (facts_at given station history) octets → IsHeardLast given history station octets
   heard_last history rest octets at received = subst (HeardIf given history station) received (along [] history rest at (none_first))
     where
       none_first : HeardIf given [] station (packet_received station [])

@@ -31,6 +31,7 @@ use Rattle.journal_data.proofs.run_model.Calls.{turns_called}
 use Rattle.journal_data.proofs.run_model.Doings.{IsWanted, always_wanted}
 use Rattle.journal_data.proofs.run_model.Dues.{run_due}
 use Rattle.journal_data.proofs.run_model.Fates.{turns_are}
+use Rattle.journal_data.proofs.run_model.Handing.{request_unforged}
 use Rattle.journal_data.proofs.run_model.LinkEnds.{AreTaken, IsUnderstood, of_advertising}
 use Rattle.journal_data.proofs.run_model.LinksKnown.{last_by_call}
 use Rattle.journal_data.proofs.run_model.NoteLines.{note_line}
@@ -263,7 +264,8 @@ module _ (given : Given) (pair : IsOfTwo given) (six : HaveAddresses given) wher
       let call = taken_in front rest side number handle is in
       taken_by front side number call
       (heard_last given six distinct call.station call.in_it call.base (call.later ++ call.after) call.octets (call.called ∙ append_assoc call.base call.later call.after)
-      call.received)
+      call.received
+      (request_unforged (facts_at given call.station call.base) call.taking.channel call.octets call.taking.doing))
 
   abbrev heard_connect : (front : List Entry) (side : Side) (number : ℕ) → IsTakenAt front side number → HasHeardConnect side number front
   heard_connect front side number taken = record {

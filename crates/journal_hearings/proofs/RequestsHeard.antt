@@ -43,7 +43,7 @@ use Rattle.journal_data.proofs.journal_acks.Seen.{IsSeen, seen_packet}
 use Rattle.journal_data.proofs.journal_acks.TwoStations.{IsOfTwo, hearing_of, one_hearing, other_is, other_of, same_number}
 use Rattle.journal_data.proofs.KeptData.{other_in}
 use Rattle.journal_hearings.specs.Requests.{AllRequestsAreHeard, is_awaited}
-use Rattle.journal_hearings.proofs.AirDoings.{FitsPhase, HasAnswered, IsAnswered, IsAtPhase, IsAwaiting, IsSentOn, AwaitsNext, UsesIt, asks_after, asks_later, asks_on, at_phase, awaits_next, is_scan_request, pdu_on, sent_by}
+use Rattle.journal_hearings.proofs.AirDoings.{FitsPhase, HasAnswered, IsAnswered, IsAtPhase, IsAwaiting, IsSentOn, AwaitsNext, UsesIt, answered_unforged, asks_after, asks_later, asks_on, at_phase, awaits_next, is_scan_request, pdu_on, sent_by}
 use Rattle.journal_hearings.proofs.OnePhase.{ArePassing, IsSince, passing_first, passing_kept}
 
 -- ---- channels
@@ -214,7 +214,7 @@ module _ (understood : IsUnderstood) (given : Given) (pair : IsOfTwo given) (six
       uses =
           subst (λ n. use_at given n start ≡ Sends channel answered.octets)
           (other_is given pair station heard.sender in_it heard.is_one (differs_back station heard.sender heard.differs))
-          (heard.sent ∙ ap (λ n. Sends n answered.octets) on_it)
+          (heard.sent (answered_unforged (facts station) (facts station).turn.doing channel answered.octets refl answered.answers) ∙ ap (λ n. Sends n answered.octets) on_it)
 
       wants : (facts other).wanted ≡ Sends channel answered.octets
       wants = wanted_is given other start ∙ uses

@@ -1,41 +1,44 @@
--- Where a station is called with a packet while it listens on a link, the other station has the other end of the link open.
+-- Where a station is called with a packet that is not forged while it listens on a link, the other station has the other
+-- end of the link open.
 use Rattle.std.proofs.Common.{◌≡◌, ℕ, true, Option, Some, None, List, [], ◌∷◌, ◌++◌, refl}
 use Rattle.std.specs.Prelude.{map, take, ⊤}
 use Rattle.controller_model.specs.Step.{Step, HostOctet, TurnBegins, PacketHeard, NothingHeard, TurnEnds}
-use Rattle.journal_data.specs.journal_acks.link_calls.Uses.{listens_under}
-use Rattle.journal_data.specs.open_links.OpenLinks.{OpenLink, link_at}
-use Rattle.journal_data.specs.run_model.Feeding.{AreDistinct}
-use Rattle.journal_data.specs.run_model.History.{Event, TurnBegan, Called, packet_received}
-use Rattle.journal_data.specs.run_model.LinkEnds.{HaveAddresses}
-use Rattle.journal_data.specs.run_model.Run.{Given, after_call, after_feed, facts_at, history_of, octets_left, run_of, step_of}
-use Rattle.journal_data.proofs.Mine.{AreMine, HasFarEnd, packet_mine}
-use Rattle.journal_data.proofs.MineKept.{heard_none_mine, hearing_mine}
-use Rattle.journal_data.proofs.journal_acks.Counting.{AreKnown}
-use Rattle.journal_data.proofs.journal_acks.EachCall.{HaveCalls, OfCall, run_calls}
-use Rattle.journal_data.proofs.journal_acks.KeptCounts.{AreCountedAt, counts_kept}
-use Rattle.journal_data.proofs.journal_acks.Known.{known_of}
-use Rattle.journal_data.proofs.journal_acks.RunCounts.{counts_first}
-use Rattle.journal_data.proofs.journal_acks.TwoStations.{IsOfTwo}
-use Rattle.journal_data.proofs.journal_links.OfTwo.{are_distinct}
-use Rattle.journal_data.proofs.journal_packets.AccessOrder.{AreNth}
-use Rattle.journal_data.proofs.journal_packets.SoFar.{IsBelongingSoFar}
-use Rattle.journal_data.proofs.link_model.Hearing.{IsHeardWhole}
-use Rattle.journal_data.proofs.run_laws.DistinctAccess.{AreApart}
-use Rattle.journal_data.proofs.run_model.LinkEnds.{AreTaken, IsUnderstood}
-use Rattle.journal_data.proofs.run_model.Places.{each_at}
-use Rattle.journal_data.proofs.run_model.Stations.{is_in, among, not_before}
-use Rattle.journal_data.proofs.run_model.Walk.{Place, IsKept}
+use Rattle.journal_agreement.specs.journal_data.journal_acks.link_calls.Uses.{listens_under}
+use Rattle.journal_agreement.specs.journal_data.open_links.OpenLinks.{OpenLink, link_at}
+use Rattle.journal_agreement.specs.journal_data.run_model.Feeding.{AreDistinct}
+use Rattle.journal_agreement.specs.journal_data.run_model.History.{Event, TurnBegan, Called, packet_received}
+use Rattle.journal_agreement.specs.journal_data.run_model.LinkEnds.{HaveAddresses}
+use Rattle.journal_agreement.specs.journal_data.run_model.Run.{Given, after_call, after_feed, facts_at, history_of, octets_left, run_of, step_of}
+use Rattle.journal_agreement.proofs.journal_data.Mine.{AreMine, HasFarEnd, packet_mine}
+use Rattle.journal_agreement.proofs.journal_data.MineKept.{heard_none_mine, hearing_mine}
+use Rattle.journal_agreement.proofs.journal_data.journal_acks.Counting.{AreKnown}
+use Rattle.journal_agreement.proofs.journal_data.journal_acks.EachCall.{HaveCalls, OfCall, run_calls}
+use Rattle.journal_agreement.proofs.journal_data.journal_acks.KeptCounts.{AreCountedAt, counts_kept}
+use Rattle.journal_agreement.proofs.journal_data.journal_acks.Known.{known_of}
+use Rattle.journal_agreement.proofs.journal_data.journal_acks.RunCounts.{counts_first}
+use Rattle.journal_agreement.proofs.journal_data.journal_acks.TwoStations.{IsOfTwo}
+use Rattle.journal_agreement.proofs.journal_data.journal_links.OfTwo.{are_distinct}
+use Rattle.journal_agreement.proofs.journal_data.journal_packets.AccessOrder.{AreNth}
+use Rattle.journal_agreement.proofs.journal_data.journal_packets.SoFar.{IsBelongingSoFar}
+use Rattle.journal_agreement.proofs.journal_data.link_model.Hearing.{IsHeardWhole}
+use Rattle.journal_agreement.proofs.journal_data.run_laws.DistinctAccess.{AreApart}
+use Rattle.journal_agreement.proofs.journal_data.run_model.Handing.{IsUnforged}
+use Rattle.journal_agreement.proofs.journal_data.run_model.LinkEnds.{AreTaken, IsUnderstood}
+use Rattle.journal_agreement.proofs.journal_data.run_model.Places.{each_at}
+use Rattle.journal_agreement.proofs.journal_data.run_model.Stations.{is_in, among, not_before}
+use Rattle.journal_agreement.proofs.journal_data.run_model.Walk.{IsKept, NoTurn, Place}
 
 -- what is kept at each place of a run
-record IsFarAt (given : Given) (Q : Place → List Event → Type 0) (place : Place) (history : List Event) : Type 0 where
-  counted : AreCountedAt given Q place history
-  mine : AreMine given history
+pub record IsFarAt (given : Given) (Q : Place → List Event → Type 0) (place : Place) (history : List Event) : Type 0 where
+  pub counted : AreCountedAt given Q place history
+  pub mine : AreMine given history
 
 -- what holds before a call
 abbrev pub HasFarBefore : Given → List Event → ℕ → Step → Type 0
 HasFarBefore given history station (PacketHeard octets) =
     (handle : ℕ) (link : OpenLink) → link_at handle (facts_at given station history).links ≡ Some link
-    → listens_under handle (facts_at given station history).turn.doing ≡ true → HasFarEnd given station history handle
+    → listens_under handle (facts_at given station history).turn.doing ≡ true → IsUnforged (facts_at given station history) octets
+    → HasFarEnd given station history handle
 HasFarBefore given history station (HostOctet octet) = ⊤
 HasFarBefore given history station (TurnBegins slot on) = ⊤
 HasFarBefore given history station NothingHeard = ⊤
@@ -44,7 +47,7 @@ HasFarBefore given history station TurnEnds = ⊤
 module _ (whole : IsHeardWhole) (given : Given) (Q : Place → List Event → Type 0) (known : AreKnown given Q) (are_two : IsOfTwo given)
     (six : HaveAddresses given)
     (distinct : AreDistinct given.stations) where
-  far_kept : IsKept given (IsFarAt given Q)
+  pub far_kept : IsKept given (IsFarAt given Q)
   far_kept = let kept = counts_kept whole given Q known are_two six distinct in record {
     on_turn = λ slot plan history begun at is.
         let counted = kept.on_turn slot plan history begun at is.counted in
@@ -97,8 +100,9 @@ module _ (whole : IsHeardWhole) (given : Given) (Q : Place → List Event → Ty
       → packet_received station history ≡ received
       → HasFarBefore given history station (step_of received)
   far_passes station history in_it mine None got = tt
-  far_passes station history in_it mine (Some octets) got = λ handle link is_open listens.
-      mine station in_it handle (record { octets = octets; received = got; link = link; is_open = is_open; listens = listens })
+  far_passes station history in_it mine (Some octets) got = λ handle link is_open listens unforged.
+      mine station in_it handle
+      (record { octets = octets; received = got; link = link; is_open = is_open; listens = listens; unforged = unforged })
 
   have_far : HaveCalls given (HasFarBefore given) (IsFarAt given Q)
   have_far = record {
@@ -109,6 +113,10 @@ module _ (whole : IsHeardWhole) (given : Given) (Q : Place → List Event → Ty
     ends = λ done left station history are is. tt;
   }
 
+pub far_first : (given : Given) → IsFarAt given (IsBelongingSoFar given) NoTurn []
+far_first given =
+    let counted = counts_first given in record { counted = counted; mine = heard_none_mine given [] counted.holds.hearing.hears }
+
 pub far_before : IsHeardWhole → IsUnderstood → AreTaken → AreNth → AreApart → (given : Given) → IsOfTwo given → HaveAddresses given
     → (before rest : List Event) (station : ℕ) (octets : List ℕ)
     → history_of (run_of given) ≡ before ++ Called station (PacketHeard octets) ∷ rest → HasFarBefore given before station (PacketHeard octets)
@@ -116,9 +124,8 @@ far_before whole understood taken nth apart given are_two six before rest statio
     let Q = IsBelongingSoFar given in
     let distinct = are_distinct given are_two in
     let known = known_of understood taken nth apart given are_two six in
-    let counted = counts_first given in
     each_at (OfCall given (HasFarBefore given)) (history_of (run_of given)) before rest (Called station (PacketHeard octets))
     (run_calls given (HasFarBefore given) (IsFarAt given Q) (far_kept whole given Q known are_two six distinct)
     (have_far whole given Q known are_two six distinct)
-    (record { counted = counted; mine = heard_none_mine given [] counted.holds.hearing.hears }))
+    (far_first given))
     at

@@ -28,32 +28,32 @@ use Rattle.link_changes.proofs.Steps.{entry_when}
 use Rattle.link_indications.specs.InTime.{IsTakenInTime}
 use Rattle.chan_select.specs.Channel.{channel_of}
 use Rattle.journal_agreement.specs.Taken.{AllCameInTime}
-use Rattle.journal_data.specs.journal_links.Begun.{LinkBegun, link_numbered}
-use Rattle.journal_data.specs.journal_links.Changes.{notes_said, role_by, role_on}
-use Rattle.journal_data.specs.journal_links.Opened.{central_side}
-use Rattle.journal_data.specs.link_model.Controls.{is_quiet_now}
-use Rattle.journal_data.specs.link_model.End.{facts_of as end_facts_of, notes_of as end_notes_of}
-use Rattle.journal_data.specs.link_model.Events.{applied_notes}
-use Rattle.journal_data.specs.link_model.Setup.{Setup as EndSetup, algorithm_of}
-use Rattle.journal_data.specs.link_model.Step.{Step as EndStep}
-use Rattle.journal_data.specs.open_links.OpenLinks.{HasHandle, OpenLink, facts_in}
-use Rattle.journal_data.specs.open_links.Turns.{enters_in, is_anchor}
-use Rattle.journal_data.specs.run_model.History.{Called, past_of}
-use Rattle.journal_data.specs.run_model.Journal.{journal_of}
-use Rattle.journal_data.specs.run_model.LinkEnds.{HaveAddresses}
-use Rattle.journal_data.specs.run_model.NoteLines.{IsLineInCall, LinkLine, enter_line}
-use Rattle.journal_data.specs.run_model.Run.{Given, facts_at, history_of, run_of, setup_at}
-use Rattle.journal_data.proofs.journal_links.CallNotes.{all_said, call_said, own_said}
-use Rattle.journal_data.proofs.journal_links.ChangesAt.{call_parts, role_is}
-use Rattle.journal_data.proofs.journal_links.EnterLines.{turn_of}
-use Rattle.journal_data.proofs.journal_links.OfTwo.{are_distinct}
-use Rattle.journal_data.proofs.journal_links.Ranges.{values_in_range}
-use Rattle.journal_data.proofs.journal_links.SaidLines.{said_under}
-use Rattle.journal_data.proofs.open_links.Handles.{has_its_handle}
-use Rattle.journal_data.proofs.run_model.LinkEnds.{AreTaken, IsUnderstood}
-use Rattle.journal_data.proofs.run_model.NoteLines.{is_contained, line_in_call}
+use Rattle.journal_agreement.specs.journal_data.journal_links.Begun.{LinkBegun, link_numbered}
+use Rattle.journal_agreement.specs.journal_data.journal_links.Changes.{notes_said, role_by, role_on}
+use Rattle.journal_agreement.specs.journal_data.journal_links.Opened.{central_side}
+use Rattle.journal_agreement.specs.journal_data.link_model.Controls.{is_quiet_now}
+use Rattle.journal_agreement.specs.journal_data.link_model.End.{facts_of as end_facts_of, notes_of as end_notes_of}
+use Rattle.journal_agreement.specs.journal_data.link_model.Events.{applied_notes}
+use Rattle.journal_agreement.specs.journal_data.link_model.Setup.{Setup as EndSetup, algorithm_of}
+use Rattle.journal_agreement.specs.journal_data.link_model.Step.{Step as EndStep}
+use Rattle.journal_agreement.specs.journal_data.open_links.OpenLinks.{HasHandle, OpenLink, facts_in}
+use Rattle.journal_agreement.specs.journal_data.open_links.Turns.{enters_in, is_anchor}
+use Rattle.journal_agreement.specs.journal_data.run_model.History.{Called, past_of}
+use Rattle.journal_agreement.specs.journal_data.run_model.Journal.{journal_of}
+use Rattle.journal_agreement.specs.journal_data.run_model.LinkEnds.{HaveAddresses}
+use Rattle.journal_agreement.specs.journal_data.run_model.NoteLines.{IsLineInCall, LinkLine, enter_line}
+use Rattle.journal_agreement.specs.journal_data.run_model.Run.{Given, facts_at, history_of, run_of, setup_at}
+use Rattle.journal_agreement.proofs.journal_data.journal_links.CallNotes.{all_said, call_said, own_said}
+use Rattle.journal_agreement.proofs.journal_data.journal_links.ChangesAt.{call_parts, role_is}
+use Rattle.journal_agreement.proofs.journal_data.journal_links.EnterLines.{turn_of}
+use Rattle.journal_agreement.proofs.journal_data.journal_links.OfTwo.{are_distinct}
+use Rattle.journal_agreement.proofs.journal_data.journal_links.Ranges.{values_in_range}
+use Rattle.journal_agreement.proofs.journal_data.journal_links.SaidLines.{said_under}
+use Rattle.journal_agreement.proofs.journal_data.open_links.Handles.{has_its_handle}
+use Rattle.journal_agreement.proofs.journal_data.run_model.LinkEnds.{AreTaken, IsUnderstood}
+use Rattle.journal_agreement.proofs.journal_data.run_model.NoteLines.{is_contained, line_in_call}
 use Rattle.journal_indications.proofs.LineEnds.{IsEndOfLine, end_of_line, in_it}
-use Rattle.journal_indications.proofs.NumberedEnds.{same_link}
+use Rattle.journal_agreement.proofs.journal_data.NumberedEnds.{same_link}
 
 -- ---- what is known of one end
 

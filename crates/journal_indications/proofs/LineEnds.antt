@@ -15,41 +15,41 @@ use Rattle.controller_model.specs.Side.{notes_of}
 use Rattle.controller_model.specs.Since.{note_under, notes_opened_on, notes_under, opens_under, was_opened}
 use Rattle.controller_model.proofs.UnderNotes.{open_noted}
 use Rattle.link_changes.proofs.Alike.{Alike, alike_more, alike_silent, alike_then}
-use Rattle.journal_data.specs.journal_links.Begun.{LinkBegun, link_numbered}
-use Rattle.journal_data.specs.journal_links.Changes.{note_said, notes_said}
-use Rattle.journal_data.specs.journal_links.LinkLines.{line_of, lines_of}
-use Rattle.journal_data.specs.journal_links.Opened.{central_side}
-use Rattle.journal_data.specs.link_model.End.{notes_of as end_notes_of}
-use Rattle.journal_data.specs.link_model.Setup.{Setup as EndSetup}
-use Rattle.journal_data.specs.link_model.Step.{Step as EndStep}
-use Rattle.journal_data.specs.open_links.OpenLinks.{OpenLink, link_at}
-use Rattle.journal_data.specs.run_model.Feeding.{AreDistinct}
-use Rattle.journal_data.specs.run_model.History.{Event, Called, Noted, noted_by, past_of}
-use Rattle.journal_data.specs.run_model.Journal.{journal_from, journal_of, side_of}
-use Rattle.journal_data.specs.run_model.LinkEnds.{HaveAddresses}
-use Rattle.journal_data.specs.run_model.Links.{Links, links_of}
-use Rattle.journal_data.specs.run_model.NoteLines.{IsLineInCall, LinkLine}
-use Rattle.journal_data.specs.run_model.Numbers.{AreNumbered}
-use Rattle.journal_data.specs.run_model.Run.{Given, facts_at, history_of, run_of, setup_at}
-use Rattle.journal_data.proofs.Openness.{opens_where_free}
-use Rattle.journal_data.proofs.journal_links.ChangesAt.{none_opened}
-use Rattle.journal_data.proofs.journal_links.LineNotes.{lines_are_notes, open_was_opened}
-use Rattle.journal_data.proofs.journal_links.LinkLines.{IsApart}
-use Rattle.journal_data.proofs.journal_links.LinksBegun.{number_stays}
-use Rattle.journal_data.proofs.journal_links.OfTwo.{are_distinct, of_two_stations, two_apart}
-use Rattle.journal_data.proofs.journal_links.SaidLines.{other_silent, said, said_alike, said_under, under_alike}
-use Rattle.journal_data.proofs.run_model.Calls.{noted_called, same_station}
-use Rattle.journal_data.proofs.run_model.LinkEnds.{AreTaken, IsUnderstood}
-use Rattle.journal_data.proofs.run_model.LinksKnown.{link_by_own}
-use Rattle.journal_data.proofs.run_model.NoteLines.{to_line}
-use Rattle.journal_data.proofs.run_model.Notes.{NotedBefore, run_noted}
-use Rattle.journal_data.proofs.run_model.Numbers.{numbered_at}
-use Rattle.journal_data.proofs.run_model.OfStations.{OfStations, run_of_stations}
-use Rattle.journal_data.proofs.run_model.OpenedNotes.{is_opened, opens_under as opens}
-use Rattle.journal_data.proofs.run_model.Parts.{journal_more}
-use Rattle.journal_data.proofs.run_model.Places.{each_at}
-use Rattle.journal_data.proofs.run_model.Stations.{is_in}
-use Rattle.journal_indications.proofs.NumberedEnds.{IsNumberedEnd, front_of_two, numbered_end}
+use Rattle.journal_agreement.specs.journal_data.journal_links.Begun.{LinkBegun, link_numbered}
+use Rattle.journal_agreement.specs.journal_data.journal_links.Changes.{note_said, notes_said}
+use Rattle.journal_agreement.specs.journal_data.journal_links.LinkLines.{line_of, lines_of}
+use Rattle.journal_agreement.specs.journal_data.journal_links.Opened.{central_side}
+use Rattle.journal_agreement.specs.journal_data.link_model.End.{notes_of as end_notes_of}
+use Rattle.journal_agreement.specs.journal_data.link_model.Setup.{Setup as EndSetup}
+use Rattle.journal_agreement.specs.journal_data.link_model.Step.{Step as EndStep}
+use Rattle.journal_agreement.specs.journal_data.open_links.OpenLinks.{OpenLink, link_at}
+use Rattle.journal_agreement.specs.journal_data.run_model.Feeding.{AreDistinct}
+use Rattle.journal_agreement.specs.journal_data.run_model.History.{Event, Called, Noted, noted_by, past_of}
+use Rattle.journal_agreement.specs.journal_data.run_model.Journal.{journal_from, journal_of, side_of}
+use Rattle.journal_agreement.specs.journal_data.run_model.LinkEnds.{HaveAddresses}
+use Rattle.journal_agreement.specs.journal_data.run_model.Links.{Links, links_of}
+use Rattle.journal_agreement.specs.journal_data.run_model.NoteLines.{IsLineInCall, LinkLine}
+use Rattle.journal_agreement.specs.journal_data.run_model.Numbers.{AreNumbered}
+use Rattle.journal_agreement.specs.journal_data.run_model.Run.{Given, facts_at, history_of, run_of, setup_at}
+use Rattle.journal_agreement.proofs.journal_data.Openness.{opens_where_free}
+use Rattle.journal_agreement.proofs.journal_data.journal_links.ChangesAt.{none_opened}
+use Rattle.journal_agreement.proofs.journal_data.journal_links.LineNotes.{lines_are_notes, open_was_opened}
+use Rattle.journal_agreement.proofs.journal_data.journal_links.LinkLines.{IsApart}
+use Rattle.journal_agreement.proofs.journal_data.journal_links.LinksBegun.{number_stays}
+use Rattle.journal_agreement.proofs.journal_data.journal_links.OfTwo.{are_distinct, of_two_stations, two_apart}
+use Rattle.journal_agreement.proofs.journal_data.journal_links.SaidLines.{other_silent, said, said_alike, said_under, under_alike}
+use Rattle.journal_agreement.proofs.journal_data.run_model.Calls.{noted_called, same_station}
+use Rattle.journal_agreement.proofs.journal_data.run_model.LinkEnds.{AreTaken, IsUnderstood}
+use Rattle.journal_agreement.proofs.journal_data.run_model.LinksKnown.{link_by_own}
+use Rattle.journal_agreement.proofs.journal_data.run_model.NoteLines.{to_line}
+use Rattle.journal_agreement.proofs.journal_data.run_model.Notes.{NotedBefore, run_noted}
+use Rattle.journal_agreement.proofs.journal_data.run_model.Numbers.{numbered_at}
+use Rattle.journal_agreement.proofs.journal_data.run_model.OfStations.{OfStations, run_of_stations}
+use Rattle.journal_agreement.proofs.journal_data.run_model.OpenedNotes.{is_opened, opens_under as opens}
+use Rattle.journal_agreement.proofs.journal_data.run_model.Parts.{journal_more}
+use Rattle.journal_agreement.proofs.journal_data.run_model.Places.{each_at}
+use Rattle.journal_agreement.proofs.journal_data.run_model.Stations.{is_in}
+use Rattle.journal_agreement.proofs.journal_data.NumberedEnds.{IsNumberedEnd, front_of_two, numbered_end}
 
 -- ---- the notes that lines say
 

@@ -1,5 +1,5 @@
 -- The change that a peripheral reads, where its Instant has not passed, is the one that its central sent last.
-use Rattle.std.proofs.Common.{◌≡◌, ℕ, ◌<◌, ◌⊎◌, inl, inr, Bool, true, false, Some, List, [], ◌∷◌, ◌++◌, map, refl, sym, ap, subst, ◌∙◌, append-nil, arith}
+use Rattle.std.proofs.Common.{◌≡◌, ℕ, ◌<◌, ◌⊎◌, Bool, true, false, Some, List, [], ◌∷◌, ◌++◌, map, refl, sym, ap, subst, ◌∙◌, append-nil}
 use Rattle.std.specs.List.{Contains, flat_map}
 use Rattle.arrayvec.specs.ArrayVec.{ArrayVec}
 use Rattle.ble_base.specs.Side.{other_side}
@@ -26,46 +26,49 @@ use Rattle.link_changes.proofs.Notes.{event_more}
 use Rattle.journal_agreement.specs.Indications.{indications_sent}
 use Rattle.journal_agreement.specs.Taken.{AllAreReadAsSent, IsLastSent}
 use Rattle.link_runs.specs.joint_controls.Joint.{last_change}
-use Rattle.journal_data.specs.journal_links.Begun.{LinkBegun, link_numbered}
-use Rattle.journal_data.specs.journal_links.Changes.{notes_said, role_on}
-use Rattle.journal_data.specs.journal_links.LinkLines.{line_of, lines_of}
-use Rattle.journal_data.specs.journal_links.Opened.{central_side}
-use Rattle.journal_data.specs.link_model.End.{facts_of as end_facts_of, notes_after as end_notes, notes_of as end_notes_of}
-use Rattle.journal_data.specs.link_model.Setup.{Setup as EndSetup}
-use Rattle.journal_data.specs.link_model.Step.{Step as EndStep, PacketReceived}
-use Rattle.journal_data.specs.open_links.OpenLinks.{OpenLink, facts_in, link_at}
-use Rattle.journal_data.specs.run_laws.Ends.{AreEnds, IsOpen, OpenEnd, link_listened}
-use Rattle.journal_data.specs.run_model.History.{Event, Called, Noted, noted_by, past_of}
-use Rattle.journal_data.specs.run_model.Journal.{journal_of, side_of}
-use Rattle.journal_data.specs.run_model.LinkEnds.{HaveAddresses}
-use Rattle.journal_data.specs.run_model.NoteLines.{IsLineInCall, LinkLine, took_line}
-use Rattle.journal_data.specs.run_model.Run.{Given, facts_at, history_of, run_of, setup_at}
-use Rattle.journal_data.proofs.KeptData.{other_in}
-use Rattle.journal_data.proofs.Mine.{HasFarEnd}
-use Rattle.journal_data.proofs.OneCall.{other_not}
-use Rattle.journal_data.proofs.journal_acks.Exchanging.{number_at}
-use Rattle.journal_data.proofs.journal_acks.TwoStations.{IsOfTwo, other_of}
-use Rattle.journal_data.proofs.journal_links.LineNotes.{lines_are_notes, open_was_opened}
-use Rattle.journal_data.proofs.journal_links.LinksBegun.{number_stays}
-use Rattle.journal_data.proofs.journal_links.OfTwo.{are_distinct, of_two_stations, two_apart}
-use Rattle.journal_data.proofs.journal_links.Ranges.{values_in_range}
-use Rattle.journal_data.proofs.journal_links.SaidLines.{said_under}
-use Rattle.journal_data.proofs.journal_packets.AccessOrder.{AreNth}
-use Rattle.journal_data.proofs.link_model.Hearing.{IsHeardWhole}
-use Rattle.journal_data.proofs.run_laws.DistinctAccess.{AreApart}
-use Rattle.journal_data.proofs.run_model.Calls.{noted_called}
-use Rattle.journal_data.proofs.run_model.LinkEnds.{AreTaken, IsUnderstood}
-use Rattle.journal_data.proofs.run_model.LinksKnown.{link_by_other}
-use Rattle.journal_data.proofs.run_model.NoteLines.{line_in_call}
-use Rattle.journal_data.proofs.run_model.Notes.{NotedBefore, run_noted}
-use Rattle.journal_data.proofs.run_model.Numbers.{numbered_at}
-use Rattle.journal_data.proofs.run_model.Places.{each_at}
-use Rattle.journal_data.proofs.run_model.Stations.{is_in}
+use Rattle.journal_agreement.specs.journal_data.journal_links.Begun.{LinkBegun, link_numbered}
+use Rattle.journal_agreement.specs.journal_data.journal_links.Changes.{notes_said, role_on}
+use Rattle.journal_agreement.specs.journal_data.journal_links.LinkLines.{line_of, lines_of}
+use Rattle.journal_agreement.specs.journal_data.journal_links.Opened.{central_side}
+use Rattle.journal_agreement.specs.journal_data.link_model.End.{facts_of as end_facts_of, notes_after as end_notes, notes_of as end_notes_of}
+use Rattle.journal_agreement.specs.journal_data.link_model.Setup.{Setup as EndSetup}
+use Rattle.journal_agreement.specs.journal_data.link_model.Step.{Step as EndStep, PacketReceived}
+use Rattle.journal_agreement.specs.journal_data.open_links.OpenLinks.{OpenLink, facts_in, link_at}
+use Rattle.journal_agreement.specs.journal_data.run_laws.Ends.{AreEnds, IsOpen, OpenEnd, link_listened}
+use Rattle.journal_agreement.specs.journal_data.run_model.History.{Event, Called, Noted, noted_by, past_of}
+use Rattle.journal_agreement.specs.journal_data.run_model.Journal.{journal_of, side_of}
+use Rattle.journal_agreement.specs.journal_data.run_model.LinkEnds.{HaveAddresses}
+use Rattle.journal_agreement.specs.journal_data.run_model.NoteLines.{IsLineInCall, LinkLine, took_line}
+use Rattle.journal_agreement.specs.journal_data.run_pairs.InTurns.{HearNoMixed}
+use Rattle.journal_agreement.specs.journal_data.run_model.Run.{Given, facts_at, history_of, run_of, setup_at}
+use Rattle.journal_agreement.specs.journal_data.Followed.{Follows, Mixed}
+use Rattle.journal_agreement.proofs.journal_data.Followed.{AreEndsOf, hear_in_call, is_of_two}
+use Rattle.journal_agreement.proofs.journal_data.KeptData.{other_in}
+use Rattle.journal_agreement.proofs.journal_data.Mine.{HasFarEnd}
+use Rattle.journal_agreement.proofs.journal_data.OneCall.{other_not}
+use Rattle.journal_agreement.proofs.journal_data.journal_acks.Exchanging.{number_at}
+use Rattle.journal_agreement.proofs.journal_data.journal_acks.TwoStations.{IsOfTwo, other_of}
+use Rattle.journal_agreement.proofs.journal_data.journal_links.LineNotes.{lines_are_notes, open_was_opened}
+use Rattle.journal_agreement.proofs.journal_data.journal_links.LinksBegun.{number_stays}
+use Rattle.journal_agreement.proofs.journal_data.journal_links.OfTwo.{are_distinct, two_apart}
+use Rattle.journal_agreement.proofs.journal_data.journal_links.Ranges.{values_in_range}
+use Rattle.journal_agreement.proofs.journal_data.journal_links.SaidLines.{said_under}
+use Rattle.journal_agreement.proofs.journal_data.journal_packets.AccessOrder.{AreNth}
+use Rattle.journal_agreement.proofs.journal_data.link_model.Hearing.{IsHeardWhole}
+use Rattle.journal_agreement.proofs.journal_data.run_laws.DistinctAccess.{AreApart}
+use Rattle.journal_agreement.proofs.journal_data.run_model.Calls.{noted_called}
+use Rattle.journal_agreement.proofs.journal_data.run_model.LinkEnds.{AreTaken, IsUnderstood}
+use Rattle.journal_agreement.proofs.journal_data.run_model.LinksKnown.{link_by_other}
+use Rattle.journal_agreement.proofs.journal_data.run_model.NoteLines.{line_in_call}
+use Rattle.journal_agreement.proofs.journal_data.run_model.Notes.{NotedBefore, run_noted}
+use Rattle.journal_agreement.proofs.journal_data.run_model.Numbers.{numbered_at}
+use Rattle.journal_agreement.proofs.journal_data.run_model.Places.{each_at}
+use Rattle.journal_agreement.proofs.journal_data.run_model.Stations.{is_in}
 use Rattle.journal_indications.proofs.FarEnds.{far_before}
 use Rattle.journal_indications.proofs.InTime.{role_of_end}
 use Rattle.journal_indications.proofs.LineEnds.{IsEndOfLine, end_of_line, in_it, notes_before}
-use Rattle.journal_indications.proofs.NumberedEnds.{same_link}
-use Rattle.journal_indications.proofs.PairedEnds.{are_ends, far_end, far_side, own_end}
+use Rattle.journal_agreement.proofs.journal_data.NumberedEnds.{same_link}
+use Rattle.journal_agreement.proofs.journal_data.PairedEnds.{are_ends, far_end, far_side, own_end}
 use Rattle.journal_indications.proofs.Receptions.{IsReception, listened, reception_of}
 
 -- ---- what is known of one end, and of two
@@ -87,7 +90,9 @@ TakesLast given =
     (handle number llid : ℕ) (body : ArrayVec ℕ) (indication : Indication) → Contains given.stations central.station
     → Contains given.stations peripheral.station
     → history_of (run_of given) ≡ before ++ Called peripheral.station (PacketHeard octets) ∷ rest
-    → AreEnds before central peripheral → IsOpen given before central → IsOpen given before peripheral
+    → AreEnds before central peripheral
+    → HearNoMixed given (before ++ Called peripheral.station (PacketHeard octets) ∷ []) central peripheral
+    → IsOpen given before central → IsOpen given before peripheral
     → link_listened (facts_at given peripheral.station before).turn.doing ≡ Some peripheral.handle
     → end_notes peripheral.link.setup (facts_in peripheral.link) (PacketReceived (facts_at given peripheral.station before).turn.slot octets room)
     ≡ first ++ TookNote handle number llid body ∷ later
@@ -95,21 +100,13 @@ TakesLast given =
     → gap_ahead (event_of (facts_in peripheral.link).control.track) indication < 32767
     → last_change (facts_in central.link).control.sent ≡ Some (taking_of (event_of (facts_in peripheral.link).control.track) indication).change
 
--- ---- lists and stations
+-- ---- lists
 
 last_sent : (sent : List Change) (change : Change) → last_change sent ≡ Some change → IsLastSent change sent
 last_sent [] change is = absurd cc
 last_sent (one ∷ []) change is = let same : one ≡ change = cc in record { earlier = []; is = λ i. same i ∷ [] }
 last_sent (one ∷ other ∷ more) change is =
     let rest = last_sent (other ∷ more) change is in record { earlier = one ∷ rest.earlier; is = λ i. one ∷ rest.is i }
-
--- a station of two is one of the list
-is_of_two : (given : Given) → given.stations ≡ 0 ∷ 1 ∷ [] → (station : ℕ) → is_in station given.stations ≡ true → Contains given.stations station
-is_of_two given are station found = by (of_two_stations given are station found)
-  where
-    by : (station ≡ 0) ⊎ (station ≡ 1) → Contains given.stations station
-    by (inl is) = subst (λ xs. Contains xs station) (sym are) (subst (Contains (0 ∷ 1 ∷ [])) (sym is) (0, omega arith, refl))
-    by (inr is) = subst (λ xs. Contains xs station) (sym are) (subst (Contains (0 ∷ 1 ∷ [])) (sym is) (1, omega arith, refl))
 
 -- ---- the far end of a line
 
@@ -171,13 +168,13 @@ module _ (understood : IsUnderstood) (taken : AreTaken) (given : Given) (are_two
 -- ---- a line
 
 module _ (whole : IsHeardWhole) (understood : IsUnderstood) (taken : AreTaken) (nth : AreNth) (apart : AreApart) (given : Given) (are_two : IsOfTwo given)
-    (six : HaveAddresses given) (keeps : KeepsSent) (in_noted : IsInNoted) (takes : TakesLast given) where
+    (six : HaveAddresses given) (mixed : Mixed) (follows : Follows given mixed) (keeps : KeepsSent) (in_noted : IsInNoted) (takes : TakesLast given) where
   -- what its call takes, and the far end
   module _ (front rest : List Entry) (side : Side) (number count llid : ℕ) (body : List ℕ)
       (call : IsLineInCall given front (took_line side number count llid body))
       (heard : IsReception (setup_at given call.station) (facts_at given call.station call.base) call.step call.earlier call.handle count llid
       (record { items = body }))
-      (far : HasFarEnd given call.station call.base call.handle) where
+      (far : HasFarEnd given call.station call.base call.handle) (unmixed : mixed number front ≡ false) where
     abbrev line : LinkLine
     line = took_line side number count llid body
 
@@ -221,7 +218,7 @@ module _ (whole : IsHeardWhole) (understood : IsUnderstood) (taken : AreTaken) (
       role : end.setup.link.role ≡ Peripheral
       role = sym (role_of_end link of.link_begun end.setup.link.role side known of.central_is) ∙ is_peripheral
 
-      two : AreEnds call.base (far_end given call.station call.base call.handle far) (own_end call.station call.handle end)
+      two : AreEndsOf call.base (number_at call.station call.handle call.base) (far_end given call.station call.base call.handle far) (own_end call.station call.handle end)
       two = are_ends understood taken given are_two six call.base call.after call.station call.step call.called on call.handle end heard.is_open role far
 
       central_is : link.central ≡ side_of there
@@ -235,7 +232,7 @@ module _ (whole : IsHeardWhole) (understood : IsUnderstood) (taken : AreTaken) (
           ∙ ap (λ n. indications_noted Central (notes_said (side_of there) n front)) (sym (far.same ∙ of.number_is))
           ∙ ap (map (λ (taking : Taking). taking.change))
           (far_alike understood taken given are_two six front line call far.far_handle far.far in_far far.is_open Central).takings
-          ∙ keeps far.far.setup far.far.past two.is_central (ranges there far.far_handle far.far in_far far.is_open)
+          ∙ keeps far.far.setup far.far.past two.ends.is_central (ranges there far.far_handle far.far in_far far.is_open)
 
       abbrev event : ℕ
       event = event_noted (notes_said side number front)
@@ -247,14 +244,16 @@ module _ (whole : IsHeardWhole) (understood : IsUnderstood) (taken : AreTaken) (
           (has_room (setup_at given call.station) (facts_at given call.station call.base)) call.earlier heard.rest call.handle count llid
           (record { items = body }) indication
           (is_of_two given are_two there in_far) (is_of_two given are_two station on)
-          (call.called ∙ ap (λ s. call.base ++ Called call.station s ∷ call.after) heard.step_is) two far.is_open heard.is_open
+          (call.called ∙ ap (λ s. call.base ++ Called call.station s ∷ call.after) heard.step_is) two.ends
+          (hear_in_call given mixed follows are_two front line call unmixed heard.octets heard.step_is (number_at call.station call.handle call.base)
+          (far_end given call.station call.base call.handle far) (own_end call.station call.handle end) in_far on two of.number_is) far.is_open heard.is_open
           (listened call.handle (facts_at given call.station call.base).turn.doing heard.listens)
           heard.notes_are says (subst (λ n. gap_ahead n indication < 32767) event_is in_time) in
           subst (IsLastSent (taking_of event indication).change) (sym sent_is)
           (last_sent (facts_in far.far).control.sent (taking_of event indication).change (last ∙ ap (λ n. Some (taking_of n indication).change) (sym event_is)))
 
-  pub read_as_sent : AllAreReadAsSent (journal_of (history_of (run_of given)))
-  read_as_sent front rest side number count llid body link indication is is_link is_peripheral says in_time =
+  pub read_as_sent : AllAreReadAsSent mixed (journal_of (history_of (run_of given)))
+  read_as_sent front rest side number count llid body link indication is unmixed is_link is_peripheral says in_time =
       let line = took_line side number count llid body in
       let call = line_in_call given front rest (Took side number count llid body) line refl is in
       let station = call.station in
@@ -264,5 +263,5 @@ module _ (whole : IsHeardWhole) (understood : IsUnderstood) (taken : AreTaken) (
       let at : history_of (run_of given) ≡ base ++ Called station (PacketHeard heard.octets) ∷ call.after =
       call.called ∙ ap (λ s. base ++ Called station s ∷ call.after) heard.step_is in
       let far = far_before whole understood taken nth apart given are_two six base call.after station heard.octets at call.handle heard.link heard.is_open
-      heard.listens in
-      line_read front rest side number count llid body call heard far link (ap (link_numbered number) (sym is) ∙ is_link) is_peripheral indication says in_time
+      heard.listens heard.unforged in
+      line_read front rest side number count llid body call heard far unmixed link (ap (link_numbered number) (sym is) ∙ is_link) is_peripheral indication says in_time

@@ -22,19 +22,22 @@ use Rattle.controller_model.proofs.EndNotes.{received_each}
 use Rattle.controller_model.proofs.Handles.{own_handles}
 use Rattle.controller_model.specs.host_view.Links.{was_encrypted}
 use Rattle.link_changes.specs.Noted.{event_after}
-use Rattle.journal_data.specs.link_model.End.{notes_after as end_notes}
-use Rattle.journal_data.specs.link_model.Packets.{good_pdu}
-use Rattle.journal_data.specs.link_model.Step.{PacketReceived}
-use Rattle.journal_data.specs.open_links.OpenLinks.{OpenLink, facts_in, link_at}
-use Rattle.journal_data.specs.run_laws.Ends.{link_listened}
-use Rattle.journal_data.specs.run_model.Run.{step_of}
-use Rattle.journal_data.proofs.journal_acks.PhaseNotes.{IsOnLink, IsPhaseOf, IsPlainPhase, phase_of}
-use Rattle.journal_data.proofs.journal_acks.Worded.{link_worded, worded, worded_here}
-use Rattle.run_indications.proofs.run_pairs.Unencrypted.{worded_notes}
-use Rattle.journal_data.proofs.journal_acks.link_calls.CallNotes.{HasNoData, TakesNone, all_more, begin_noted, doing_noted, end_noted, events_noted, none_taken, octet_noted}
-use Rattle.journal_data.proofs.journal_links.SaidLines.{kind_said, said_under}
-use Rattle.journal_data.proofs.open_links.Handles.{handle_is}
-use Rattle.journal_data.specs.journal_acks.link_calls.Uses.{listens_under}
+use Rattle.journal_agreement.specs.journal_data.link_model.End.{notes_after as end_notes}
+use Rattle.journal_agreement.specs.journal_data.link_model.Packets.{good_pdu}
+use Rattle.journal_agreement.specs.journal_data.link_model.Receiving.{received_notes}
+use Rattle.journal_agreement.specs.journal_data.link_model.Step.{PacketReceived}
+use Rattle.journal_agreement.specs.journal_data.open_links.OpenLinks.{OpenLink, facts_in, link_at}
+use Rattle.journal_agreement.specs.journal_data.run_laws.Ends.{link_listened}
+use Rattle.journal_agreement.specs.journal_data.run_model.Run.{step_of}
+use Rattle.journal_agreement.proofs.journal_data.journal_acks.HandedOn.{forged_unread, judged_link}
+use Rattle.journal_agreement.proofs.journal_data.journal_acks.PhaseNotes.{IsOnLink, IsPhaseOf, IsPlainPhase, phase_of}
+use Rattle.journal_agreement.proofs.journal_data.journal_acks.Worded.{link_worded, worded, worded_here}
+use Rattle.run_indications.proofs.run_pairs.WordedNotes.{worded_notes}
+use Rattle.journal_agreement.proofs.journal_data.journal_acks.link_calls.CallNotes.{HasNoData, TakesNone, all_more, begin_noted, doing_noted, end_noted, events_noted, none_taken, octet_noted}
+use Rattle.journal_agreement.proofs.journal_data.journal_links.SaidLines.{kind_said, said_under}
+use Rattle.journal_agreement.proofs.journal_data.run_model.Handing.{IsUnforged}
+use Rattle.journal_agreement.proofs.journal_data.open_links.Handles.{handle_is}
+use Rattle.journal_agreement.specs.journal_data.journal_acks.link_calls.Uses.{listens_under}
 
 -- ---- lists of notes
 
@@ -113,11 +116,24 @@ pub record IsReception (setup : Setup) (facts : Facts) (step : Step) (earlier : 
   pub link : OpenLink
   pub is_open : link_at handle facts.links ≡ Some link
   pub listens : listens_under handle facts.turn.doing ≡ true
+  pub unforged : IsUnforged facts octets
   pub rest : List Note
   pub notes_are : end_notes link.setup (facts_in link) (PacketReceived facts.turn.slot octets (has_room setup facts))
       ≡ earlier ++ Took handle count llid body ∷ rest
   -- the notes before enter no event
   pub still : (event : ℕ) → fold event_after event (flat_map (said_under handle) earlier) ≡ event
+
+-- an end notes nothing of a packet that is forged
+not_forged : (facts : Facts) (handle : ℕ) (link : OpenLink) (octets : List ℕ) (room : Bool) (earlier rest : List Note) (note : Note)
+    → link_at handle facts.links ≡ Some link → listens_under handle facts.turn.doing ≡ true
+    → end_notes link.setup (facts_in link) (PacketReceived facts.turn.slot octets room) ≡ earlier ++ note ∷ rest → IsUnforged facts octets
+not_forged facts handle link octets room earlier rest note at on is = λ forged.
+    let unread = forged_unread link.setup (facts_in link) octets (sym (judged_link facts handle link octets on at) ∙ forged) in
+    none_before earlier (sym is ∙ ap (λ pdu. received_notes link.setup facts.turn.slot room pdu (facts_in link)) unread)
+  where
+    none_before : (earlier : List Note) → earlier ++ note ∷ rest ≡ [] → ⊥
+    none_before [] none = absurd cc
+    none_before (one ∷ more) none = absurd cc
 
 -- where it listens
 pub listened : (handle : ℕ) (doing : Doing) → listens_under handle doing ≡ true → link_listened doing ≡ Some handle
@@ -197,6 +213,8 @@ module _ (setup : Setup) (past : List Step) (earlier later : List Note) (handle 
           link = link;
           is_open = ap (λ n. link_at n facts.links) (sym same) ∙ at;
           listens = listens handle ∙ eq-eqb other handle same;
+          unforged = not_forged facts handle link octets room earlier found.rest note (ap (λ n. link_at n facts.links) (sym same) ∙ at)
+              (listens handle ∙ eq-eqb other handle same) notes;
           rest = found.rest;
           notes_are = notes;
           still = λ event. said_still link.setup.link.handle handle earlier (note ∷ found.rest) event all;

@@ -3,10 +3,10 @@
 ghost use Rattle.std.specs.Prelude.{◌≡◌, ◌∷◌, [], ℕ, List, length};
 ghost use Rattle.radio_replay.specs.Script.{Script};
 ghost use Rattle.journal_agreement.specs.Taken.{AllCameInTime};
-ghost use Rattle.journal_data.specs.run_model.Journal.{journal_of};
-ghost use Rattle.journal_data.specs.run_model.LinkEnds.{HaveAddresses};
-ghost use Rattle.journal_data.specs.run_model.Pair.{given_of};
-ghost use Rattle.journal_data.specs.run_model.Run.{Given, history_of, run_of};
+ghost use Rattle.journal_agreement.specs.journal_data.run_model.Journal.{journal_of};
+ghost use Rattle.journal_agreement.specs.journal_data.run_model.LinkEnds.{HaveAddresses};
+ghost use Rattle.journal_agreement.specs.journal_data.run_model.Pair.{given_of};
+ghost use Rattle.journal_agreement.specs.journal_data.run_model.Run.{Given, history_of, run_of};
 
 /// In the journal of a run of two stations, with any number of links each, whole or ended by
 /// damage: where a peripheral enters an event, each indication that it took on the link before came

@@ -12,3 +12,10 @@ pub use crate::alike::{
 };
 pub use crate::in_time::indications_that_are_followed_came_in_time;
 pub use crate::read::peripherals_read_what_the_central_sent_last;
+
+// What the crates above call of those below.
+pub use journal_agreement::data_of_two_stations_arrives_in_order;
+pub use run_indications::{
+    ends_that_last_are_sound, no_procedure_ends_a_link_but_a_late_one,
+    packets_of_a_link_are_read_as_sent, what_hosts_ask_may_come,
+};

@@ -10,6 +10,7 @@ use Rattle.journal.specs.declared.entries.Entry.TheVariants.{Air, Turn}
 use Rattle.journal_controls.specs.controller_model.Packets.{pdu_heard}
 use Rattle.journal_controls.specs.LineSteps.{control_on, turn_now}
 use Rattle.journal_controls.specs.journal_acks.Shut.{last_heard}
+use Rattle.journal_controls.specs.journal_ends.Asked.{Words}
 use Rattle.journal_controls.specs.journal_links.Begun.{LinkBegun, begun_by, begun_in, link_numbered, links_begun, with_number}
 use Rattle.journal_controls.specs.link_model.Setup.{Setup as EndSetup}
 use Rattle.journal_controls.specs.run_model.History.{Event, TurnBegan, Hearing, Transmitted, turns_begun}
@@ -26,45 +27,45 @@ use Rattle.journal_leaving.specs.Leaving.{leaving_on}
 use Rattle.journal_leaving.specs.Reasons.{due_begun, due_begun_after, due_begun_from, due_on, due_with}
 use Rattle.journal_leaving.proofs.OtherLines.{is_other}
 
-abbrev pub due_begun_at : ℕ → Side → List Event → Option ℕ
-due_begun_at number side history = due_begun side number (journal_of history)
+abbrev pub due_begun_at : Words → ℕ → Side → List Event → Option ℕ
+due_begun_at words number side history = due_begun words side number (journal_of history)
 
 -- ---- a line more
 
-from_more : (side : Side) (number : ℕ) (front : List Entry) (before : Option ℕ) (lines : List Entry) (line : Entry)
-    → due_begun_from side number front before (lines ++ line ∷ []) ≡ due_begun_after side number (front ++ lines) (due_begun_from side number front before lines) line
-from_more side number front before [] line = ap (λ xs. due_begun_after side number xs before line) (sym (append-nil front))
-from_more side number front before (first ∷ lines) line =
-    from_more side number (front ++ first ∷ []) (due_begun_after side number front before first) lines line
-    ∙ ap (λ xs. due_begun_after side number xs (due_begun_from side number (front ++ first ∷ []) (due_begun_after side number front before first) lines) line)
+from_more : (words : Words) (side : Side) (number : ℕ) (front : List Entry) (before : Option ℕ) (lines : List Entry) (line : Entry)
+    → due_begun_from words side number front before (lines ++ line ∷ []) ≡ due_begun_after words side number (front ++ lines) (due_begun_from words side number front before lines) line
+from_more words side number front before [] line = ap (λ xs. due_begun_after words side number xs before line) (sym (append-nil front))
+from_more words side number front before (first ∷ lines) line =
+    from_more words side number (front ++ first ∷ []) (due_begun_after words side number front before first) lines line
+    ∙ ap (λ xs. due_begun_after words side number xs (due_begun_from words side number (front ++ first ∷ []) (due_begun_after words side number front before first) lines) line)
     (append_assoc front (first ∷ []) lines)
 
-pub due_more : (side : Side) (number : ℕ) (journal : List Entry) (line : Entry)
-    → due_begun side number (journal ++ line ∷ []) ≡ due_begun_after side number journal (due_begun side number journal) line
+pub due_more : (words : Words) (side : Side) (number : ℕ) (journal : List Entry) (line : Entry)
+    → due_begun words side number (journal ++ line ∷ []) ≡ due_begun_after words side number journal (due_begun words side number journal) line
 unfolding due_begun
-due_more side number journal line = from_more side number [] None journal line
+due_more words side number journal line = from_more words side number [] None journal line
 
-other_due : (side : Side) (number : ℕ) (front : List Entry) (before : Option ℕ) (line : Entry) → is_other line ≡ true → due_begun_after side number front before line ≡ before
-other_due side number front before (Turn slot a_on b_on) other = absurd cc
-other_due side number front before line other = refl
+other_due : (words : Words) (side : Side) (number : ℕ) (front : List Entry) (before : Option ℕ) (line : Entry) → is_other line ≡ true → due_begun_after words side number front before line ≡ before
+other_due words side number front before (Turn slot a_on b_on) other = absurd cc
+other_due words side number front before line other = refl
 
-pub still_due : (side : Side) (number : ℕ) (front : List Entry) (line : Entry) → is_other line ≡ true → due_begun side number (front ++ line ∷ []) ≡ due_begun side number front
-still_due side number front line other = due_more side number front line ∙ other_due side number front (due_begun side number front) line other
+pub still_due : (words : Words) (side : Side) (number : ℕ) (front : List Entry) (line : Entry) → is_other line ≡ true → due_begun words side number (front ++ line ∷ []) ≡ due_begun words side number front
+still_due words side number front line other = due_more words side number front line ∙ other_due words side number front (due_begun words side number front) line other
 
 -- a packet
-pub air_due : (number : ℕ) (side : Side) (history : List Event) (station channel : ℕ) (octets : List ℕ) (hearings : List Hearing)
-    → due_begun_at number side (history ++ Transmitted station channel octets hearings ∷ []) ≡ due_begun_at number side history
-air_due number side history station channel octets [] =
-    ap (due_begun side number) (journal_event history (Transmitted station channel octets []) ∙ append-nil (journal_of history))
-air_due number side history station channel octets (hearing ∷ hearings) =
-    ap (due_begun side number) (journal_event history (Transmitted station channel octets (hearing ∷ hearings))) ∙ due_more side number (journal_of history) _
+pub air_due : (words : Words) (number : ℕ) (side : Side) (history : List Event) (station channel : ℕ) (octets : List ℕ) (hearings : List Hearing)
+    → due_begun_at words number side (history ++ Transmitted station channel octets hearings ∷ []) ≡ due_begun_at words number side history
+air_due words number side history station channel octets [] =
+    ap (due_begun words side number) (journal_event history (Transmitted station channel octets []) ∙ append-nil (journal_of history))
+air_due words number side history station channel octets (hearing ∷ hearings) =
+    ap (due_begun words side number) (journal_event history (Transmitted station channel octets (hearing ∷ hearings))) ∙ due_more words side number (journal_of history) _
 
 -- a turn
-pub turn_due : (number : ℕ) (side : Side) (history : List Event) (slot : ℕ) (radios : List Bool)
-    → let after = history ++ TurnBegan slot radios ∷ [] in due_begun_at number side after ≡ due_on side number (journal_of after)
-turn_due number side history slot radios =
+pub turn_due : (words : Words) (number : ℕ) (side : Side) (history : List Event) (slot : ℕ) (radios : List Bool)
+    → let after = history ++ TurnBegan slot radios ∷ [] in due_begun_at words number side after ≡ due_on words side number (journal_of after)
+turn_due words number side history slot radios =
     let journal = journal_event history (TurnBegan slot radios) in
-    ap (due_begun side number) journal ∙ due_more side number (journal_of history) _ ∙ ap (due_on side number) (sym journal)
+    ap (due_begun words side number) journal ∙ due_more words side number (journal_of history) _ ∙ ap (due_on words side number) (sym journal)
 
 -- ---- the links that began so far
 
@@ -145,45 +146,45 @@ air_in history station channel octets hearings some are =
 
 -- ---- a link of this turn
 
-pub data IsNotDue (number : ℕ) (history : List Event) : Type 0 where
+pub data IsNotDue (words : Words) (number : ℕ) (history : List Event) : Type 0 where
   -- the link began before this turn
-  IsOld : (link : LinkBegun) → link_numbered number (journal_of history) ≡ Some link → link.slot + 1 < turns_begun history → IsNotDue number history
-  NoneDue : ((side : Side) → due_begun_at number side history ≡ None) → IsNotDue number history
+  IsOld : (link : LinkBegun) → link_numbered number (journal_of history) ≡ Some link → link.slot + 1 < turns_begun history → IsNotDue words number history
+  NoneDue : ((side : Side) → due_begun_at words number side history ≡ None) → IsNotDue words number history
 
-pub not_due_grown : (number : ℕ) (history after : List Event) (rest : List Entry) → journal_of after ≡ journal_of history ++ rest → turns_begun history ≤ turns_begun after
-    → ((side : Side) → due_begun_at number side after ≡ due_begun_at number side history) → IsNotDue number history → IsNotDue number after
-not_due_grown number history after rest grows turns same (IsOld link is before) =
+pub not_due_grown : (words : Words) (number : ℕ) (history after : List Event) (rest : List Entry) → journal_of after ≡ journal_of history ++ rest → turns_begun history ≤ turns_begun after
+    → ((side : Side) → due_begun_at words number side after ≡ due_begun_at words number side history) → IsNotDue words number history → IsNotDue words number after
+not_due_grown words number history after rest grows turns same (IsOld link is before) =
     IsOld link (ap (link_numbered number) grows ∙ number_stays number (journal_of history) rest link is) (omega (arith, before, turns))
-not_due_grown number history after rest grows turns same (NoneDue none) = NoneDue (λ side. same side ∙ none side)
+not_due_grown words number history after rest grows turns same (NoneDue none) = NoneDue (λ side. same side ∙ none side)
 
 -- as a turn begins, each link began before
-pub not_due_turn : (number : ℕ) (history : List Event) (slot : ℕ) (radios : List Bool) → AreIn (turns_begun history) (links_begun (journal_of history))
-    → IsNotDue number (history ++ TurnBegan slot radios ∷ [])
+pub not_due_turn : (words : Words) (number : ℕ) (history : List Event) (slot : ℕ) (radios : List Bool) → AreIn (turns_begun history) (links_begun (journal_of history))
+    → IsNotDue words number (history ++ TurnBegan slot radios ∷ [])
 unfolding due_on
-not_due_turn number history slot radios are = by (link_numbered number (journal_of (history ++ TurnBegan slot radios ∷ []))) refl
+not_due_turn words number history slot radios are = by (link_numbered number (journal_of (history ++ TurnBegan slot radios ∷ []))) refl
   where
-    by : (found : Option LinkBegun) → link_numbered number (journal_of (history ++ TurnBegan slot radios ∷ [])) ≡ found → IsNotDue number (history ++ TurnBegan slot radios ∷ [])
+    by : (found : Option LinkBegun) → link_numbered number (journal_of (history ++ TurnBegan slot radios ∷ [])) ≡ found → IsNotDue words number (history ++ TurnBegan slot radios ∷ [])
     by None none =
         let after = journal_of (history ++ TurnBegan slot radios ∷ []) in
-        NoneDue (λ side. turn_due number side history slot radios
-        ∙ ap (λ link. due_with link (control_on side number after) (leaving_on side number after) (last_heard number side after) (turn_now after)) none)
+        NoneDue (λ side. turn_due words number side history slot radios
+        ∙ ap (λ link. due_with link (control_on words side number after) (leaving_on words side number after) (last_heard number side after) (turn_now after)) none)
     by (Some link) is =
         let more = turns_more history (TurnBegan slot radios) in
         let early = numbered_in (turns_begun history) number (links_begun (journal_of history)) link are (ap (with_number number) (sym (turn_links history slot radios)) ∙ is) in
         IsOld link is (omega (arith, early, more))
 
-pub not_due_now : (history : List Event) (number station : ℕ) (end : EndSetup) (side : Side) → IsNotDue number history → IsBegun history number station end
-    → end.opened + 1 ≡ turns_begun history → due_begun_at number side history ≡ None
-not_due_now history number station end side (NoneDue none) begun now = none side
-not_due_now history number station end side (IsOld link is before) begun now =
+pub not_due_now : (words : Words) (history : List Event) (number station : ℕ) (end : EndSetup) (side : Side) → IsNotDue words number history → IsBegun history number station end
+    → end.opened + 1 ≡ turns_begun history → due_begun_at words number side history ≡ None
+not_due_now words history number station end side (NoneDue none) begun now = none side
+not_due_now words history number station end side (IsOld link is before) begun now =
     let same : Some link ≡ Some begun.link = sym is ∙ begun.is_link in
     let equal : link ≡ begun.link = cc in
     let slots : link.slot ≡ end.opened = ap (λ (l : LinkBegun). l.slot) equal ∙ begun.slot in
     absurd (omega (arith, slots, before, now))
 
-pub none_not_due : (number : ℕ) → IsNotDue number []
+pub none_not_due : (words : Words) (number : ℕ) → IsNotDue words number []
 unfolding due_begun journal_of
-none_not_due number = NoneDue (λ side. refl)
+none_not_due words number = NoneDue (λ side. refl)
 
 pub none_in : AreIn (turns_begun []) (links_begun (journal_of []))
 unfolding links_begun journal_of

@@ -1,9 +1,10 @@
 -- The reason for which an end is to end as a turn begins: by its parts, and by its cause; and that hosts leave it.
-use Rattle.std.proofs.Common.{◌≡◌, ℕ, ◌+◌, ◌*◌, ◌≤◌, nat_le, ◌&&◌, Bool, true, false, Option, Some, None, Result, Ok, Err, is_none, refl, sym, ap, ◌∙◌, arith, if◌then◌else◌}
+use Rattle.std.proofs.Common.{◌≡◌, ℕ, ◌+◌, ◌*◌, ◌≤◌, nat_le, ◌&&◌, Bool, true, false, Option, Some, None, Result, Ok, Err, is_none, List, refl, sym, ap, ◌∙◌, arith, if◌then◌else◌}
 use Rattle.std.specs.Option.{option_map}
 use Rattle.std.proofs.lemmas.Bool.{le-leb}
 use Rattle.ble_base.specs.ErrorCodes.{connection_not_established, connection_timeout, ll_response_timeout, terminated_by_local_host}
 use Rattle.ble_base.specs.declared.error_codes.ErrCode.{ErrCode}
+use Rattle.data_pdu.specs.declared.ctrl.Ctrl.{Ctrl}
 use Rattle.exclusive_stages.specs.declared.stages.PeerAtCentral.{PeerAtCentral}
 use Rattle.exclusive_stages.specs.declared.stages.PeerAtCentral.TheVariants.{Absent, GrantUnsent}
 use Rattle.instants.specs.declared.indications.Params.{Params}
@@ -12,7 +13,7 @@ use Rattle.journal_controls.specs.controller_model.Shutting.{timed_out, unanswer
 use Rattle.journal_controls.specs.journal_ends.open_links.OpenLinks.{OpenLink, facts_in}
 use Rattle.journal_controls.specs.journal_links.Begun.{LinkBegun}
 use Rattle.journal_controls.specs.link_model.Facts.{Facts, params_of}
-use Rattle.journal_controls.specs.link_model.Hosts.{asked_unless, facts_answered, facts_disconnected, first_slot}
+use Rattle.journal_controls.specs.link_model.Hosts.{asked_unless, ends_without_key, facts_answered, facts_disconnected, facts_key_answered, first_slot, leaving_from_if}
 use Rattle.journal_controls.specs.link_model.Lost.{has_failed, has_timed_out, reason_due}
 use Rattle.journal_controls.specs.link_model.Setup.{Setup}
 use Rattle.journal_controls.specs.link_model.Times.{due_of, ended_by_procedures, ending_of, first_of, termination_due}
@@ -29,8 +30,10 @@ use Rattle.journal_controls.specs.link_model.procedure_stages.declared.stages.Pr
 use Rattle.journal_controls.specs.link_model.procedure_values.declared.asks.Ask.{Ask}
 use Rattle.journal_controls.specs.link_model.procedure_values.declared.asks.Ask.TheVariants.{Update}
 use Rattle.journal_controls.specs.link_model.procedures.Beginning.{ask_step}
-use Rattle.journal_controls.specs.link_model.procedures.Going.{granted_by, host_answer_step, is_answer, is_over, terminate_step}
+use Rattle.journal_controls.specs.link_model.procedures.Encryption.{is_rejection, progress_given}
+use Rattle.journal_controls.specs.link_model.procedures.Going.{granted_by, host_answer_step, is_answer, is_over, owe_step, terminate_step}
 use Rattle.journal_controls.specs.link_model.procedures.Table.{TableFacts}
+use Rattle.journal_controls.proofs.link_model.Views.{Owed, Owing, Same, key_view}
 use Rattle.journal_leaving.specs.Reasons.{due_by, lost_by}
 
 -- ---- by its parts
@@ -150,6 +153,41 @@ none_passed timeout slot some = grind (arith, some)
 first_due : (since : Option ℕ) (params : Params) (slot : ℕ) → 1 ≤ params.timeout → termination_due (Some (first_slot since slot)) params slot ≡ termination_due since params slot
 first_due None params slot some = ap (λ b. if b then Some terminated_by_local_host else None) (none_passed params.timeout slot some)
 first_due (Some first) params slot some = refl
+
+-- the host of a peripheral has a key or none: one that lacks after a pause ends the link in its own slot
+given_own : (progress : Progress) (ctrl : Ctrl) → own_kind (progress_given progress ctrl) ≡ own_kind progress
+given_own (central c) ctrl = refl
+given_own (peripheral p) ctrl = by (is_rejection ctrl)
+  where
+    by : (rejects : Bool) → own_kind (if rejects then peripheral (record p { encrypting = false }) else peripheral p) ≡ own_kind (peripheral p)
+    by true = refl
+    by false = refl
+
+owed_due : (setup : Setup) (good : Option Reception) (c d : Control) (since : Option ℕ) (slot : ℕ) → Owing c d
+    → due_parts setup good d since slot ≡ due_parts setup good c since slot
+owed_due setup good c d since slot (Same is) = ap (λ (one : Control). due_parts setup good one since slot) is
+owed_due setup good c d since slot (Owed ctrl may is) =
+    let table = owe_step c.table ctrl in
+    ap (λ (one : Control). due_parts setup good one since slot) is
+    ∙ either_due setup good c (record c { table = table }) since slot (is_none c.ends)
+    (as_due setup good c table since slot (given_own c.table.progress ctrl, refl))
+
+lacking_due : (leaves : Bool) (leaving : Leaving) (params : Params) (slot : ℕ) → (leaves ≡ true → leaving.disconnected ≡ None) → 1 ≤ params.timeout
+    → termination_due (leaving_from_if leaves slot leaving).disconnected params slot ≡ termination_due leaving.disconnected params slot
+lacking_due true leaving params slot none some =
+    ap (λ b. if b then Some terminated_by_local_host else None) (none_passed params.timeout slot some)
+    ∙ sym (ap (λ since. termination_due since params slot) (none refl))
+lacking_due false leaving params slot none some = refl
+
+pub key_due : (setup : Setup) (facts : Facts) (key : Option (List ℕ)) (slot : ℕ) → (ends_without_key key facts ≡ true → facts.leaving.disconnected ≡ None)
+    → 1 ≤ (params_of facts).timeout → due_of setup (facts_key_answered key slot facts) slot ≡ due_of setup facts slot
+key_due setup facts key slot none some =
+    let c = facts.control in
+    let answered = facts_key_answered key slot facts in
+    owed_due setup facts.last_good c answered.control answered.leaving.disconnected slot (key_view key facts)
+    ∙ ap (λ ended. first_of (reason_due setup.opened c.track.params facts.last_good slot)
+    (first_of (option_map (λ (code : ErrCode). code.0) (timeout_of slot (held_of c))) ended))
+    (lacking_due (ends_without_key key facts) facts.leaving (params_of facts) slot none some)
 
 pub disconnect_due : (setup : Setup) (facts : Facts) (reason : ErrCode) (slot : ℕ) → 1 ≤ (params_of facts).timeout
     → due_of setup (facts_disconnected reason slot facts) slot ≡ due_of setup facts slot

@@ -11,8 +11,8 @@ use Rattle.data_pdu.specs.Header.{header_in}
 use Rattle.ack_bit.specs.AckBits.{acknowledges}
 use Rattle.journal.specs.declared.entries.Entry.{Entry}
 use Rattle.journal.specs.declared.entries.Entry.TheVariants.{Took}
-use Rattle.journal_controls.specs.Withheld.{Withheld}
-use Rattle.journal_controls.specs.KeyedLines.{given_by, keyed_by_all}
+use Rattle.journal_controls.specs.Withheld.{Withheld, first_answer, nothing_withheld, withheld_answer}
+use Rattle.journal_controls.specs.KeyedLines.{answer_by, does_if, given_by, keyed_by_all}
 use Rattle.journal_controls.specs.LineSteps.{is_more_acked, steps_said}
 use Rattle.journal_controls.specs.OneEnd.{IsToldOf}
 use Rattle.journal_controls.specs.journal_acks.Exchange.{Exchanged}
@@ -38,11 +38,16 @@ use Rattle.journal_controls.specs.link_model.control_end.declared.answers.Taken.
 use Rattle.journal_controls.specs.link_model.declared.events.ConnectionEvent.{ConnectionEvent}
 use Rattle.journal_controls.specs.link_model.declared.state.Leaving.{Leaving}
 use Rattle.journal_controls.specs.link_model.keyed_control.Keyed.{Keyed}
+use Rattle.journal_controls.specs.link_model.keyed_control.KeyedSteps.{Takes, TakesData}
 use Rattle.journal_controls.specs.link_model.keyed_control.declared.material.Response.{Response}
 use Rattle.journal_controls.specs.link_model.phased_end.Held.{held_of as keyed_held}
-use Rattle.journal_controls.specs.link_model.phased_end.Taking.{handed_keyed, is_handed, nothing_keyed, taken_keyed}
+use Rattle.journal_controls.specs.link_model.phased_end.Taking.{drawn, handed_keyed, is_handed, nothing_keyed, taken_keyed}
 use Rattle.journal_controls.specs.link_model.phased_end.declared.taking.TakenKeyed.{TakenKeyed}
-use Rattle.journal_controls.proofs.EndSteps.{before_response, left_of, not_true}
+use Rattle.journal_controls.proofs.EndMoves.{no_answer}
+use Rattle.journal_controls.proofs.EndSteps.{accepted_moves, before_response, left_of, not_true, received_is}
+use Rattle.journal_controls.proofs.NotedSteps.{accepts_if, empty_none, steps_accepted}
+use Rattle.journal_controls.proofs.TakingLines.{answer_where}
+use Rattle.journal_leaving.specs.Lacking.{leaving_refusing}
 use Rattle.journal_leaving.specs.Leaving.{acks_terminate, leaving_saying}
 use Rattle.journal_controls.specs.Hearing.{keyed_hearing}
 use Rattle.journal_leaving.specs.Hearing.{leaving_hearing}
@@ -57,13 +62,19 @@ is_taking line = false
 abbrev NoneTakes : Side → ℕ → List Note → Type 0
 NoneTakes side number notes = AllByRecursion (λ note. is_taking (line_of side number note) ≡ false) notes
 
-saying_none : (response : Response) (slot : ℕ) (k : Option Keyed) (l : Leaving) (line : Entry) → is_taking line ≡ false → leaving_saying response slot k l line ≡ l
-saying_none response slot k l (Took side link count llid body) is = absurd cc
-saying_none response slot k l line is = refl
+saying_none : (withheld : Withheld) (response : Response) (slot : ℕ) (k : Option Keyed) (l : Leaving) (line : Entry) → is_taking line ≡ false → leaving_saying withheld response slot k l line ≡ l
+saying_none withheld response slot k l (Took side link count llid body) is = absurd cc
+saying_none withheld response slot k l line is = refl
 
 -- a control PDU that is taken, or is not
 abbrev left_by : Bool → Response → ℕ → Pdu → Keyed → Leaving → Leaving
 left_by takes response slot pdu k l = if takes then leaving_by (code_of (given_by response slot k pdu).taken.effect) l else l
+
+-- a PDU is taken, and may be answered at once
+abbrev left_took : Bool → Withheld → Response → ℕ → Pdu → Keyed → Leaving → Leaving
+left_took accepted withheld response slot pdu k l =
+    leaving_refusing slot (keyed_by_all (steps_accepted accepted response slot pdu) k) (answer_where accepted (answer_by withheld response slot k pdu))
+    (left_by (accepted && is_procedure_pdu pdu) response slot pdu k l)
 
 module _ (side : Side) (number : ℕ) where
   none_both : (notes more : List Note) → NoneTakes side number notes → NoneTakes side number more → NoneTakes side number (notes ++ more)
@@ -110,8 +121,8 @@ module _ (side : Side) (number : ℕ) where
   none_noted withheld response slot [] k l none = refl
   none_noted withheld response slot (note ∷ notes) k l none =
       let line = line_of side number note in
-      none_noted withheld response slot notes (keyed_by_all (steps_said withheld response slot k line) k) (leaving_saying response slot (Some k) l line) none.1
-      ∙ saying_none response slot (Some k) l line none.0
+      none_noted withheld response slot notes (keyed_by_all (steps_said withheld response slot k line) k) (leaving_saying withheld response slot (Some k) l line) none.1
+      ∙ saying_none withheld response slot (Some k) l line none.0
 
   pub entry_noted : (withheld : Withheld) (response : Response) (slot : ℕ) (setup : Setup) (facts : Facts) (l : Leaving) (k : Keyed)
       → leaving_noted side number withheld response slot (notes_after setup facts (EventEntered slot)) k l ≡ l
@@ -132,21 +143,33 @@ module _ (side : Side) (number : ℕ) where
   done_first withheld response slot handle None notes k l = refl
   done_first withheld response slot handle (Some kind) notes k l = refl
 
-  took_first : (withheld : Withheld) (accepted empty control : Bool) (response : Response) (slot handle : ℕ) (pdu : Pdu) (now : Facts) (notes : List Note) (k : Keyed) (l : Leaving)
-      → is_empty pdu ≡ empty → is_control pdu ≡ control → NoneTakes side number notes
-      → leaving_noted side number withheld response slot (took_notes_if (accepted && not empty) handle pdu now ++ notes) k l
-      ≡ left_by (accepted && (control && not empty)) response slot pdu k l
-  took_first withheld false empty control response slot handle pdu now notes k l e c none = none_noted withheld response slot notes k l none
-  took_first withheld true true true response slot handle pdu now notes k l e c none = none_noted withheld response slot notes k l none
-  took_first withheld true true false response slot handle pdu now notes k l e c none = none_noted withheld response slot notes k l none
-  took_first withheld true false control response slot handle pdu now notes k l e c none =
-      let line = Took side number (numbered now.acknowledgement.accepted + 1) pdu.llid pdu.body in
-      none_noted withheld response slot notes (keyed_by_all (steps_said withheld response slot k line) k) (leaving_saying response slot (Some k) l line) none
-      ∙ ap (λ b. left_by b response slot pdu k l) (λ i. c i && not (e i))
+  took_first : (withheld : Withheld) (accepted : Bool) (response : Response) (slot handle : ℕ) (pdu : Pdu) (now : Facts) (notes : List Note) (k : Keyed) (l : Leaving)
+      → NoneTakes side number notes
+      → leaving_noted side number withheld response slot (took_notes_if (accepted && not (is_empty pdu)) handle pdu now ++ notes) k l
+      ≡ left_took accepted withheld response slot pdu k l
+  took_first withheld false response slot handle pdu now notes k l none = none_noted withheld response slot notes k l none
+  took_first withheld true response slot handle pdu now notes k l none = by (is_empty pdu) refl
+    where
+      by : (empty : Bool) → is_empty pdu ≡ empty
+          → leaving_noted side number withheld response slot (took_notes_if (true && not (is_empty pdu)) handle pdu now ++ notes) k l
+          ≡ left_took true withheld response slot pdu k l
+      by true is =
+          let after = keyed_by_all (steps_accepted true response slot pdu) k in
+          let procedure = empty_none (is_control pdu) (is_empty pdu) is in
+          (λ i. leaving_noted side number withheld response slot (took_notes_if (true && not (is i)) handle pdu now ++ notes) k l)
+          ∙ none_noted withheld response slot notes k l none
+          ∙ sym (λ i. leaving_refusing slot after (if procedure i then withheld_answer withheld (given_by response slot k pdu) else None) (left_by (procedure i) response slot pdu k l))
+      by false is =
+          let line = Took side number (numbered now.acknowledgement.accepted + 1) pdu.llid pdu.body in
+          let others = does_if (is_procedure_pdu pdu) (Takes (read_of pdu) slot (drawn response)) ++ does_if (is_data pdu) TakesData in
+          (λ i. leaving_noted side number withheld response slot (took_notes_if (true && not (is i)) handle pdu now ++ notes) k l)
+          ∙ none_noted withheld response slot notes (keyed_by_all (steps_said withheld response slot k line) k) (leaving_saying withheld response slot (Some k) l line) none
+          ∙ sym (λ i. leaving_refusing slot (keyed_by_all (accepts_if (true && not (is i)) ++ others) k) (answer_by withheld response slot k pdu)
+          (left_by (is_procedure_pdu pdu) response slot pdu k l))
 
 -- ---- an end that hears
 
-gone_leaving : (goes : Bool) (slot : ℕ) (facts : Facts) → (control_gone_if goes slot facts).leaving ≡ facts.leaving
+pub gone_leaving : (goes : Bool) (slot : ℕ) (facts : Facts) → (control_gone_if goes slot facts).leaving ≡ facts.leaving
 gone_leaving true slot facts = refl
 gone_leaving false slot facts = refl
 
@@ -172,54 +195,115 @@ taken_leaving : (takes : Bool) (pdu : Pdu) (slot : ℕ) (facts : Facts)
 taken_leaving true pdu slot facts = refl
 taken_leaving false pdu slot facts = refl
 
-data_leaving : (takes : Bool) (facts : Facts) → (data_taken_if takes facts).leaving ≡ facts.leaving
+pub data_leaving : (takes : Bool) (facts : Facts) → (data_taken_if takes facts).leaving ≡ facts.leaving
 data_leaving true facts = refl
 data_leaving false facts = refl
 
-forged_leaving : (forged : Bool) (facts : Facts) → (facts_forged_if forged facts).leaving ≡ facts.leaving
+pub forged_leaving : (forged : Bool) (facts : Facts) → (facts_forged_if forged facts).leaving ≡ facts.leaving
 forged_leaving true facts = refl
 forged_leaving false facts = refl
 
+-- nothing is answered at once where nothing is withheld
+none_answered : (accepted : Bool) (response : Response) (slot : ℕ) (k : Keyed) (pdu : Pdu) → answer_where accepted (answer_by nothing_withheld response slot k pdu) ≡ None
+none_answered false response slot k pdu = refl
+none_answered true response slot k pdu = by (is_procedure_pdu pdu)
+  where
+    by : (procedure : Bool) → (if procedure then withheld_answer nothing_withheld (given_by response slot k pdu) else None) ≡ None
+    by true =
+        let given = given_by response slot k pdu in λ i. first_answer (no_answer given.taken.effect i) (no_answer given.kept.effect i)
+    by false = refl
+
 -- what it says of the packet moves it, from what it was as the packet reached it
 module _ (side : Side) (number : ℕ) (withheld : Withheld) (slot : ℕ) (room : Bool) (setup : Setup) (facts : Facts) where
-  abbrev words : Response
-  words = facts.encryption.response
+  abbrev response : Response
+  response = facts.encryption.response
 
-  hearing_leaves : (octets : List ℕ) → let header = header_in octets in
+  hearing_noted : (octets : List ℕ) → let header = header_in octets in let pdu = pdu_of octets in
       let now = facts_before_taking setup.link.role slot header facts in
-      (facts_hearing setup.link.role slot room header (pdu_of octets) facts).leaving
-      ≡ leaving_noted side number withheld words slot (notes_hearing setup slot room header (pdu_of octets) facts) (keyed_of now) now.leaving
-  hearing_leaves octets =
-      let role = setup.link.role in
+      leaving_noted side number withheld response slot (notes_hearing setup slot room header pdu facts) (keyed_of now) now.leaving
+      ≡ left_took (accepts room header pdu now) withheld response slot pdu (keyed_of now) now.leaving
+  hearing_noted octets =
       let handle = setup.link.handle in
+      let header = header_in octets in
+      let pdu = pdu_of octets in
+      let now = facts_before_taking setup.link.role slot header facts in
+      let accepted = accepts room header pdu now in
+      let takes = accepted && is_procedure_pdu pdu in
+      let given = given_if takes pdu slot now in
+      let kept = kept_given_if takes pdu slot now in
+      let later = given_notes handle given ++ given_notes handle kept in
+      done_first side number withheld response slot handle (acked_kind (acks_control (has_acknowledged facts header) facts) facts)
+      (took_notes_if (accepted && not (is_empty pdu)) handle pdu now ++ later) (keyed_of now) now.leaving
+      ∙ took_first side number withheld accepted response slot handle pdu now later (keyed_of now) now.leaving
+      (none_both side number (given_notes handle given) (given_notes handle kept) (given_none side number handle given) (given_none side number handle kept))
+
+  hearing_left : (octets : List ℕ) → let header = header_in octets in let pdu = pdu_of octets in
+      let now = facts_before_taking setup.link.role slot header facts in
+      (facts_hearing setup.link.role slot room header pdu facts).leaving
+      ≡ left_by (accepts room header pdu now && is_procedure_pdu pdu) response slot pdu (keyed_of now) now.leaving
+  hearing_left octets =
+      let role = setup.link.role in
       let header = header_in octets in
       let pdu = pdu_of octets in
       let now = facts_before_taking role slot header facts in
       let accepted = accepts room header pdu now in
       let takes = accepted && is_procedure_pdu pdu in
       let opened = accepted_if accepted pdu now in
-      let given = given_if takes pdu slot now in
-      let kept = kept_given_if takes pdu slot now in
-      let later = given_notes handle given ++ given_notes handle kept in
-      let k = keyed_of now in
       data_leaving (accepted && is_data pdu) (procedures_take_if takes pdu slot opened)
       ∙ taken_leaving takes pdu slot opened
       ∙ ap (λ (one : Taken). if takes then leaving_by (code_of one.effect) now.leaving else now.leaving) (accepted_gives accepted pdu slot now)
-      ∙ ap (λ response. left_by takes response slot pdu k now.leaving) (before_response role slot header facts)
-      ∙ sym (done_first side number withheld words slot handle (acked_kind (acks_control (has_acknowledged facts header) facts) facts)
-      (took_notes_if (accepted && not (is_empty pdu)) handle pdu now ++ later) k now.leaving
-      ∙ took_first side number withheld accepted (is_empty pdu) (is_control pdu) words slot handle pdu now later k now.leaving refl refl
-      (none_both side number (given_notes handle given) (given_notes handle kept) (given_none side number handle given) (given_none side number handle kept)))
+      ∙ ap (λ r. left_by takes r slot pdu (keyed_of now) now.leaving) (before_response role slot header facts)
+
+  -- with the answer at once that no line says
+  hearing_refuses : (octets : List ℕ) → let role = setup.link.role in let header = header_in octets in let pdu = pdu_of octets in
+      let now = facts_before_taking role slot header facts in
+      let heard = facts_hearing role slot room header pdu facts in
+      leaving_noted side number withheld response slot (notes_hearing setup slot room header pdu facts) (keyed_of now) now.leaving
+      ≡ leaving_refusing slot (keyed_of heard) (answer_where (accepts room header pdu now) (answer_by withheld response slot (keyed_of now) pdu)) heard.leaving
+  hearing_refuses octets =
+      let role = setup.link.role in
+      let header = header_in octets in
+      let pdu = pdu_of octets in
+      let now = facts_before_taking role slot header facts in
+      let accepted = accepts room header pdu now in
+      let answer = answer_where accepted (answer_by withheld response slot (keyed_of now) pdu) in
+      let moves : keyed_by_all (steps_accepted accepted response slot pdu) (keyed_of now) ≡ keyed_of (facts_hearing role slot room header pdu facts) =
+      ap (λ r. keyed_by_all (steps_accepted accepted r slot pdu) (keyed_of now)) (sym (before_response role slot header facts)) ∙ sym (accepted_moves accepted pdu slot now) in
+      hearing_noted octets ∙ (λ i. leaving_refusing slot (moves i) answer (sym (hearing_left octets) i))
+
+  pub packet_refuses : (octets pdu : List ℕ) → good_pdu setup facts octets ≡ Some pdu → let role = setup.link.role in let may = good_pdu setup facts octets in
+      let now = facts_before_taking role slot (header_in pdu) facts in
+      let after = facts_after setup facts (PacketReceived slot octets room) in
+      leaving_noted side number withheld response slot (notes_after setup facts (PacketReceived slot octets room)) (keyed_hearing role slot may facts) (leaving_hearing role slot may facts)
+      ≡ leaving_refusing slot (keyed_of after) (answer_where (accepts room (header_in pdu) (pdu_of pdu) now) (answer_by withheld response slot (keyed_of now) (pdu_of pdu))) after.leaving
+  packet_refuses octets pdu good =
+      let role = setup.link.role in
+      let now = facts_before_taking role slot (header_in pdu) facts in
+      let answer = answer_where (accepts room (header_in pdu) (pdu_of pdu) now) (answer_by withheld response slot (keyed_of now) (pdu_of pdu)) in
+      ap (λ may. leaving_noted side number withheld response slot (received_notes setup slot room may facts) (keyed_hearing role slot may facts) (leaving_hearing role slot may facts)) good
+      ∙ hearing_refuses pdu
+      ∙ ap (λ (f : Facts). leaving_refusing slot (keyed_of f) answer f.leaving) (sym (received_is setup facts slot octets pdu room good))
+
+-- where nothing is withheld from its host
+module _ (side : Side) (number slot : ℕ) (room : Bool) (setup : Setup) (facts : Facts) where
+  abbrev drawn_then : Response
+  drawn_then = facts.encryption.response
 
   received_leaves : (may : Option (List ℕ)) → let role = setup.link.role in
       (facts_received role slot room may facts).leaving
-      ≡ leaving_noted side number withheld words slot (received_notes setup slot room may facts) (keyed_hearing role slot may facts) (leaving_hearing role slot may facts)
+      ≡ leaving_noted side number nothing_withheld drawn_then slot (received_notes setup slot room may facts) (keyed_hearing role slot may facts) (leaving_hearing role slot may facts)
   received_leaves None = refl
-  received_leaves (Some octets) = hearing_leaves octets
+  received_leaves (Some octets) =
+      let header = header_in octets in
+      let pdu = pdu_of octets in
+      let now = facts_before_taking setup.link.role slot header facts in
+      let heard = facts_hearing setup.link.role slot room header pdu facts in
+      sym (hearing_refuses side number nothing_withheld slot room setup facts octets
+      ∙ ap (λ answer. leaving_refusing slot (keyed_of heard) answer heard.leaving) (none_answered (accepts room header pdu now) drawn_then slot (keyed_of now) pdu))
 
   pub packet_leaves : (octets : List ℕ) → let role = setup.link.role in let may = good_pdu setup facts octets in
       (facts_after setup facts (PacketReceived slot octets room)).leaving
-      ≡ leaving_noted side number withheld words slot (notes_after setup facts (PacketReceived slot octets room)) (keyed_hearing role slot may facts) (leaving_hearing role slot may facts)
+      ≡ leaving_noted side number nothing_withheld drawn_then slot (notes_after setup facts (PacketReceived slot octets room)) (keyed_hearing role slot may facts) (leaving_hearing role slot may facts)
   packet_leaves octets =
       forged_leaving (is_forged setup facts octets) (facts_received setup.link.role slot room (good_pdu setup facts octets) facts) ∙ received_leaves (good_pdu setup facts octets)
 
@@ -251,7 +335,7 @@ hearing_told slot setup facts before after last pdu told =
 
 -- ---- an end that enters an event, fixes its PDU, or sends
 
-entered_leaving : (goes : Bool) (setup : Setup) (slot : ℕ) (facts : Facts) → (facts_entered_if goes setup slot facts).leaving ≡ facts.leaving
+pub entered_leaving : (goes : Bool) (setup : Setup) (slot : ℕ) (facts : Facts) → (facts_entered_if goes setup slot facts).leaving ≡ facts.leaving
 entered_leaving true setup slot facts = refl
 entered_leaving false setup slot facts = refl
 

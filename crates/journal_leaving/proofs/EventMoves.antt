@@ -6,56 +6,75 @@ use Rattle.std.proofs.lemmas.List.{append_cancel_left}
 use Rattle.ble_base.specs.declared.notes.Note.{Note}
 use Rattle.ble_base.specs.declared.notes.Note.TheVariants.{Up}
 use Rattle.ble_base.specs.declared.roles.Side.{Side}
-use Rattle.journal_controls.specs.Withheld.{withheld_by}
+use Rattle.journal_controls.specs.Withheld.{Withheld, withheld_by}
+use Rattle.journal_controls.specs.controller_model.Facts.{Facts, Setup}
 use Rattle.journal_controls.specs.controller_model.Side.{notes_after}
-use Rattle.journal_controls.specs.controller_model.Step.{Step as Call}
+use Rattle.journal_controls.specs.controller_model.Step.{Step as Call, HostOctet}
 use Rattle.journal_controls.specs.host_masks.Masks.{masks_of}
 use Rattle.journal_controls.proofs.host_answers.LineAnswers.{IsQuiet}
 use Rattle.journal.specs.declared.entries.Entry.{Entry}
-use Rattle.journal.specs.declared.entries.Entry.TheVariants.{Fed, Turn}
-use Rattle.journal_controls.specs.KeyedLines.{drawn_by}
+use Rattle.journal.specs.declared.entries.Entry.TheVariants.{Fed, Took, Turn}
 use Rattle.journal_controls.specs.LineSteps.{is_more_acked, keyed_in_line, keyed_on, turn_now, withholds}
 use Rattle.journal_controls.specs.SaidLines.{NoneOpens, moved_by}
 use Rattle.journal_controls.specs.journal_acks.Carried.{carried_of}
 use Rattle.journal_controls.specs.journal_acks.Exchange.{exchange_of}
 use Rattle.journal_controls.specs.host_answers.Answered.{accepted_in}
-use Rattle.journal_controls.specs.journal_ends.Seen.{Hears, Says, heard_in_line}
+use Rattle.journal_controls.specs.journal_ends.Asked.{Words}
+use Rattle.journal_controls.specs.journal_ends.GivenWords.{AreKept}
+use Rattle.journal_controls.specs.journal_ends.Seen.{Hears, HearsForged, Says, heard_in_line}
 use Rattle.journal_controls.specs.journal_links.LinkLines.{link_named, lines_of, where_named}
 use Rattle.journal_controls.specs.link_model.Receiving.{leaving_acked_if}
 use Rattle.journal_controls.specs.link_model.Sending.{leaving_sent}
 use Rattle.journal_controls.specs.link_model.declared.state.Leaving.{Leaving}
 use Rattle.journal_controls.specs.link_model.keyed_control.Keyed.{Keyed}
+use Rattle.journal_controls.specs.link_model.keyed_control.declared.material.Response.{Response}
 use Rattle.journal_controls.specs.run_model.History.{Event, TurnBegan, HostFed, Called, Hearing, Noted, Transmitted}
 use Rattle.journal_controls.specs.run_model.Journal.{entries_of, entry_of, journal_of, mark_of, radio_in, side_of}
 use Rattle.journal_controls.specs.run_model.Links.{links_of}
 use Rattle.journal_controls.specs.run_model.Readers.{PairOpening, fed_in, fed_to_side, pair_openings_in, turns_of}
 use Rattle.journal_controls.specs.run_model.Run.{Given, after_call, facts_at, setup_at}
-use Rattle.journal_controls.proofs.EventMoves.{AnswersNone, air_line, aired, drawn_at, keyed_at, turn_at, withholds_at}
-use Rattle.journal_controls.proofs.LineFolds.{keyed_more, line_moves as line_keyed, moved_both}
-use Rattle.journal_controls.proofs.journal_ends.SeenEvents.{lines_at, note_hears, unaccepted_by, unasked_in}
+use Rattle.journal_controls.proofs.EarlyTakings.{AreGiven, IsEarly, early_given, early_none, taking_early}
+use Rattle.journal_controls.proofs.EventMoves.{AnswersNone, air_line, aired, drawn_at, is_taken, keyed_at, named_alike, note_takes, turn_at, withholds_at}
+use Rattle.journal_controls.proofs.LineFolds.{IsNamed, Others, Own, keyed_more, line_moves as line_keyed, moved_both, named_by}
+use Rattle.journal_controls.proofs.journal_acks.link_calls.CallNotes.{TakesNone, is_taking, none_taken, octet_noted}
+use Rattle.journal_controls.proofs.journal_ends.SeenEvents.{lines_at, note_hears, unaccepted_by, unanswered_in, unasked_in}
 use Rattle.journal_controls.proofs.journal_links.LinkLines.{line_more}
 use Rattle.journal_controls.proofs.run_model.Parts.{journal_event}
 use Rattle.journal_leaving.specs.Leaving.{acks_terminate, is_own_packet, leaving_after, leaving_on}
 use Rattle.journal_leaving.specs.Said.{leaving_said}
-use Rattle.journal_leaving.proofs.LineFolds.{heard_line, leaving_more, line_moves, own_line, quiet_line, said_both}
+use Rattle.journal_leaving.proofs.LineFolds.{forged_line, heard_line, leaving_more, line_moves, own_line, quiet_line, said_both}
 
 -- how an end is to leave its link, by the journal of a history
-abbrev pub leaving_at : ℕ → Side → List Event → Option Leaving
-leaving_at number side history = leaving_on side number (journal_of history)
+abbrev pub leaving_at : Words → ℕ → Side → List Event → Option Leaving
+leaving_at words number side history = leaving_on words side number (journal_of history)
 
--- lines of this turn, and no packet
-pub record IsMoving (number : ℕ) (side : Side) (history after : List Event) : Type 0 where
+-- lines of this turn, and no packet; for each PDU that is taken this would be drawn
+pub record IsMoving (words : Words) (response : Response) (number : ℕ) (side : Side) (history after : List Event) : Type 0 where
   pub more : List Entry
   pub lines : lines_at number side after ≡ lines_at number side history ++ more
   pub turns : turn_at after ≡ turn_at history
   pub withheld : withholds_at side after ≡ withholds_at side history
-  pub drawn : drawn_at side after ≡ drawn_at side history
-  pub keyed : (k : Keyed) → NoneOpens more → keyed_at number side history ≡ Some k
-      → keyed_at number side after ≡ Some (moved_by (withholds_at side history) (drawn_at side history) (turn_at history) more k)
-  pub leaving : (k : Keyed) (l : Leaving) → NoneOpens more → keyed_at number side history ≡ Some k → leaving_at number side history ≡ Some l
-      → leaving_at number side after ≡ Some (leaving_said (withholds_at side history) (drawn_at side history) (turn_at history) more k l)
+  pub keyed : (k : Keyed) → NoneOpens more → keyed_at words number side history ≡ Some k
+      → keyed_at words number side after ≡ Some (moved_by (withholds_at side history) response (turn_at history) more k)
+  pub leaving : (k : Keyed) (l : Leaving) → NoneOpens more → keyed_at words number side history ≡ Some k → leaving_at words number side history ≡ Some l
+      → leaving_at words number side after ≡ Some (leaving_said (withholds_at side history) response (turn_at history) more k l)
   -- where no line of the end comes, it is as it was
-  pub still : more ≡ [] → leaving_at number side after ≡ leaving_at number side history
+  pub still : more ≡ [] → leaving_at words number side after ≡ leaving_at words number side history
+
+-- only the line of a PDU that is taken looks at what would be drawn
+said_alike : (withheld : Withheld) (one other : Response) (slot : ℕ) (line : Entry) (k : Keyed) (l : Leaving) → (is_taken line ≡ true → one ≡ other)
+    → leaving_said withheld one slot (line ∷ []) k l ≡ leaving_said withheld other slot (line ∷ []) k l
+said_alike withheld one other slot (Took side link count llid body) k l same =
+    ap (λ response. leaving_said withheld response slot (Took side link count llid body ∷ []) k l) (same refl)
+said_alike withheld one other slot line k l same = refl
+
+leaves_alike : (withheld : Withheld) (one other : Response) (slot : ℕ) (line : Entry) (named : List Entry) (k : Keyed) (l : Leaving) → IsNamed line named
+    → (is_taken line ≡ true → one ≡ other) → leaving_said withheld one slot named k l ≡ leaving_said withheld other slot named k l
+leaves_alike withheld one other slot line named k l (Own is) same =
+    ap (λ lines. leaving_said withheld one slot lines k l) is ∙ said_alike withheld one other slot line k l same
+    ∙ sym (ap (λ lines. leaving_said withheld other slot lines k l) is)
+leaves_alike withheld one other slot line named k l (Others none) same =
+    ap (λ lines. leaving_said withheld one slot lines k l) none ∙ sym (ap (λ lines. leaving_said withheld other slot lines k l) none)
 
 first_none : (lines more : List Entry) → NoneOpens (lines ++ more) → NoneOpens lines
 first_none [] more none = tt
@@ -73,43 +92,42 @@ none_of : (lines more : List Entry) → lines ++ more ≡ [] → AreNone lines m
 none_of [] more is = record { first = refl; second = is }
 none_of (line ∷ lines) more is = absurd cc
 
-moving_then : (number : ℕ) (side : Side) (first second third : List Event) → IsMoving number side first second → IsMoving number side second third
-    → IsMoving number side first third
-moving_then number side first second third one next = record {
+moving_then : (words : Words) (response : Response) (number : ℕ) (side : Side) (first second third : List Event) → IsMoving words response number side first second
+    → IsMoving words response number side second third → IsMoving words response number side first third
+moving_then words response number side first second third one next = record {
   more = one.more ++ next.more;
   lines = next.lines ∙ ap (λ xs. xs ++ next.more) one.lines ∙ append_assoc (lines_at number side first) one.more next.more;
   turns = next.turns ∙ one.turns;
   withheld = next.withheld ∙ one.withheld;
-  drawn = next.drawn ∙ one.drawn;
   keyed = λ k none is.
       let slot = turn_at first in
       let held = withholds_at side first in
-      let words = drawn_at side first in
-      next.keyed (moved_by held words slot one.more k) (last_none one.more next.more none) (one.keyed k (first_none one.more next.more none) is)
-      ∙ (λ i. Some (moved_by (one.withheld i) (one.drawn i) (one.turns i) next.more (moved_by held words slot one.more k)))
-      ∙ ap Some (sym (moved_both held words slot one.more next.more k));
+      next.keyed (moved_by held response slot one.more k) (last_none one.more next.more none) (one.keyed k (first_none one.more next.more none) is)
+      ∙ (λ i. Some (moved_by (one.withheld i) response (one.turns i) next.more (moved_by held response slot one.more k)))
+      ∙ ap Some (sym (moved_both held response slot one.more next.more k));
   leaving = λ k l none is was.
       let slot = turn_at first in
       let held = withholds_at side first in
-      let words = drawn_at side first in
       let before = first_none one.more next.more none in
-      let then_k = moved_by held words slot one.more k in
-      let then_l = leaving_said held words slot one.more k l in
+      let then_k = moved_by held response slot one.more k in
+      let then_l = leaving_said held response slot one.more k l in
       next.leaving then_k then_l (last_none one.more next.more none) (one.keyed k before is) (one.leaving k l before is was)
-      ∙ (λ i. Some (leaving_said (one.withheld i) (one.drawn i) (one.turns i) next.more then_k then_l))
-      ∙ ap Some (sym (said_both held words slot one.more next.more k l));
+      ∙ (λ i. Some (leaving_said (one.withheld i) response (one.turns i) next.more then_k then_l))
+      ∙ ap Some (sym (said_both held response slot one.more next.more k l));
   still = λ none. let both = none_of one.more next.more none in next.still both.second ∙ one.still both.first;
 }
 
 -- an event with one line that begins no turn, is no packet, and is not of a host, nor answers it
-line_moving : (number : ℕ) (side : Side) (history : List Event) (event : Event) (line : Entry) → entries_of (links_of history) event ≡ line ∷ []
+line_moving : (words : Words) (response : Response) (number : ℕ) (side : Side) (history : List Event) (event : Event) (line : Entry) → entries_of (links_of history) event ≡ line ∷ []
     → heard_in_line side number (journal_of history) line ≡ [] → accepted_in side (journal_of history) line ≡ []
     → is_own_packet side number (journal_of history) line ≡ false → pair_openings_in line ≡ [] → fed_in side line ≡ []
-    → IsMoving number side history (history ++ event ∷ [])
-line_moving number side history event line is deaf unaccepted own begins feeds =
+    → (is_taken line ≡ true → drawn_at words side history ≡ response) → IsMoving words response number side history (history ++ event ∷ [])
+line_moving words response number side history event line is deaf unaccepted own begins feeds gives =
     let front = journal_of history in
-    let unasked = unasked_in side number front line unaccepted in
+    let unasked = unasked_in words side number front line unaccepted in
+    let unanswered = unanswered_in words side number front line unaccepted in
     let named = where_named side number (link_named line) line in
+    let name = named_by side number (link_named line) line in
     let journal = journal_event history event ∙ ap (λ xs. front ++ xs) is in record {
       more = named;
       lines = ap (λ xs. lines_of side number xs) journal ∙ line_more side number front line named (append-nil named);
@@ -117,16 +135,17 @@ line_moving number side history event line is deaf unaccepted own begins feeds =
           ∙ ap (λ (turns : List PairOpening). length turns - 1) (flat_map-append pair_openings_in front (line ∷ []) ∙ (λ i. turns_of front ++ (begins i ++ [])) ∙ append-nil (turns_of front));
       withheld = ap (withholds side) journal ∙ ap (λ octets. withheld_by (masks_of octets))
           (flat_map-append (fed_in side) front (line ∷ []) ∙ (λ i. fed_to_side side front ++ (feeds i ++ [])) ∙ append-nil (fed_to_side side front));
-      drawn = refl;
       keyed = λ k none was.
-          ap (keyed_on side number) journal ∙ keyed_more side number front line ∙ ap (λ before. keyed_in_line (drawn_by side) side number front before line) was
-          ∙ line_keyed side number front line k deaf unaccepted none;
+          ap (keyed_on words side number) journal ∙ keyed_more words side number front line ∙ ap (λ before. keyed_in_line words side number front before line) was
+          ∙ line_keyed words side number front line k deaf unaccepted none
+          ∙ ap Some (named_alike (withholds side front) (drawn_at words side history) response (turn_now front) line named k name gives);
       leaving = λ k l none keyed was.
-          ap (leaving_on side number) journal ∙ leaving_more side number front line ∙ ap (λ before. leaving_after side number front before line) was
-          ∙ line_moves side number front line k l deaf unasked own none keyed;
+          ap (leaving_on words side number) journal ∙ leaving_more words side number front line ∙ ap (λ before. leaving_after words side number front before line) was
+          ∙ line_moves words side number front line k l deaf unaccepted own none keyed
+          ∙ ap Some (leaves_alike (withholds side front) (drawn_at words side history) response (turn_now front) line named k l name gives);
       still = λ none.
-          ap (leaving_on side number) journal ∙ leaving_more side number front line
-          ∙ quiet_line side number front (leaving_on side number front) line (λ i. unasked i ++ (deaf i ++ map Says (none i))) own;
+          ap (leaving_on words side number) journal ∙ leaving_more words side number front line
+          ∙ quiet_line words side number front (leaving_on words side number front) line (λ i. unasked i ++ (deaf i ++ map Says (none i))) unanswered own;
     }
 
 note_sends : (number : ℕ) (side other : Side) (front : List Entry) (link_of : ℕ → ℕ) (last : ℕ) (note : Note) → is_own_packet side number front (entry_of other link_of last note) ≡ false
@@ -141,124 +160,157 @@ note_feeds : (side other : Side) (link_of : ℕ → ℕ) (last : ℕ) (note : No
 note_feeds side other link_of last (Up packet) = refl
 note_feeds side other link_of last note = refl
 
-note_moving : (number : ℕ) (side : Side) (history : List Event) (station : ℕ) (note : Note) → IsQuiet side station note
-    → IsMoving number side history (history ++ Noted station note ∷ [])
-note_moving number side history station note quiet =
+note_moving : (words : Words) (response : Response) (number : ℕ) (side : Side) (history : List Event) (station : ℕ) (note : Note) → IsQuiet side station note
+    → (is_taking note ≡ true → drawn_at words side history ≡ response) → IsMoving words response number side history (history ++ Noted station note ∷ [])
+note_moving words response number side history station note quiet gives =
     let links = links_of history in
     let front = journal_of history in
-    line_moving number side history (Noted station note) _ refl
+    line_moving words response number side history (Noted station note) _ refl
     (note_hears number side (side_of station) front (links.link_of station) (links.last_of station) note)
     (unaccepted_by side front _ (quiet (links.link_of station) (links.last_of station)))
     (note_sends number side (side_of station) front (links.link_of station) (links.last_of station) note)
     (note_begins (side_of station) (links.link_of station) (links.last_of station) note)
     (note_feeds side (side_of station) (links.link_of station) (links.last_of station) note)
+    (λ takes. gives (sym (note_takes (side_of station) (links.link_of station) (links.last_of station) note) ∙ takes))
 
-none_moving : (number : ℕ) (side : Side) (history after : List Event) → journal_of after ≡ journal_of history → IsMoving number side history after
-none_moving number side history after same = record {
+none_moving : (words : Words) (response : Response) (number : ℕ) (side : Side) (history after : List Event) → journal_of after ≡ journal_of history
+    → IsMoving words response number side history after
+none_moving words response number side history after same = record {
   more = [];
   lines = ap (λ xs. lines_of side number xs) same ∙ sym (append-nil (lines_at number side history));
   turns = ap turn_now same;
   withheld = ap (withholds side) same;
-  drawn = refl;
-  keyed = λ k none was. ap (keyed_on side number) same ∙ was;
-  leaving = λ k l none keyed was. ap (leaving_on side number) same ∙ was;
-  still = λ none. ap (leaving_on side number) same;
+  keyed = λ k none was. ap (keyed_on words side number) same ∙ was;
+  leaving = λ k l none keyed was. ap (leaving_on words side number) same ∙ was;
+  still = λ none. ap (leaving_on words side number) same;
 }
 
-notes_moving : (number : ℕ) (side : Side) (station : ℕ) (notes : List Note) (history after : List Event) → AllByRecursion (IsQuiet side station) notes
-    → after ≡ history ++ map (Noted station) notes → IsMoving number side history after
-notes_moving number side station [] history after quiet is = none_moving number side history after (ap journal_of (is ∙ append-nil history))
-notes_moving number side station (note ∷ notes) history after quiet is =
+notes_moving : (words : Words) (response : Response) (number : ℕ) (side : Side) (station : ℕ) (notes : List Note) (history after : List Event) → AllByRecursion (IsQuiet side station) notes
+    → AreGiven words side response station history notes → after ≡ history ++ map (Noted station) notes → IsMoving words response number side history after
+notes_moving words response number side station [] history after quiet gives is = none_moving words response number side history after (ap journal_of (is ∙ append-nil history))
+notes_moving words response number side station (note ∷ notes) history after quiet gives is =
     let next = history ++ Noted station note ∷ [] in
-    moving_then number side history next after (note_moving number side history station note quiet.0)
-    (notes_moving number side station notes next after quiet.1 (is ∙ sym (append_assoc history (Noted station note ∷ []) (map (Noted station) notes))))
+    moving_then words response number side history next after (note_moving words response number side history station note quiet.0 gives.0)
+    (notes_moving words response number side station notes next after quiet.1 gives.1 (is ∙ sym (append_assoc history (Noted station note ∷ []) (map (Noted station) notes))))
+
+-- what would be drawn as a PDU is taken in a call
+early : (setup : Setup) (facts : Facts) (step : Call) → IsEarly (notes_after setup facts step)
+early setup facts (HostOctet octet) = early_none _ (octet_noted TakesNone none_taken.starts.feeds setup facts octet)
+early setup facts step = taking_early setup facts step refl
+
+call_given : (words : Words) (given : Given) (side : Side) (station : ℕ) (step : Call) (history : List Event) → AreKept words
+    → AreGiven words side (drawn_at words side history) station (history ++ Called station step ∷ []) (notes_after (setup_at given station) (facts_at given station history) step)
+call_given words given side station step history kept =
+    let setup = setup_at given station in
+    let facts = facts_at given station history in
+    early_given words side (drawn_at words side history) station kept (notes_after setup facts step) (history ++ Called station step ∷ []) (early setup facts step)
+    (ap (words side) (journal_event history (Called station step) ∙ append-nil (journal_of history)))
+
+first_given : (words : Words) (side : Side) (response : Response) (station : ℕ) (history : List Event) (notes more : List Note)
+    → AreGiven words side response station history (notes ++ more) → AreGiven words side response station history notes
+first_given words side response station history [] more gives = tt
+first_given words side response station history (note ∷ notes) more gives =
+    (gives.0, first_given words side response station (history ++ Noted station note ∷ []) notes more gives.1)
 
 -- a call, with the notes of it so far
-pub part_moving : (number : ℕ) (side : Side) (station : ℕ) (step : Call) (notes : List Note) (history : List Event) → AllByRecursion (IsQuiet side station) notes
-    → IsMoving number side history (history ++ Called station step ∷ map (Noted station) notes)
-part_moving number side station step notes history quiet =
+pub part_moving : (words : Words) (given : Given) (number : ℕ) (side : Side) (station : ℕ) (step : Call) (notes more : List Note) (history : List Event) → AreKept words
+    → notes_after (setup_at given station) (facts_at given station history) step ≡ notes ++ more → AllByRecursion (IsQuiet side station) notes
+    → IsMoving words (drawn_at words side history) number side history (history ++ Called station step ∷ map (Noted station) notes)
+part_moving words given number side station step notes more history kept are quiet =
+    let response = drawn_at words side history in
     let called = history ++ Called station step ∷ [] in
     let after = history ++ Called station step ∷ map (Noted station) notes in
-    moving_then number side history called after
-    (none_moving number side history called (journal_event history (Called station step) ∙ append-nil (journal_of history)))
-    (notes_moving number side station notes called after quiet (sym (append_assoc history (Called station step ∷ []) (map (Noted station) notes))))
+    moving_then words response number side history called after
+    (none_moving words response number side history called (journal_event history (Called station step) ∙ append-nil (journal_of history)))
+    (notes_moving words response number side station notes called after quiet
+    (first_given words side response station called notes more (subst (AreGiven words side response station called) are (call_given words given side station step history kept)))
+    (sym (append_assoc history (Called station step ∷ []) (map (Noted station) notes))))
 
 -- and with all of them
-pub call_moving : (given : Given) (number : ℕ) (side : Side) (station : ℕ) (step : Call) (history : List Event) → AnswersNone given side station step history
-    → IsMoving number side history (after_call given station step history)
-call_moving given number side station step history quiet =
-    part_moving number side station step (notes_after (setup_at given station) (facts_at given station history) step) history quiet
+pub call_moving : (words : Words) (given : Given) (number : ℕ) (side : Side) (station : ℕ) (step : Call) (history : List Event) → AreKept words → AnswersNone given side station step history
+    → IsMoving words (drawn_at words side history) number side history (after_call given station step history)
+call_moving words given number side station step history kept quiet =
+    let notes = notes_after (setup_at given station) (facts_at given station history) step in
+    part_moving words given number side station step notes [] history kept (sym (append-nil notes)) quiet
 
 -- by the lines that it adds
-pub call_moves : (given : Given) (side : Side) (number station : ℕ) (step : Call) (history : List Event) (more : List Entry) (k : Keyed) (l : Leaving)
-    → AnswersNone given side station step history → lines_at number side (after_call given station step history) ≡ lines_at number side history ++ more → NoneOpens more
-    → keyed_at number side history ≡ Some k → leaving_at number side history ≡ Some l
-    → leaving_at number side (after_call given station step history) ≡ Some (leaving_said (withholds_at side history) (drawn_at side history) (turn_at history) more k l)
-call_moves given side number station step history more k l quiet lines none keyed was =
-    let moving = call_moving given number side station step history quiet in
+pub call_moves : (words : Words) (given : Given) (side : Side) (number station : ℕ) (step : Call) (history : List Event) (more : List Entry) (k : Keyed) (l : Leaving)
+    → AreKept words → AnswersNone given side station step history → lines_at number side (after_call given station step history) ≡ lines_at number side history ++ more → NoneOpens more
+    → keyed_at words number side history ≡ Some k → leaving_at words number side history ≡ Some l
+    → leaving_at words number side (after_call given station step history) ≡ Some (leaving_said (withholds_at side history) (drawn_at words side history) (turn_at history) more k l)
+call_moves words given side number station step history more k l kept quiet lines none keyed was =
+    let moving = call_moving words given number side station step history kept quiet in
     let same = append_cancel_left (lines_at number side history) moving.more more (sym moving.lines ∙ lines) in
-    moving.leaving k l (subst NoneOpens (sym same) none) keyed was ∙ ap (λ xs. Some (leaving_said (withholds_at side history) (drawn_at side history) (turn_at history) xs k l)) same
+    moving.leaving k l (subst NoneOpens (sym same) none) keyed was
+    ∙ ap (λ xs. Some (leaving_said (withholds_at side history) (drawn_at words side history) (turn_at history) xs k l)) same
 
 -- and by none
-pub call_stays : (given : Given) (number : ℕ) (side : Side) (station : ℕ) (step : Call) (history : List Event) → AnswersNone given side station step history
+pub call_stays : (words : Words) (given : Given) (number : ℕ) (side : Side) (station : ℕ) (step : Call) (history : List Event) → AreKept words → AnswersNone given side station step history
     → lines_at number side (after_call given station step history) ≡ lines_at number side history ++ []
-    → leaving_at number side (after_call given station step history) ≡ leaving_at number side history
-call_stays given number side station step history quiet lines =
-    let moving = call_moving given number side station step history quiet in
+    → leaving_at words number side (after_call given station step history) ≡ leaving_at words number side history
+call_stays words given number side station step history kept quiet lines =
+    let moving = call_moving words given number side station step history kept quiet in
     moving.still (append_cancel_left (lines_at number side history) moving.more [] (sym moving.lines ∙ lines))
 
 -- ---- events that are no call
 
 -- a turn begins
-pub turn_still : (number : ℕ) (side : Side) (history : List Event) (slot : ℕ) (radios : List Bool)
-    → leaving_at number side (history ++ TurnBegan slot radios ∷ []) ≡ leaving_at number side history
-turn_still number side history slot radios =
+pub turn_still : (words : Words) (number : ℕ) (side : Side) (history : List Event) (slot : ℕ) (radios : List Bool)
+    → leaving_at words number side (history ++ TurnBegan slot radios ∷ []) ≡ leaving_at words number side history
+turn_still words number side history slot radios =
     let front = journal_of history in
     let line = Turn slot (radio_in 0 radios) (Some (radio_in 1 radios)) in
-    ap (leaving_on side number) (journal_event history (TurnBegan slot radios)) ∙ leaving_more side number front line
-    ∙ quiet_line side number front (leaving_on side number front) line refl refl
+    ap (leaving_on words side number) (journal_event history (TurnBegan slot radios)) ∙ leaving_more words side number front line
+    ∙ quiet_line words side number front (leaving_on words side number front) line refl refl refl
 
 -- a host sends
-pub feed_still : (number : ℕ) (side : Side) (history : List Event) (station : ℕ) (octets : List ℕ)
-    → leaving_at number side (history ++ HostFed station octets ∷ []) ≡ leaving_at number side history
-feed_still number side history station octets =
+pub feed_still : (words : Words) (number : ℕ) (side : Side) (history : List Event) (station : ℕ) (octets : List ℕ)
+    → leaving_at words number side (history ++ HostFed station octets ∷ []) ≡ leaving_at words number side history
+feed_still words number side history station octets =
     let front = journal_of history in
     let line = Fed (side_of station) octets in
-    ap (leaving_on side number) (journal_event history (HostFed station octets)) ∙ leaving_more side number front line
-    ∙ quiet_line side number front (leaving_on side number front) line refl refl
+    ap (leaving_on words side number) (journal_event history (HostFed station octets)) ∙ leaving_more words side number front line
+    ∙ quiet_line words side number front (leaving_on words side number front) line refl refl refl
 
 -- ---- a packet is on the air
 
-module _ (number : ℕ) (side : Side) (history : List Event) (station channel : ℕ) (octets : List ℕ) (hearing : Hearing) where
+module _ (words : Words) (number : ℕ) (side : Side) (history : List Event) (station channel : ℕ) (octets : List ℕ) (hearing : Hearing) where
   abbrev after : List Event
-  after = aired number side history station channel octets hearing
+  after = aired words number side history station channel octets hearing
 
   journal_aired : journal_of after ≡ journal_of history ++ air_line station channel octets hearing ∷ []
   journal_aired = journal_event history (Transmitted station channel octets (hearing ∷ []))
 
-  after_air : leaving_at number side after ≡ leaving_after side number (journal_of history) (leaving_at number side history) (air_line station channel octets hearing)
-  after_air = ap (leaving_on side number) journal_aired ∙ leaving_more side number (journal_of history) (air_line station channel octets hearing)
+  after_air : leaving_at words number side after ≡ leaving_after words side number (journal_of history) (leaving_at words number side history) (air_line station channel octets hearing)
+  after_air = ap (leaving_on words side number) journal_aired ∙ leaving_more words side number (journal_of history) (air_line station channel octets hearing)
 
   -- the end neither hears it nor sends it
   pub other_still : heard_in_line side number (journal_of history) (air_line station channel octets hearing) ≡ []
-      → is_own_packet side number (journal_of history) (air_line station channel octets hearing) ≡ false → leaving_at number side after ≡ leaving_at number side history
+      → is_own_packet side number (journal_of history) (air_line station channel octets hearing) ≡ false → leaving_at words number side after ≡ leaving_at words number side history
   other_still none own =
-      after_air ∙ quiet_line side number (journal_of history) (leaving_at number side history) (air_line station channel octets hearing) (ap (λ xs. xs ++ []) none) own
+      after_air ∙ quiet_line words side number (journal_of history) (leaving_at words number side history) (air_line station channel octets hearing) (ap (λ xs. xs ++ []) none) refl own
 
   -- it sends it
-  pub own_moves : (l : Leaving) → is_own_packet side number (journal_of history) (air_line station channel octets hearing) ≡ true → leaving_at number side history ≡ Some l
-      → leaving_at number side after ≡ Some (leaving_sent l)
+  pub own_moves : (l : Leaving) → is_own_packet side number (journal_of history) (air_line station channel octets hearing) ≡ true → leaving_at words number side history ≡ Some l
+      → leaving_at words number side after ≡ Some (leaving_sent l)
   own_moves l own was =
-      after_air ∙ ap (λ before. leaving_after side number (journal_of history) before (air_line station channel octets hearing)) was
-      ∙ own_line side number (journal_of history) (side_of station) channel octets (mark_of hearing.fate) hearing.verdict l own
+      after_air ∙ ap (λ before. leaving_after words side number (journal_of history) before (air_line station channel octets hearing)) was
+      ∙ own_line words side number (journal_of history) (side_of station) channel octets (mark_of hearing.fate) hearing.verdict l own
 
   -- it hears it
   pub heard_moves : (slot : ℕ) (heard : List ℕ) (l : Leaving) → heard_in_line side number (journal_of history) (air_line station channel octets hearing) ≡ Hears slot heard ∷ []
-      → leaving_at number side history ≡ Some l
-      → leaving_at number side after
+      → leaving_at words number side history ≡ Some l
+      → leaving_at words number side after
       ≡ Some (leaving_acked_if (acks_terminate (is_more_acked (exchange_of number (journal_of history) side) (exchange_of number (journal_of after) side)) (carried_of number (journal_of history) side)) l)
   heard_moves slot heard l is was =
-      after_air ∙ ap (λ before. leaving_after side number (journal_of history) before (air_line station channel octets hearing)) was
-      ∙ heard_line side number (journal_of history) (side_of station) channel octets (mark_of hearing.fate) hearing.verdict l slot heard is
+      after_air ∙ ap (λ before. leaving_after words side number (journal_of history) before (air_line station channel octets hearing)) was
+      ∙ heard_line words side number (journal_of history) (side_of station) channel octets (mark_of hearing.fate) hearing.verdict l slot heard is
       ∙ ap (λ lines. Some (leaving_acked_if (acks_terminate (is_more_acked (exchange_of number (journal_of history) side) (exchange_of number lines side)) (carried_of number (journal_of history) side)) l))
       (sym journal_aired)
+
+  -- and judges it forged
+  pub forged_still : (l : Leaving) → heard_in_line side number (journal_of history) (air_line station channel octets hearing) ≡ HearsForged ∷ []
+      → leaving_at words number side history ≡ Some l → leaving_at words number side after ≡ Some l
+  forged_still l is was =
+      after_air ∙ ap (λ before. leaving_after words side number (journal_of history) before (air_line station channel octets hearing)) was
+      ∙ forged_line words side number (journal_of history) (side_of station) channel octets (mark_of hearing.fate) hearing.verdict l is

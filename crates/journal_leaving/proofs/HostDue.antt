@@ -1,10 +1,10 @@
 -- What a host asks of an end before a turn leaves the reason for which the end is to end as the turn begins.
-use Rattle.std.proofs.Common.{◌≡◌, ℕ, ◌≤◌, Bool, true, false, Option, Some, List, is_some, refl, sym, ap, subst, ◌∙◌}
+use Rattle.std.proofs.Common.{◌≡◌, ℕ, ◌≤◌, Bool, true, false, Option, Some, None, List, is_some, refl, sym, ap, subst, ◌∙◌}
 use Rattle.std.specs.Prelude.{IfSome, ⊤}
 use Rattle.ble_base.specs.declared.roles.Role.{Role}
 use Rattle.ble_base.specs.declared.roles.Role.TheVariants.{Central, Peripheral}
 use Rattle.hci_cmd.specs.declared.command.Command.{Command}
-use Rattle.hci_cmd.specs.declared.command.Command.TheVariants.{Disconnect, LeReadRemoteFeatures, LeSetChannels, ReadRemoteVersion}
+use Rattle.hci_cmd.specs.declared.command.Command.TheVariants.{Disconnect, LeKeyNegative, LeKeyReply, LeReadRemoteFeatures, LeSetChannels, ReadRemoteVersion}
 use Rattle.journal_controls.specs.controller_model.Commands.{moment_of}
 use Rattle.journal_controls.specs.controller_model.Facts.{Setup as StationSetup}
 use Rattle.journal_controls.specs.controller_model.Side.{facts_of as station_after}
@@ -15,8 +15,7 @@ use Rattle.journal_controls.proofs.controller_model.Asked.{IsAskedStep}
 use Rattle.journal_controls.specs.journal_acks.link_calls.Hosts.{HasHeardHost, GetsData, IsAsked, Unchanged}
 use Rattle.journal_controls.specs.link_model.End.{facts_after}
 use Rattle.journal_controls.specs.link_model.Facts.{Facts as EndFacts, params_of}
-use Rattle.journal_controls.specs.link_model.Hosts.{facts_disconnected, is_to_come}
-use Rattle.journal_controls.specs.link_model.Plain.{IsPlain}
+use Rattle.journal_controls.specs.link_model.Hosts.{ends_without_key, facts_disconnected, facts_key_answered, is_to_come}
 use Rattle.journal_controls.specs.link_model.Setup.{Setup}
 use Rattle.journal_controls.specs.link_model.Step.{Step, DataGiven, Disconnected, KeyAnswered, ProcedureAsked, RequestAnswered}
 use Rattle.journal_controls.specs.link_model.Times.{due_of}
@@ -27,14 +26,14 @@ use Rattle.journal_controls.specs.open_links.OpenLinks.{OpenLink, facts_in, link
 use Rattle.journal_controls.specs.open_links.Turns.{due_in}
 use Rattle.journal_controls.proofs.journal_acks.link_calls.HostSteps.{asked_is_well}
 use Rattle.journal_controls.proofs.journal_ends.run_laws.Agreed.{step_facts}
-use Rattle.journal_controls.proofs.link_model.Plain.{past_plain}
-use Rattle.journal_leaving.proofs.DueReasons.{answer_due, asked_due, disconnect_due}
-use Rattle.journal_leaving.proofs.NoKeys.{key_changes_none}
+use Rattle.journal_leaving.proofs.ClosedEnds.{not_leaving}
+use Rattle.journal_leaving.proofs.DueReasons.{answer_due, asked_due, disconnect_due, key_due}
 
--- ---- the slot in which a host ends a link
+-- ---- the slot in which a host ends a link, or has a key or none
 
 abbrev EndsIn : ℕ → Step → Type 0
 EndsIn slot (Disconnected reason at) = at ≡ slot
+EndsIn slot (KeyAnswered key at) = at ≡ slot
 EndsIn slot step = ⊤
 
 unless_known : (slot : ℕ) (known : Bool) (ask : Ask) → IfSome (ask_unless known ask) (EndsIn slot)
@@ -50,6 +49,8 @@ step_in (Disconnect given reason) moment role peer = refl
 step_in (ReadRemoteVersion given) moment role peer = unless_known moment.slot (is_some peer.version) Version
 step_in (LeReadRemoteFeatures given) moment role peer = unless_known moment.slot (is_some peer.features) Features
 step_in (LeSetChannels map) moment role peer = map_given moment.slot role map
+step_in (LeKeyReply given key) moment role peer = refl
+step_in (LeKeyNegative given) moment role peer = refl
 step_in other moment role peer = tt
 
 about_in : (about : Bool) (may : Option Step) (step : Step) (slot : ℕ) → IfSome may (EndsIn slot) → step_if_about about may ≡ Some step → EndsIn slot step
@@ -58,14 +59,17 @@ about_in false may step slot ends is = absurd cc
 
 -- ---- what is due stays due
 
-host_due : (setup : Setup) (facts : EndFacts) (step : Step) (slot : ℕ) → IsAskedStep step → EndsIn slot step → IsPlain setup.link.role facts → 1 ≤ (params_of facts).timeout
-    → due_of setup (facts_after setup facts step) slot ≡ due_of setup facts slot
-host_due setup facts (ProcedureAsked ask) slot by_host at plain some = asked_due (is_to_come ask facts) setup facts ask slot
-host_due setup facts (RequestAnswered answer) slot by_host at plain some = answer_due setup facts answer slot
-host_due setup facts (KeyAnswered key now) slot by_host at plain some = ap (λ (f : EndFacts). due_of setup f slot) (key_changes_none setup facts key now plain)
-host_due setup facts (Disconnected reason now) slot by_host at plain some =
+host_due : (setup : Setup) (facts : EndFacts) (step : Step) (slot : ℕ) → IsAskedStep step → EndsIn slot step → (ends_without_key None facts ≡ true → facts.leaving.disconnected ≡ None)
+    → 1 ≤ (params_of facts).timeout → due_of setup (facts_after setup facts step) slot ≡ due_of setup facts slot
+host_due setup facts (ProcedureAsked ask) slot by_host at none some = asked_due (is_to_come ask facts) setup facts ask slot
+host_due setup facts (RequestAnswered answer) slot by_host at none some = answer_due setup facts answer slot
+host_due setup facts (KeyAnswered None now) slot by_host at none some =
+    ap (λ (n : ℕ). due_of setup (facts_key_answered None n facts) slot) at ∙ key_due setup facts None slot none some
+host_due setup facts (KeyAnswered (Some ltk) now) slot by_host at none some =
+    ap (λ (n : ℕ). due_of setup (facts_key_answered (Some ltk) n facts) slot) at ∙ key_due setup facts (Some ltk) slot (λ ends. absurd cc) some
+host_due setup facts (Disconnected reason now) slot by_host at none some =
     ap (λ (n : ℕ). due_of setup (facts_disconnected reason n facts) slot) at ∙ disconnect_due setup facts reason slot some
-host_due setup facts other slot by_host at plain some = absurd by_host
+host_due setup facts other slot by_host at none some = absurd by_host
 
 -- where an end was due to each link that was there under its handle, it is due to the link that is there; the timeout of an
 -- open end is not 0
@@ -85,4 +89,4 @@ octet_due setup past octet handle slot now (IsAsked link command step was accept
     is link was
     ∙ sym (ap (due_in slot) same ∙ ap (λ (f : EndFacts). due_of link.setup f slot) (step_facts link step)
     ∙ host_due link.setup (facts_in link) step slot (asked_is_well setup facts octet handle command role peer step accepted asks).by_host
-    (subst (λ (n : ℕ). EndsIn n step) begun at) (past_plain link.setup link.past) (timed link was))
+    (subst (λ (n : ℕ). EndsIn n step) begun at) (not_leaving link.setup link.past) (timed link was))

@@ -9,12 +9,13 @@ use Rattle.journal_controls.specs.controller_model.Side.{facts_after, facts_of, 
 use Rattle.journal_controls.specs.controller_model.Step.{Step as Call, HostOctet, NothingHeard, PacketHeard, TurnBegins, TurnEnds}
 use Rattle.journal_controls.specs.controller_model.declared.doing.Doing.TheVariants.{Rests}
 use Rattle.journal_controls.specs.controller_model.declared.doing.Turn.{Turn}
-use Rattle.journal_controls.specs.host_answers.Calls.{answered_after}
 use Rattle.journal_controls.specs.host_masks.Masks.{view_masks}
 use Rattle.journal_controls.proofs.host_masks.LineMasks.{line_masks}
 use Rattle.radio_replay.specs.declared.fates.Fate.{Fate}
 use Rattle.journal_controls.specs.journal_acks.Exchange.{is_number}
 use Rattle.journal_controls.specs.journal_acks.link_calls.Uses.{listens_under, sends_under}
+use Rattle.journal_controls.specs.journal_ends.Asked.{Words}
+use Rattle.journal_controls.specs.journal_ends.GivenWords.{GivesWords, draws_in_call}
 use Rattle.journal_controls.specs.journal_packets.Belonging.{is_side, link_of_packet}
 use Rattle.journal_controls.specs.link_model.Facts.{keyed_of}
 use Rattle.journal_controls.specs.link_model.Step.{PacketSent}
@@ -41,7 +42,6 @@ use Rattle.journal_controls.proofs.journal_acks.Known.{known_of}
 use Rattle.journal_controls.proofs.journal_acks.Standing.{PhasedBy, last_phase, listens_wanted, other_sends, phased_at, sends_on, sends_other, silent_sends}
 use Rattle.journal_controls.proofs.journal_acks.TwoStations.{IsOfTwo, hearing_of, one_hearing, other_is, other_of, same_number, side_same}
 use Rattle.journal_controls.proofs.journal_acks.link_calls.CallNotes.{OpensNone, begin_noted, end_noted, opening_none}
-use Rattle.journal_controls.proofs.journal_acks.link_calls.UnderHandles.{host_under}
 use Rattle.journal_controls.proofs.journal_ends.EndsKnown.{AreLined, begun_at, lined_at}
 use Rattle.journal_controls.proofs.journal_ends.KeptSeen.{AreFed as AreSeenFed, AreSeenAt, apart_from, begin_fed, first_fed, lined_next, lined_octet, octet_asks, octet_fed as seen_fed, octet_next}
 use Rattle.journal_controls.proofs.journal_ends.SeenCalls.{IsSeenAt, held_at, moved as seen_moved, whole as seen_whole}
@@ -75,13 +75,13 @@ use Rattle.journal_leaving.proofs.StayingLinks.{AreStaying, staying_first, stayi
 -- ---- what is kept
 
 -- each open end of a station is to leave its link as the station holds it
-abbrev pub AreLeftOf : Given → List Event → ℕ → Type 0
-AreLeftOf given history station =
+abbrev pub AreLeftOf : Words → Given → List Event → ℕ → Type 0
+AreLeftOf words given history station =
     is_in station given.stations ≡ true → (handle : ℕ) (link : OpenLink) → link_at handle (facts_at given station history).links ≡ Some link
-    → leaving_at (number_at station handle history) (side_of station) history ≡ Some (facts_in link).leaving
+    → leaving_at words (number_at station handle history) (side_of station) history ≡ Some (facts_in link).leaving
 
-abbrev pub AreLeft : Given → List Event → Type 0
-AreLeft given history = (station : ℕ) → AreLeftOf given history station
+abbrev pub AreLeft : Words → Given → List Event → Type 0
+AreLeft words given history = (station : ℕ) → AreLeftOf words given history station
 
 -- none is to leave it as the turn ends
 abbrev pub AllStay : Given → List Event → Type 0
@@ -90,10 +90,10 @@ AllStay given history =
     → ending_in link ≡ None
 
 -- before a call, it is that as the packet of the call has reached the end
-abbrev pub IsLeftBefore : Given → List Event → ℕ → Call → Type 0
-IsLeftBefore given before station step =
+abbrev pub IsLeftBefore : Words → Given → List Event → ℕ → Call → Type 0
+IsLeftBefore words given before station step =
     is_in station given.stations ≡ true → (handle : ℕ) (link : OpenLink) → link_at handle (facts_at given station before).links ≡ Some link
-    → leaving_at (number_at station handle before) (side_of station) before ≡ Some (leaving_next handle (facts_at given station before) step link)
+    → leaving_at words (number_at station handle before) (side_of station) before ≡ Some (leaving_next handle (facts_at given station before) step link)
 
 -- as a turn begins, each open end is one of its link
 abbrev pub BegunBefore : Given → List Event → ℕ → Call → Type 0
@@ -104,40 +104,40 @@ BegunBefore given before station (PacketHeard octets) = Unit {0}
 BegunBefore given before station NothingHeard = Unit {0}
 BegunBefore given before station TurnEnds = Unit {0}
 
-abbrev pub LeftBefore : Given → List Event → Event → Type 0
-LeftBefore given before (TurnBegan slot radios) = AreLeft given before × AllStay given before
-LeftBefore given before (Called station step) = IsLeftBefore given before station step × BegunBefore given before station step
-LeftBefore given before (HostFed station octets) = Unit {0}
-LeftBefore given before (Noted station note) = Unit {0}
-LeftBefore given before (Transmitted station channel octets hearings) = Unit {0}
+abbrev pub LeftBefore : Words → Given → List Event → Event → Type 0
+LeftBefore words given before (TurnBegan slot radios) = AreLeft words given before × AllStay given before
+LeftBefore words given before (Called station step) = IsLeftBefore words given before station step × BegunBefore given before station step
+LeftBefore words given before (HostFed station octets) = Unit {0}
+LeftBefore words given before (Noted station note) = Unit {0}
+LeftBefore words given before (Transmitted station channel octets hearings) = Unit {0}
 
-pub record AreLeftAt (given : Given) (place : Place) (history : List Event) : Type 0 where
-  pub controls : AreControlledAt given place history
-  pub left : AreLeftSo given history (unsent place) (λ station. packet_received station history)
-  pub each : Each (LeftBefore given) [] history
+pub record AreLeftAt (words : Words) (given : Given) (place : Place) (history : List Event) : Type 0 where
+  pub controls : AreControlledAt words given place history
+  pub left : AreLeftSo words given history (unsent place) (λ station. packet_received station history)
+  pub each : Each (LeftBefore words given) [] history
 
 -- where a station neither sends nor has received anything, all its ends are as they were
-whole_at : (given : Given) (history : List Event) (unsent : ℕ → Bool) (received : ℕ → Option (List ℕ)) (station handle : ℕ) (link : OpenLink) → is_in station given.stations ≡ true
+whole_at : (words : Words) (given : Given) (history : List Event) (unsent : ℕ → Bool) (received : ℕ → Option (List ℕ)) (station handle : ℕ) (link : OpenLink) → is_in station given.stations ≡ true
     → link_at handle (facts_at given station history).links ≡ Some link → (unsent station && sends_under handle (facts_at given station history).turn.doing) ≡ false
     → (listens_under handle (facts_at given station history).turn.doing ≡ true → received station ≡ None)
-    → AreLeftSo given history unsent received → leaving_at (number_at station handle history) (side_of station) history ≡ Some (facts_in link).leaving
-whole_at given history unsent received station handle link in_it at sent none are =
-    whole (unsent station) (received station) handle (facts_at given station history).turn link (number_at station handle history) (side_of station) history sent none
+    → AreLeftSo words given history unsent received → leaving_at words (number_at station handle history) (side_of station) history ≡ Some (facts_in link).leaving
+whole_at words given history unsent received station handle link in_it at sent none are =
+    whole words (unsent station) (received station) handle (facts_at given station history).turn link (number_at station handle history) (side_of station) history sent none
     (are station handle link in_it at)
 
 -- a call in which nothing is heard
-whole_before : (given : Given) (history : List Event) (unsent : ℕ → Bool) (received : ℕ → Option (List ℕ)) (station : ℕ) (step : Call)
+whole_before : (words : Words) (given : Given) (history : List Event) (unsent : ℕ → Bool) (received : ℕ → Option (List ℕ)) (station : ℕ) (step : Call)
     → ((handle : ℕ) (facts : Facts) (link : OpenLink) → leaving_next handle facts step link ≡ (facts_in link).leaving)
     → ((handle : ℕ) → (unsent station && sends_under handle (facts_at given station history).turn.doing) ≡ false) → received station ≡ None
-    → AreLeftSo given history unsent received → IsLeftBefore given history station step
-whole_before given history unsent received station step deaf sent none are = λ in_it handle link at.
-    whole_at given history unsent received station handle link in_it at (sent handle) (λ on. none) are ∙ ap Some (sym (deaf handle (facts_at given station history) link))
+    → AreLeftSo words given history unsent received → IsLeftBefore words given history station step
+whole_before words given history unsent received station step deaf sent none are = λ in_it handle link at.
+    whole_at words given history unsent received station handle link in_it at (sent handle) (λ on. none) are ∙ ap Some (sym (deaf handle (facts_at given station history) link))
 
 -- a call, and all that is noted in it
-call_each : (given : Given) (station : ℕ) (step : Call) (history : List Event) → Each (LeftBefore given) [] history → BegunBefore given history station step
-    → IsLeftBefore given history station step → Each (LeftBefore given) [] (after_call given station step history)
-call_each given station step history each begun is =
-    each_called (LeftBefore given) station step (notes_after (setup_at given station) (facts_at given station history) step) history each (is, begun) (λ before note. tt)
+call_each : (words : Words) (given : Given) (station : ℕ) (step : Call) (history : List Event) → Each (LeftBefore words given) [] history → BegunBefore given history station step
+    → IsLeftBefore words given history station step → Each (LeftBefore words given) [] (after_call given station step history)
+call_each words given station step history each begun is =
+    each_called (LeftBefore words given) station step (notes_after (setup_at given station) (facts_at given station history) step) history each (is, begun) (λ before note. tt)
 
 any_passes : (given : Given) (history : List Event) (station : ℕ) (received : Option (List ℕ)) → BegunBefore given history station (step_of received)
 any_passes given history station None = tt
@@ -168,33 +168,33 @@ abbrev AllUnsent : ℕ → Bool
 AllUnsent station = true
 
 -- between two turns no station sends
-pub all_left : (given : Given) (history : List Event) → AreLeftAt given NoTurn history → AreLeft given history
-all_left given history has = λ station in_it handle link at.
+pub all_left : (words : Words) (given : Given) (history : List Event) → AreLeftAt words given NoTurn history → AreLeft words given history
+all_left words given history has = λ station in_it handle link at.
     let holds = has.controls.seen.holds in
     let rests = (phased_at given NoTurn history holds.hearing.stand station in_it).phase in
-    whole_at given history AllUnsent (λ one. packet_received one history) station handle link in_it at (ap (sends_under handle) rests) (λ on. holds.hearing.hears station in_it) has.left
+    whole_at words given history AllUnsent (λ one. packet_received one history) station handle link in_it at (ap (sends_under handle) rests) (λ on. holds.hearing.hears station in_it) has.left
 
-pub all_stay : (given : Given) (history : List Event) → AreLeftAt given NoTurn history → AllStay given history
-all_stay given history has = λ station in_it handle link at.
+pub all_stay : (words : Words) (given : Given) (history : List Event) → AreLeftAt words given NoTurn history → AllStay given history
+all_stay words given history has = λ station in_it handle link at.
     let setup = setup_at given station in
     turned setup AreStaying (staying_kept setup) (past_of station history) (stands_at NoTurn station (turns_begun history)) (staying_first setup)
     (has.controls.seen.holds.hearing.stand station in_it) handle link at
 
-module _ (heard_whole : IsHeardWhole) (understood : IsUnderstood) (taken : AreTaken) (nth : AreNth) (apart : AreApart) (given : Given) (are_two : IsOfTwo given)
-    (six : HaveAddresses given) where
+module _ (words : Words) (heard_whole : IsHeardWhole) (understood : IsUnderstood) (taken : AreTaken) (nth : AreNth) (apart : AreApart) (given : Given) (are_two : IsOfTwo given)
+    (six : HaveAddresses given) (gives : GivesWords given words) where
   -- what an end is before a call
   keyed_in : (history notes rest : List Event) (station : ℕ) (step : Call) → history_of (run_of given) ≡ (history ++ Called station step ∷ notes) ++ rest
-      → IsControlledBefore given history station step
+      → IsControlledBefore words given history station step
   keyed_in history notes rest station step at =
-      keyed_before_call heard_whole understood taken nth apart given are_two six history (notes ++ rest) station step (at ∙ append_assoc history (Called station step ∷ notes) rest)
+      keyed_before_call words heard_whole understood taken nth apart given are_two six gives history (notes ++ rest) station step (at ∙ append_assoc history (Called station step ∷ notes) rest)
 
   -- ---- what a host sends
 
   record AreFed (station begun : ℕ) (history : List Event) : Type 0 where
     rests : (facts_at given station history).turn.doing ≡ Rests
-    left : AreLeftSo given history AllUnsent NoneReceived
-    each : Each (LeftBefore given) [] history
-    seen : AreSeenFed understood taken nth apart given are_two six station begun history
+    left : AreLeftSo words given history AllUnsent NoneReceived
+    each : Each (LeftBefore words given) [] history
+    seen : AreSeenFed words understood taken nth apart given are_two six station begun history
 
   octet_fed : (station octet begun : ℕ) (history rest : List Event) → is_in station given.stations ≡ true
       → history_of (run_of given) ≡ history ++ Called station (HostOctet octet) ∷ rest → AreLined given history → AreLined given (after_call given station (HostOctet octet) history)
@@ -204,22 +204,23 @@ module _ (heard_whole : IsHeardWhole) (understood : IsUnderstood) (taken : AreTa
       let setup = setup_at given station in
       let facts = facts_at given station history in
       let side = side_of station in
+      let words_are = gives.gives history rest station step refl at in
       let rests = ap (λ (f : Facts). f.turn.doing) (own_facts given station step history) ∙ ap (λ (turn : Turn). turn.doing) (octet_turn setup facts octet).turn ∙ fed.rests in record {
         rests = rests;
-        left = left_call given station step history AllUnsent AllUnsent NoneReceived NoneReceived (apart_from understood taken nth apart given are_two six station in_it) lined lined_after
+        left = left_call words given station step history AllUnsent AllUnsent NoneReceived NoneReceived (apart_from words understood taken nth apart given are_two six station in_it) gives.kept lined lined_after
             (λ handle link held.
             let number = number_at station handle history in
-            let asks = octet_asks understood taken nth apart given are_two six station octet begun history rest in_it at lined lined_after fed.seen handle link held in
-            asked_own given station step history in_it lined lined_after handle link held None refl asks.number asks.base asks.was
-            (call_asks given side number station step history asks.is.asked (facts_in asks.base).leaving asks.lines
-            (whole_at given history AllUnsent NoneReceived station handle asks.base in_it asks.was (ap (sends_under handle) fed.rests) (λ on. refl) fed.left)
-            ∙ ap Some (end_asked handle facts.turn.begun (answered_after facts step) asks.base link asks.is side number (setup_at given station) facts octet asks.was
-            (host_under setup facts octet handle link (held_at given station step history in_it lined lined_after handle link held))))
+            let asks = octet_asks words understood taken nth apart given are_two six station octet begun history rest in_it at words_are lined lined_after fed.seen handle link held in
+            asked_own words given station step history in_it lined lined_after handle link held None refl asks.number asks.base asks.was
+            (call_asks words given side number station step history asks.is.asked (keyed_of (facts_in asks.base)) (facts_in asks.base).leaving asks.lines asks.answers
+            (keyed_before_call words heard_whole understood taken nth apart given are_two six gives history rest station step at in_it handle asks.base asks.was)
+            (whole_at words given history AllUnsent NoneReceived station handle asks.base in_it asks.was (ap (sends_under handle) fed.rests) (λ on. refl) fed.left)
+            ∙ ap Some (end_asked asks.base link asks.is.asked asks.is.by_host asks.is.leaving_is))
             (ap (sends_under handle) rests))
             (λ other is_too differs. refl) (λ other is_too differs. refl) fed.left;
-        each = call_each given station step history fed.each tt
-            (whole_before given history AllUnsent NoneReceived station step (λ handle held link. refl) (λ handle. ap (sends_under handle) fed.rests) refl fed.left);
-        seen = seen_fed understood taken nth apart given are_two six station octet begun history rest in_it at lined lined_after fed.seen;
+        each = call_each words given station step history fed.each tt
+            (whole_before words given history AllUnsent NoneReceived station step (λ handle held link. refl) (λ handle. ap (sends_under handle) fed.rests) refl fed.left);
+        seen = seen_fed words understood taken nth apart given are_two six station octet begun history rest in_it at words_are lined lined_after fed.seen;
       }
 
   octets_fed : (station : ℕ) (octets : List ℕ) (begun : ℕ) (history rest : List Event) → is_in station given.stations ≡ true
@@ -231,8 +232,8 @@ module _ (heard_whole : IsHeardWhole) (understood : IsUnderstood) (taken : AreTa
       let now = octet_next given station octet octets history rest is in
       octets_fed station octets begun next rest in_it is lined
       (octet_fed station octet begun history now.rest in_it now.at
-      (lined_octet understood taken nth apart given are_two six station octet octets history rest is)
-      (lined_next understood taken nth apart given are_two six station octets next rest is lined) fed)
+      (lined_octet words understood taken nth apart given are_two six station octet octets history rest is)
+      (lined_next words understood taken nth apart given are_two six station octets next rest is lined) fed)
 
   feed_fed : (station : ℕ) (octets : List ℕ) (begun : ℕ) (history rest : List Event) → is_in station given.stations ≡ true
       → history_of (run_of given) ≡ after_feed given station octets history ++ rest → AreLined given history → AreLined given (after_feed given station octets history)
@@ -242,36 +243,36 @@ module _ (heard_whole : IsHeardWhole) (understood : IsUnderstood) (taken : AreTa
       let event = HostFed station (octet ∷ octets) in
       octets_fed station (octet ∷ octets) begun (history ++ event ∷ []) rest in_it is lined_after (record {
         rests = ap (λ (f : Facts). f.turn.doing) (facts_event given station history event refl) ∙ fed.rests;
-        left = left_event given history event AllUnsent NoneReceived (λ one. refl) (λ number side. feed_still number side history station (octet ∷ octets))
+        left = left_event words given history event AllUnsent NoneReceived (λ one. refl) (λ number side. feed_still words number side history station (octet ∷ octets))
             (λ one handle. number_quiet one handle history event (λ links. refl)) fed.left;
-        each = each_event (LeftBefore given) history event fed.each tt;
-        seen = begin_fed understood taken nth apart given are_two six station octet octets begun history rest is lined fed.seen;
+        each = each_event (LeftBefore words given) history event fed.each tt;
+        seen = begin_fed words understood taken nth apart given are_two six station octet octets begun history rest is lined fed.seen;
       })
 
   -- ---- a station that sends nothing
 
   silence_left : (phases : ℕ) (done left : List ℕ) (station : ℕ) (history : List Event) → given.stations ≡ done ++ station ∷ left
-      → packet_in (use_at given station history) ≡ [] → AreLeftAt given (AtPackets phases done (station ∷ left)) history
-      → AreLeftSo given history (unsent (AtPackets phases (done ++ station ∷ []) left)) (λ one. packet_received one history)
+      → packet_in (use_at given station history) ≡ [] → AreLeftAt words given (AtPackets phases done (station ∷ left)) history
+      → AreLeftSo words given history (unsent (AtPackets phases (done ++ station ∷ []) left)) (λ one. packet_received one history)
   silence_left phases done left station history are none has = λ one handle link in_it at. by one handle link in_it at (one == station) refl
     where
       by : (one handle : ℕ) (link : OpenLink) → is_in one given.stations ≡ true → link_at handle (facts_at given one history).links ≡ Some link → (same : Bool) → (one == station) ≡ same
-          → IsLeftAt (not (is_in one (done ++ station ∷ []))) (packet_received one history) handle (facts_at given one history).turn link (number_at one handle history) (side_of one) history
+          → IsLeftAt words (not (is_in one (done ++ station ∷ []))) (packet_received one history) handle (facts_at given one history).turn link (number_at one handle history) (side_of one) history
       by one handle link in_it at true same =
           let place = AtPackets phases done (station ∷ left) in
           let phased = phased_at given place history has.controls.seen.holds.hearing.stand one in_it in
-          any_sending (not (is_in one done)) (not (is_in one (done ++ station ∷ []))) (packet_received one history) handle (facts_at given one history).turn link
+          any_sending words (not (is_in one done)) (not (is_in one (done ++ station ∷ []))) (packet_received one history) handle (facts_at given one history).turn link
           (number_at one handle history) (side_of one) history
           (silent_sends (facts_at given one history) handle link phased.uses.sends at
           (ap packet_in (wanted_is given one history) ∙ ap (λ n. packet_in (use_at given n history)) (eqb-true one station same) ∙ none)) (has.left one handle link in_it at)
       by one handle link in_it at false differs =
-          subst (λ b. IsLeftAt (not b) (packet_received one history) handle (facts_at given one history).turn link (number_at one handle history) (side_of one) history)
+          subst (λ b. IsLeftAt words (not b) (packet_received one history) handle (facts_at given one history).turn link (number_at one handle history) (side_of one) history)
           (sym (in_more_other one station done differs)) (has.left one handle link in_it at)
 
   -- ---- a packet
 
   module _ (phases : ℕ) (done left : List ℕ) (station channel : ℕ) (octets : List ℕ) (fates : List Fate) (history : List Event) (stations_are : given.stations ≡ done ++ station ∷ left)
-      (wanted : use_at given station history ≡ Sends channel octets) (has : AreLeftAt given (AtPackets phases done (station ∷ left)) history) where
+      (wanted : use_at given station history ≡ Sends channel octets) (has : AreLeftAt words given (AtPackets phases done (station ∷ left)) history) where
     abbrev place : Place
     place = AtPackets phases done (station ∷ left)
 
@@ -325,11 +326,11 @@ module _ (heard_whole : IsHeardWhole) (understood : IsUnderstood) (taken : AreTa
         by false off =
             let known = has.controls.seen.known in
             let sent = sends_on_its_link nth apart given are_two six phases done left station history stations_are known channel octets wanted off in
-            let apart_from = apart_numbers given (IsBelongingSoFar given) (known_of understood taken nth apart given are_two six) place history known station sent.handle handle
+            let are_apart = apart_numbers given (IsBelongingSoFar given) (known_of understood taken nth apart given are_two six) place history known station sent.handle handle
             (link_after (PacketSent sent.slot) sent.link) link in_it sent.is_open at in
             (λ i. (not (off i) && is_number (sent.belongs i) (number_at station handle history)) && side_same station i)
             ∙ and_yes (number_at station sent.handle history == number_at station handle history)
-            ∙ which sent.handle (sent.handle == handle) refl (sends_on sent.handle (facts station).turn.doing sent.sends) apart_from
+            ∙ which sent.handle (sent.handle == handle) refl (sends_on sent.handle (facts station).turn.doing sent.sends) are_apart
           where
             and_yes : (b : Bool) → (b && true) ≡ b
             and_yes true = refl
@@ -338,11 +339,11 @@ module _ (heard_whole : IsHeardWhole) (understood : IsUnderstood) (taken : AreTa
             which : (one : ℕ) → (same : Bool) → (one == handle) ≡ same → sends_under one (facts_at given station history).turn.doing ≡ true
                 → ((one == handle) ≡ false → (number_at station one history == number_at station handle history) ≡ false)
                 → (number_at station one history == number_at station handle history) ≡ sends_under handle (facts_at given station history).turn.doing
-            which one true same sends apart_from =
+            which one true same sends are_apart =
                 let equal = eqb-true one handle same in
                 ap (λ n. number_at station n history == number_at station handle history) equal ∙ same_number (number_at station handle history)
                 ∙ sym (ap (λ n. sends_under n (facts_at given station history).turn.doing) (sym equal) ∙ sends)
-            which one false differs sends apart_from = apart_from differs ∙ sym (sends_other one handle (facts_at given station history).turn.doing sends differs)
+            which one false differs sends are_apart = are_apart differs ∙ sym (sends_other one handle (facts_at given station history).turn.doing sends differs)
 
     other_is_none : (one number : ℕ) → is_in one given.stations ≡ true → (one == station) ≡ false → own_test (side_of one) number ≡ false
     other_is_none one number in_one differs =
@@ -350,13 +351,13 @@ module _ (heard_whole : IsHeardWhole) (understood : IsUnderstood) (taken : AreTa
         ∙ ap (λ b. (not (is_advertising channel) && is_number (link_of_packet (journal_of history) (side_of station) octets) number) && b) (sender_apart station)
         ∙ and_none (not (is_advertising channel) && is_number (link_of_packet (journal_of history) (side_of station) octets) number)
 
-    module _ (seen : AreSeenAt given place_after after) (lined : AreLinedAt given (IsBelongingSoFar given) place_after after)
-        (controls : AreControlledSo given after (λ one. packet_received one after)) where
+    module _ (seen : AreSeenAt words given place_after after) (lined : AreLinedAt given (IsBelongingSoFar given) place_after after)
+        (controls : AreControlledSo words given after (λ one. packet_received one after)) where
       -- an end whose packet it is not
       not_own : (one handle : ℕ) (link : OpenLink) → is_in one given.stations ≡ true → link_at handle (facts_at given one after).links ≡ Some link
           → own_test (side_of one) (number_at one handle history) ≡ false
           → (unsent place_after one && sends_under handle (facts one).turn.doing) ≡ (unsent place one && sends_under handle (facts one).turn.doing)
-          → IsLeftAt (unsent place_after one) (packet_received one after) handle (facts_at given one after).turn link (number_at one handle after) (side_of one) after
+          → IsLeftAt words (unsent place_after one) (packet_received one after) handle (facts_at given one after).turn link (number_at one handle after) (side_of one) after
       not_own one handle link in_one at apart sent =
           let turn = (facts one).turn in
           let turn_after = (facts_at given one after).turn in
@@ -371,31 +372,31 @@ module _ (heard_whole : IsHeardWhole) (understood : IsUnderstood) (taken : AreTa
           let received_too = packet_received one after in
           let aired = history ++ Transmitted station channel octets (hearing ∷ []) ∷ [] in
           let front = front_at given place history has.controls.seen.known.front in
-          let moves = other_left number side history station channel octets hearing received received_too handle turn link (unsent place one) (unsent place_after one) none
+          let moves = other_left words number side history station channel octets hearing received received_too handle turn link (unsent place one) (unsent place_after one) none
           (has.left one handle link in_one is_open) apart
-          (λ got on some. (controls one handle link in_one at).good got (ap (λ (now : Turn). listens_under handle now.doing) turns ∙ on) some) sent
-          (seen_whole received handle turn link number side history none (has.controls.seen.seen one handle link in_one is_open))
-          (subst (λ h. IsSeenAt received_too handle turn link number side h) aired_is
-          (seen_moved handle link side after received_too received_too turn_after turn (number_at one handle after) number refl (sym turns) (sym numbers) (seen.seen one handle link in_one at)))
+          (λ got on some. (controls one handle link in_one at).handed got (ap (λ (now : Turn). listens_under handle now.doing) turns ∙ on) some) sent
+          (seen_whole words received handle turn link number side history none (has.controls.seen.seen one handle link in_one is_open))
+          (subst (λ h. IsSeenAt words received_too handle turn link number side h) aired_is
+          (seen_moved words handle link side after received_too received_too turn_after turn (number_at one handle after) number refl (sym turns) (sym numbers) (seen.seen one handle link in_one at)))
           (has.controls.lined.counts.counted one handle link in_one is_open)
           (count_moved handle link (unsent place_after one) (unsent place_after one) received_too received_too turn_after turn
           (exchange_at (number_at one handle after) after side) (exchange_at number aired side) refl refl (sym turns) (sym (λ i. exchange_at (numbers i) (aired_is i) side))
           (lined.counts.counted one handle link in_one at))
           (has.controls.lined.lines one handle link in_one is_open)
           (fixed_in given history front.rest one handle link (are_distinct given are_two) in_one front.at is_open).fixes in
-          moved handle link side after (unsent place_after one) (unsent place_after one) received_too received_too turn turn_after number (number_at one handle after) refl refl turns numbers
-          (subst (λ h. IsLeftAt (unsent place_after one) received_too handle turn link number side h) (sym aired_is) moves)
+          moved words handle link side after (unsent place_after one) (unsent place_after one) received_too received_too turn turn_after number (number_at one handle after) refl refl turns numbers
+          (subst (λ h. IsLeftAt words (unsent place_after one) received_too handle turn link number side h) (sym aired_is) moves)
 
       -- an end of the station that sends it
       at_sender : (handle : ℕ) (link : OpenLink) → link_at handle (facts_at given station after).links ≡ Some link
-          → IsLeftAt (unsent place_after station) (packet_received station after) handle (facts_at given station after).turn link (number_at station handle after) (side_of station) after
+          → IsLeftAt words (unsent place_after station) (packet_received station after) handle (facts_at given station after).turn link (number_at station handle after) (side_of station) after
       at_sender handle link at = by (sends_under handle (facts station).turn.doing) refl
         where
           is_open : link_at handle (facts_at given station history).links ≡ Some link
           is_open = ap (λ (f : Facts). link_at handle f.links) (sym (facts_event given station history (Transmitted station channel octets hearings) refl)) ∙ at
 
           by : (sends : Bool) → sends_under handle (facts_at given station history).turn.doing ≡ sends
-              → IsLeftAt (unsent place_after station) (packet_received station after) handle (facts_at given station after).turn link (number_at station handle after) (side_of station) after
+              → IsLeftAt words (unsent place_after station) (packet_received station after) handle (facts_at given station after).turn link (number_at station handle after) (side_of station) after
           by true on =
               let turn = (facts station).turn in
               let turn_after = (facts_at given station after).turn in
@@ -404,25 +405,25 @@ module _ (heard_whole : IsHeardWhole) (understood : IsUnderstood) (taken : AreTa
               let received_too = packet_received station after in
               let before = ap not (not_before given.stations done left station (are_distinct given are_two) stations_are) in
               let now = ap not (in_more_same station station done (same_station station)) in
-              let moves = own_left number side history station channel octets hearing (packet_received station history) received_too handle turn link
+              let moves = own_left words number side history station channel octets hearing (packet_received station history) received_too handle turn link
               (unsent place station) (unsent place_after station) (none_before station handle link in_it is_open) (has.left station handle link in_it is_open)
               (own_is handle link is_open ∙ on) before now on in
-              moved handle link side after (unsent place_after station) (unsent place_after station) received_too received_too turn turn_after number (number_at station handle after) refl refl
+              moved words handle link side after (unsent place_after station) (unsent place_after station) received_too received_too turn turn_after number (number_at station handle after) refl refl
               (ap (λ (f : Facts). f.turn) (facts_event given station history (Transmitted station channel octets hearings) refl))
               (number_sent station handle history station channel octets hearings)
-              (subst (λ h. IsLeftAt (unsent place_after station) received_too handle turn link number side h) (sym aired_is) moves)
+              (subst (λ h. IsLeftAt words (unsent place_after station) received_too handle turn link number side h) (sym aired_is) moves)
           by false off =
               not_own station handle link in_it at (own_is handle link is_open ∙ off)
               (ap (λ b. unsent place_after station && b) off ∙ and_none (unsent place_after station) ∙ sym (ap (λ b. unsent place station && b) off ∙ and_none (unsent place station)))
 
-      packet_left : AreLeftSo given after (unsent place_after) (λ one. packet_received one after)
+      packet_left : AreLeftSo words given after (unsent place_after) (λ one. packet_received one after)
       packet_left = λ one handle link in_one at. by one handle link in_one at (one == station) refl
         where
           by : (one handle : ℕ) (link : OpenLink) → is_in one given.stations ≡ true → link_at handle (facts_at given one after).links ≡ Some link → (same : Bool) → (one == station) ≡ same
-              → IsLeftAt (unsent place_after one) (packet_received one after) handle (facts_at given one after).turn link (number_at one handle after) (side_of one) after
+              → IsLeftAt words (unsent place_after one) (packet_received one after) handle (facts_at given one after).turn link (number_at one handle after) (side_of one) after
           by one handle link in_one at true same =
               let equal = eqb-true one station same in
-              subst (λ n. IsLeftAt (unsent place_after n) (packet_received n after) handle (facts_at given n after).turn link (number_at n handle after) (side_of n) after) (sym equal)
+              subst (λ n. IsLeftAt words (unsent place_after n) (packet_received n after) handle (facts_at given n after).turn link (number_at n handle after) (side_of n) after) (sym equal)
               (at_sender handle link (subst (λ n. link_at handle (facts_at given n after).links ≡ Some link) equal at))
           by one handle link in_one at false differs =
               not_own one handle link in_one at (other_is_none one (number_at one handle history) in_one differs)
@@ -430,18 +431,18 @@ module _ (heard_whole : IsHeardWhole) (understood : IsUnderstood) (taken : AreTa
 
   -- ---- each step
 
-  pub leavings_kept : IsKept given (AreLeftAt given)
+  pub leavings_kept : IsKept given (AreLeftAt words given)
   leavings_kept =
       let distinct = are_distinct given are_two in
-      let kept = controls_kept heard_whole understood taken nth apart given are_two six in record {
+      let kept = controls_kept words heard_whole understood taken nth apart given are_two six gives in record {
         on_turn = λ slot plan history begun at has.
             let event = TurnBegan slot (map plan.radio_of given.stations) in record {
               controls = kept.on_turn slot plan history begun at has.controls;
-              left = left_same given (history ++ event ∷ []) AllUnsent AllUnsent (λ one. packet_received one history) (λ one. packet_received one (history ++ event ∷ []))
+              left = left_same words given (history ++ event ∷ []) AllUnsent AllUnsent (λ one. packet_received one history) (λ one. packet_received one (history ++ event ∷ []))
                   (λ one in_one. refl) (λ one in_one. received_event one history event)
-                  (left_event given history event AllUnsent (λ one. packet_received one history) (λ one. refl)
-                  (λ number side. turn_still number side history slot (map plan.radio_of given.stations)) (λ one handle. number_quiet one handle history event (λ links. refl)) has.left);
-              each = each_event (LeftBefore given) history event has.each (all_left given history has, all_stay given history has);
+                  (left_event words given history event AllUnsent (λ one. packet_received one history) (λ one. refl)
+                  (λ number side. turn_still words number side history slot (map plan.radio_of given.stations)) (λ one handle. number_quiet one handle history event (λ links. refl)) has.left);
+              each = each_event (LeftBefore words given) history event has.each (all_left words given history has, all_stay words given history has);
             };
         on_feed = λ plan done left station history are some now has.
             let octets = take (plan.feed_of station) (octets_left given station history) in
@@ -455,12 +456,12 @@ module _ (heard_whole : IsHeardWhole) (understood : IsUnderstood) (taken : AreTa
             (lined_at understood taken given are_two six (AtFeeds done (station ∷ left)) history has.controls.seen.known)
             (lined_at understood taken given are_two six place after controls.seen.known) (record {
               rests = (phased_at given (AtFeeds done (station ∷ left)) history has.controls.seen.holds.hearing.stand station in_it).phase;
-              left = left_same given history AllUnsent AllUnsent (λ one. packet_received one history) NoneReceived (λ one in_one. refl) (λ one in_one. sym (hears one in_one)) has.left;
+              left = left_same words given history AllUnsent AllUnsent (λ one. packet_received one history) NoneReceived (λ one in_one. refl) (λ one in_one. sym (hears one in_one)) has.left;
               each = has.each;
-              seen = first_fed understood taken nth apart given are_two six done left station history in_it has.controls.seen;
+              seen = first_fed words understood taken nth apart given are_two six done left station history in_it has.controls.seen;
             }) in record {
               controls = controls;
-              left = left_same given after AllUnsent AllUnsent NoneReceived (λ one. packet_received one after) (λ one in_one. refl)
+              left = left_same words given after AllUnsent AllUnsent NoneReceived (λ one. packet_received one after) (λ one in_one. refl)
                   (λ one in_one. controls.seen.holds.hearing.hears one in_one) fed.left;
               each = fed.each;
             };
@@ -483,25 +484,25 @@ module _ (heard_whole : IsHeardWhole) (understood : IsUnderstood) (taken : AreTa
             (not_before given.stations done left station distinct are) (phased_at given (AtBegins done (station ∷ left)) history has.controls.seen.holds.hearing.stand station in_it) in
             let before = keyed_in history notes front.rest station step front.at in record {
               controls = controls;
-              left = left_call given station step history AllUnsent AllUnsent (λ one. packet_received one history) (λ one. packet_received one after)
-                  (apart_from understood taken nth apart given are_two six station in_it) lined lined_after (λ handle link at.
+              left = left_call words given station step history AllUnsent AllUnsent (λ one. packet_received one history) (λ one. packet_received one after)
+                  (apart_from words understood taken nth apart given are_two six station in_it) gives.kept lined lined_after (λ handle link at.
                   let number = number_at station handle history in
                   let side = side_of station in
                   let withheld = withholds_at side history in
                   let sends = sends_under handle (facts_after setup facts step).turn.doing in
-                  let leaves = begin_leaves side number withheld (drawn_at side history) slot setup facts on handle link (held_at given station step history in_it lined lined_after handle link at) in
+                  let leaves = begin_leaves side number withheld (drawn_at words side history) slot setup facts on handle link (held_at words given station step history in_it lined lined_after handle link at) in
                   let k = keyed_of (facts_in leaves.base) in
                   let l = (facts_in leaves.base).leaving in
-                  leaves_own given station step history in_it lined lined_after handle link at (packet_received station after) (controls.seen.holds.hearing.hears station in_it)
+                  leaves_own words given station step history in_it lined lined_after handle link at (packet_received station after) (controls.seen.holds.hearing.hears station in_it)
                   (number_called given station step history handle (begin_noted (OpensNone handle) (opening_none handle) setup slot on facts)) leaves.base leaves.was
-                  tt sends k l (subst (λ n. LeavesTo side number withheld (drawn_at side history) n leaves.base link sends k l) (sym (turn_is history slot due.slot_is)) (leaves.is k))
+                  gives.kept tt sends k l (subst (λ n. LeavesTo side number withheld (drawn_at words side history) n leaves.base link sends k l) (sym (turn_is history slot due.slot_is)) (leaves.is k))
                   (ap (λ (f : Facts). sends_under handle f.turn.doing) (own_facts given station step history))
                   (before in_it handle leaves.base leaves.was)
-                  (whole_at given history AllUnsent (λ one. packet_received one history) station handle leaves.base in_it leaves.was (ap (sends_under handle) phased.phase) (λ listens. none) has.left))
+                  (whole_at words given history AllUnsent (λ one. packet_received one history) station handle leaves.base in_it leaves.was (ap (sends_under handle) phased.phase) (λ listens. none) has.left))
                   (λ other is_too differs. refl) (λ other is_too differs. received_by given other station step history false differs) has.left;
-              each = call_each given station step history has.each
+              each = call_each words given station step history has.each
                   (λ handle link at. begun_at given are_two (AtBegins done (station ∷ left)) history has.controls.seen.known station handle link at)
-                  (whole_before given history AllUnsent (λ one. packet_received one history) station step (λ handle held link. refl) (λ handle. ap (sends_under handle) phased.phase) none has.left);
+                  (whole_before words given history AllUnsent (λ one. packet_received one history) station step (λ handle held link. refl) (λ handle. ap (sends_under handle) phased.phase) none has.left);
             };
         on_begun = λ history has. record { controls = kept.on_begun history has.controls; left = has.left; each = has.each };
         on_phase = λ phases history few has. record { controls = kept.on_phase phases history few has.controls; left = has.left; each = has.each };
@@ -514,11 +515,11 @@ module _ (heard_whole : IsHeardWhole) (understood : IsUnderstood) (taken : AreTa
             let controls = kept.on_packet phases plan done left station channel octets history are some due has.controls in record {
               controls = controls;
               left = packet_left phases done left station channel octets plan.fates history are due.is_wanted has controls.seen controls.lined controls.control;
-              each = each_event (LeftBefore given) history (Transmitted station channel octets (hearings_of given plan.fates station channel octets history)) has.each tt;
+              each = each_event (LeftBefore words given) history (Transmitted station channel octets (hearings_of given plan.fates station channel octets history)) has.each tt;
             };
         on_air = λ phases history has. record {
           controls = kept.on_air phases history has.controls;
-          left = left_same given history (λ one. not (is_in one given.stations)) (λ one. is_in one []) (λ one. packet_received one history) (λ one. packet_received one history)
+          left = left_same words given history (λ one. not (is_in one given.stations)) (λ one. is_in one []) (λ one. packet_received one history) (λ one. packet_received one history)
               (λ one in_one. sym (ap not in_one)) (λ one in_one. refl) has.left;
           each = has.each;
         };
@@ -542,21 +543,24 @@ module _ (heard_whole : IsHeardWhole) (understood : IsUnderstood) (taken : AreTa
             ∙ line_masks given are_two (side_of station) history (notes ++ front.rest) (Called station step) (front.at ∙ append_assoc history (Called station step ∷ notes) front.rest)
             (no_octet received))) in record {
               controls = controls;
-              left = left_call given station step history (λ one. is_in one done) (λ one. is_in one (done ++ station ∷ [])) (λ one. packet_received one history) (λ one. packet_received one after)
-                  (apart_from understood taken nth apart given are_two six station in_it) lined lined_after
-                  (λ handle link at. subst (λ b. IsLeftAt b (packet_received station after) handle (facts_at given station after).turn link (number_at station handle after) (side_of station) after)
+              left = left_call words given station step history (λ one. is_in one done) (λ one. is_in one (done ++ station ∷ [])) (λ one. packet_received one history) (λ one. packet_received one after)
+                  (apart_from words understood taken nth apart given are_two six station in_it) gives.kept lined lined_after
+                  (λ handle link at. subst (λ b. IsLeftAt words b (packet_received station after) handle (facts_at given station after).turn link (number_at station handle after) (side_of station) after)
                   (sym (in_more_same station station done (same_station station)))
-                  (passes_own given station history phases in_it phased lined lined_after controls.seen.seen held
-                  (turn_is history facts.turn.slot (sym phased.uses.in_turn.slot_is))
+                  (passes_own words given station history phases in_it phased lined lined_after controls.seen.seen held
+                  (turn_is history facts.turn.slot (sym phased.uses.in_turn.slot_is)) gives.kept
+                  (λ octets some. gives.gives history (notes ++ front.rest) station step (ap draws_in_call (ap step_of some))
+                  (front.at ∙ append_assoc history (Called station step ∷ notes) front.rest))
+                  (λ one link at. begun_at given are_two place after controls.seen.known station one link at)
                   has.controls.control (λ one. is_in one done) out has.left handle link at))
                   (λ other is_too differs. in_more_other other station done differs) (λ other is_too differs. received_by given other station step history false differs) has.left;
-              each = call_each given station step history has.each (any_passes given history station received) (λ in_one handle link at.
+              each = call_each words given station step history has.each (any_passes given history station received) (λ in_one handle link at.
                   let left = has.left station handle link in_it at in
                   left.on ∙ ap Some (ap (λ b. leaving_sent_if b left.leaving) (sym (ap (λ b. b && sends_under handle facts.turn.doing) out)) ∙ left.is ∙ taking_next handle facts received link));
             };
         on_heard = λ phases history has. record {
           controls = kept.on_heard phases history has.controls;
-          left = left_same given history (λ one. is_in one given.stations) AllUnsent (λ one. packet_received one history) (λ one. packet_received one history)
+          left = left_same words given history (λ one. is_in one given.stations) AllUnsent (λ one. packet_received one history) (λ one. packet_received one history)
               (λ one in_one. sym in_one) (λ one in_one. refl) has.left;
           each = has.each;
         };
@@ -579,29 +583,29 @@ module _ (heard_whole : IsHeardWhole) (understood : IsUnderstood) (taken : AreTa
             let silent : (handle : ℕ) → sends_under handle facts.turn.doing ≡ false = λ handle. last_phase facts.links facts.turn.doing handle phased.phase in
             let before = keyed_in history notes front.rest station step front.at in record {
               controls = controls;
-              left = left_call given station step history AllUnsent AllUnsent (λ one. packet_received one history) (λ one. packet_received one after)
-                  (apart_from understood taken nth apart given are_two six station in_it) lined lined_after (λ handle link at.
+              left = left_call words given station step history AllUnsent AllUnsent (λ one. packet_received one history) (λ one. packet_received one after)
+                  (apart_from words understood taken nth apart given are_two six station in_it) gives.kept lined lined_after (λ handle link at.
                   let number = number_at station handle history in
                   let side = side_of station in
-                  let leaves = end_leaves side number (withholds_at side history) (drawn_at side history) (turn_at history) setup facts handle link
-                  (held_at given station step history in_it lined lined_after handle link at) in
+                  let leaves = end_leaves side number (withholds_at side history) (drawn_at words side history) (turn_at history) setup facts handle link
+                  (held_at words given station step history in_it lined lined_after handle link at) in
                   let k = keyed_of (facts_in leaves.base) in
-                  leaves_own given station step history in_it lined lined_after handle link at (packet_received station after) (controls.seen.holds.hearing.hears station in_it)
+                  leaves_own words given station step history in_it lined lined_after handle link at (packet_received station after) (controls.seen.holds.hearing.hears station in_it)
                   (number_called given station step history handle (end_noted (OpensNone handle) (opening_none handle).starts.feeds setup facts)) leaves.base leaves.was
-                  tt false k (facts_in leaves.base).leaving (leaves.is k) (ap (λ (f : Facts). sends_under handle f.turn.doing) (own_facts given station step history)) (before in_it handle leaves.base leaves.was)
-                  (whole_at given history AllUnsent (λ one. packet_received one history) station handle leaves.base in_it leaves.was (silent handle) (λ listens. none) has.left))
+                  gives.kept tt false k (facts_in leaves.base).leaving (leaves.is k) (ap (λ (f : Facts). sends_under handle f.turn.doing) (own_facts given station step history)) (before in_it handle leaves.base leaves.was)
+                  (whole_at words given history AllUnsent (λ one. packet_received one history) station handle leaves.base in_it leaves.was (silent handle) (λ listens. none) has.left))
                   (λ other is_too differs. refl) (λ other is_too differs. received_by given other station step history false differs) has.left;
-              each = call_each given station step history has.each tt
-                  (whole_before given history AllUnsent (λ one. packet_received one history) station step (λ handle held link. refl) silent none has.left);
+              each = call_each words given station step history has.each tt
+                  (whole_before words given history AllUnsent (λ one. packet_received one history) station step (λ handle held link. refl) silent none has.left);
             };
         on_ended = λ history has. record { controls = kept.on_ended history has.controls; left = has.left; each = has.each };
       }
 
 -- as a run begins no link is open
-none_left : (given : Given) → AreLeftSo given [] AllUnsent (λ station. packet_received station [])
+none_left : (words : Words) (given : Given) → AreLeftSo words given [] AllUnsent (λ station. packet_received station [])
 unfolding facts_of
-none_left given = λ station handle link in_it at.
+none_left words given = λ station handle link in_it at.
     absurd (open_has (λ one. ⊥) 0 handle (replicate (setup_at given station).links None) link (none_open (λ one. ⊥) (setup_at given station).links) at)
 
-pub leavings_first : (given : Given) → AreLeftAt given NoTurn []
-leavings_first given = record { controls = controls_first given; left = none_left given; each = tt }
+pub leavings_first : (words : Words) (given : Given) → AreLeftAt words given NoTurn []
+leavings_first words given = record { controls = controls_first words given; left = none_left words given; each = tt }

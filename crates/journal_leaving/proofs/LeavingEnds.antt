@@ -11,6 +11,8 @@ use Rattle.journal_controls.specs.controller_model.declared.doing.Turn.{Turn}
 use Rattle.journal_controls.proofs.controller_model.Always.{IsInTurn}
 use Rattle.journal_controls.proofs.host_answers.LineAnswers.{far_quiet, turn_quiet}
 use Rattle.journal_controls.specs.journal_acks.link_calls.Uses.{listens_under, sends_under}
+use Rattle.journal_controls.specs.journal_ends.Asked.{Words}
+use Rattle.journal_controls.specs.journal_ends.GivenWords.{AreKept}
 use Rattle.journal_controls.specs.journal_links.LinkLines.{line_of}
 use Rattle.journal_controls.specs.link_model.End.{notes_from}
 use Rattle.journal_controls.specs.link_model.declared.state.Leaving.{Leaving}
@@ -44,15 +46,15 @@ left_taking true (Some octets) slot link = leaving_if true slot octets link
 left_taking true None slot link = (facts_in link).leaving
 left_taking false received slot link = (facts_in link).leaving
 
-pub record IsLeftAt (unsent : Bool) (received : Option (List ℕ)) (handle : ℕ) (turn : Turn) (link : OpenLink) (number : ℕ) (side : Side) (history : List Event) : Type 0 where
+pub record IsLeftAt (words : Words) (unsent : Bool) (received : Option (List ℕ)) (handle : ℕ) (turn : Turn) (link : OpenLink) (number : ℕ) (side : Side) (history : List Event) : Type 0 where
   pub leaving : Leaving
-  pub on : leaving_at number side history ≡ Some leaving
+  pub on : leaving_at words number side history ≡ Some leaving
   pub is : leaving_sent_if (unsent && sends_under handle turn.doing) leaving ≡ left_taking (listens_under handle turn.doing) received turn.slot link
 
-abbrev pub AreLeftSo : Given → List Event → (ℕ → Bool) → (ℕ → Option (List ℕ)) → Type 0
-AreLeftSo given history unsent received =
+abbrev pub AreLeftSo : Words → Given → List Event → (ℕ → Bool) → (ℕ → Option (List ℕ)) → Type 0
+AreLeftSo words given history unsent received =
     (station handle : ℕ) (link : OpenLink) → is_in station given.stations ≡ true → link_at handle (facts_at given station history).links ≡ Some link
-    → IsLeftAt (unsent station) (received station) handle (facts_at given station history).turn link (number_at station handle history) (side_of station) history
+    → IsLeftAt words (unsent station) (received station) handle (facts_at given station history).turn link (number_at station handle history) (side_of station) history
 
 -- an end that has no packet to take
 pub takes_none : (listens : Bool) (received : Option (List ℕ)) (slot : ℕ) (link : OpenLink) → (listens ≡ true → received ≡ None)
@@ -66,25 +68,25 @@ and_none true = refl
 and_none false = refl
 
 -- and none to send
-pub whole : (unsent : Bool) (received : Option (List ℕ)) (handle : ℕ) (turn : Turn) (link : OpenLink) (number : ℕ) (side : Side) (history : List Event)
+pub whole : (words : Words) (unsent : Bool) (received : Option (List ℕ)) (handle : ℕ) (turn : Turn) (link : OpenLink) (number : ℕ) (side : Side) (history : List Event)
     → (unsent && sends_under handle turn.doing) ≡ false → (listens_under handle turn.doing ≡ true → received ≡ None)
-    → IsLeftAt unsent received handle turn link number side history → leaving_at number side history ≡ Some (facts_in link).leaving
-whole unsent received handle turn link number side history sent none is =
+    → IsLeftAt words unsent received handle turn link number side history → leaving_at words number side history ≡ Some (facts_in link).leaving
+whole words unsent received handle turn link number side history sent none is =
     is.on ∙ ap Some (ap (λ b. leaving_sent_if b is.leaving) (sym sent) ∙ is.is ∙ takes_none (listens_under handle turn.doing) received turn.slot link none)
 
-pub moved : (handle : ℕ) (link : OpenLink) (side : Side) (history : List Event) (unsent unsent_too : Bool) (received received_too : Option (List ℕ)) (turn turn_too : Turn) (number number_too : ℕ)
-    → unsent_too ≡ unsent → received_too ≡ received → turn_too ≡ turn → number_too ≡ number → IsLeftAt unsent received handle turn link number side history
-    → IsLeftAt unsent_too received_too handle turn_too link number_too side history
-moved handle link side history unsent unsent_too received received_too turn turn_too number number_too u r t n is =
-    subst (λ b. IsLeftAt b received_too handle turn_too link number_too side history) (sym u)
-    (subst (λ one. IsLeftAt unsent one handle turn_too link number_too side history) (sym r)
-    (subst (λ now. IsLeftAt unsent received handle now link number_too side history) (sym t)
-    (subst (λ one. IsLeftAt unsent received handle turn link one side history) (sym n) is)))
+pub moved : (words : Words) (handle : ℕ) (link : OpenLink) (side : Side) (history : List Event) (unsent unsent_too : Bool) (received received_too : Option (List ℕ)) (turn turn_too : Turn) (number number_too : ℕ)
+    → unsent_too ≡ unsent → received_too ≡ received → turn_too ≡ turn → number_too ≡ number → IsLeftAt words unsent received handle turn link number side history
+    → IsLeftAt words unsent_too received_too handle turn_too link number_too side history
+moved words handle link side history unsent unsent_too received received_too turn turn_too number number_too u r t n is =
+    subst (λ b. IsLeftAt words b received_too handle turn_too link number_too side history) (sym u)
+    (subst (λ one. IsLeftAt words unsent one handle turn_too link number_too side history) (sym r)
+    (subst (λ now. IsLeftAt words unsent received handle now link number_too side history) (sym t)
+    (subst (λ one. IsLeftAt words unsent received handle turn link one side history) (sym n) is)))
 
 -- a station that sends nothing on the link
-pub any_sending : (unsent unsent_too : Bool) (received : Option (List ℕ)) (handle : ℕ) (turn : Turn) (link : OpenLink) (number : ℕ) (side : Side) (history : List Event)
-    → sends_under handle turn.doing ≡ false → IsLeftAt unsent received handle turn link number side history → IsLeftAt unsent_too received handle turn link number side history
-any_sending unsent unsent_too received handle turn link number side history none is = record {
+pub any_sending : (words : Words) (unsent unsent_too : Bool) (received : Option (List ℕ)) (handle : ℕ) (turn : Turn) (link : OpenLink) (number : ℕ) (side : Side) (history : List Event)
+    → sends_under handle turn.doing ≡ false → IsLeftAt words unsent received handle turn link number side history → IsLeftAt words unsent_too received handle turn link number side history
+any_sending words unsent unsent_too received handle turn link number side history none is = record {
   leaving = is.leaving;
   on = is.on;
   is = ap (λ b. leaving_sent_if b is.leaving) (ap (λ b. unsent_too && b) none ∙ and_none unsent_too ∙ sym (ap (λ b. unsent && b) none ∙ and_none unsent)) ∙ is.is;
@@ -103,33 +105,33 @@ taking_next handle facts (Some octets) link =
 
 -- ---- events and calls that leave an end as it is
 
-module _ (given : Given) where
+module _ (words : Words) (given : Given) where
   pub left_same : (history : List Event) (unsent unsent_too : ℕ → Bool) (received received_too : ℕ → Option (List ℕ))
       → ((station : ℕ) → is_in station given.stations ≡ true → unsent_too station ≡ unsent station)
       → ((station : ℕ) → is_in station given.stations ≡ true → received_too station ≡ received station)
-      → AreLeftSo given history unsent received → AreLeftSo given history unsent_too received_too
+      → AreLeftSo words given history unsent received → AreLeftSo words given history unsent_too received_too
   left_same history unsent unsent_too received received_too u r are = λ station handle link in_it at.
       let turn = (facts_at given station history).turn in
       let number = number_at station handle history in
-      moved handle link (side_of station) history (unsent station) (unsent_too station) (received station) (received_too station) turn turn number number (u station in_it) (r station in_it) refl refl
+      moved words handle link (side_of station) history (unsent station) (unsent_too station) (received station) (received_too station) turn turn number number (u station in_it) (r station in_it) refl refl
       (are station handle link in_it at)
 
   -- a station with the same links, of the same numbers
   still_at : (history after : List Event) (unsent : Bool) (received : Option (List ℕ)) (station handle : ℕ) (link : OpenLink)
       → facts_at given station after ≡ facts_at given station history → number_at station handle after ≡ number_at station handle history
-      → ((l : Leaving) → leaving_at (number_at station handle history) (side_of station) history ≡ Some l → leaving_at (number_at station handle history) (side_of station) after ≡ Some l)
-      → IsLeftAt unsent received handle (facts_at given station history).turn link (number_at station handle history) (side_of station) history
-      → IsLeftAt unsent received handle (facts_at given station after).turn link (number_at station handle after) (side_of station) after
+      → ((l : Leaving) → leaving_at words (number_at station handle history) (side_of station) history ≡ Some l → leaving_at words (number_at station handle history) (side_of station) after ≡ Some l)
+      → IsLeftAt words unsent received handle (facts_at given station history).turn link (number_at station handle history) (side_of station) history
+      → IsLeftAt words unsent received handle (facts_at given station after).turn link (number_at station handle after) (side_of station) after
   still_at history after unsent received station handle link facts number stays is =
-      moved handle link (side_of station) after unsent unsent received received (facts_at given station history).turn (facts_at given station after).turn
+      moved words handle link (side_of station) after unsent unsent received received (facts_at given station history).turn (facts_at given station after).turn
       (number_at station handle history) (number_at station handle after) refl refl (ap (λ (f : Facts). f.turn) facts) number
       (record { leaving = is.leaving; on = stays is.leaving is.on; is = is.is })
 
   -- an event that is not a packet
   pub left_event : (history : List Event) (event : Event) (unsent : ℕ → Bool) (received : ℕ → Option (List ℕ)) → ((station : ℕ) → steps_in station event ≡ [])
-      → ((number : ℕ) (side : Side) → leaving_at number side (history ++ event ∷ []) ≡ leaving_at number side history)
+      → ((number : ℕ) (side : Side) → leaving_at words number side (history ++ event ∷ []) ≡ leaving_at words number side history)
       → ((station handle : ℕ) → number_at station handle (history ++ event ∷ []) ≡ number_at station handle history)
-      → AreLeftSo given history unsent received → AreLeftSo given (history ++ event ∷ []) unsent received
+      → AreLeftSo words given history unsent received → AreLeftSo words given (history ++ event ∷ []) unsent received
   left_event history event unsent received none same number are = λ station handle link in_it at.
       let facts = facts_event given station history event (none station) in
       still_at history (history ++ event ∷ []) (unsent station) (received station) station handle link facts (number station handle)
@@ -138,24 +140,24 @@ module _ (given : Given) where
 
   -- a call, by what it does to the ends of its station, and with no answer to the other one
   pub left_call : (station : ℕ) (step : Call) (history : List Event) (unsent unsent_too : ℕ → Bool) (received received_too : ℕ → Option (List ℕ))
-      → ((other : ℕ) → is_in other given.stations ≡ true → (other == station) ≡ false → side_of other ≡ side_of station → ⊥) → AreLined given history
+      → ((other : ℕ) → is_in other given.stations ≡ true → (other == station) ≡ false → side_of other ≡ side_of station → ⊥) → AreKept words → AreLined given history
       → AreLined given (after_call given station step history)
       → ((handle : ℕ) (link : OpenLink) → link_at handle (facts_at given station (after_call given station step history)).links ≡ Some link
-      → IsLeftAt (unsent_too station) (received_too station) handle (facts_at given station (after_call given station step history)).turn link
+      → IsLeftAt words (unsent_too station) (received_too station) handle (facts_at given station (after_call given station step history)).turn link
       (number_at station handle (after_call given station step history)) (side_of station) (after_call given station step history))
       → ((other : ℕ) → is_in other given.stations ≡ true → (other == station) ≡ false → unsent_too other ≡ unsent other)
       → ((other : ℕ) → is_in other given.stations ≡ true → (other == station) ≡ false → received_too other ≡ received other)
-      → AreLeftSo given history unsent received → AreLeftSo given (after_call given station step history) unsent_too received_too
-  left_call station step history unsent unsent_too received received_too apart lined lined_after own u r are = λ other handle link in_it at. by other handle link in_it at (other == station) refl
+      → AreLeftSo words given history unsent received → AreLeftSo words given (after_call given station step history) unsent_too received_too
+  left_call station step history unsent unsent_too received received_too apart kept lined lined_after own u r are = λ other handle link in_it at. by other handle link in_it at (other == station) refl
     where
       by : (other handle : ℕ) (link : OpenLink) → is_in other given.stations ≡ true → link_at handle (facts_at given other (after_call given station step history)).links ≡ Some link
           → (same : Bool) → (other == station) ≡ same
-          → IsLeftAt (unsent_too other) (received_too other) handle (facts_at given other (after_call given station step history)).turn link
+          → IsLeftAt words (unsent_too other) (received_too other) handle (facts_at given other (after_call given station step history)).turn link
           (number_at other handle (after_call given station step history)) (side_of other) (after_call given station step history)
       by other handle link in_it at true one =
           let equal = eqb-true other station one in
           let next = after_call given station step history in
-          subst (λ n. IsLeftAt (unsent_too n) (received_too n) handle (facts_at given n next).turn link (number_at n handle next) (side_of n) next) (sym equal)
+          subst (λ n. IsLeftAt words (unsent_too n) (received_too n) handle (facts_at given n next).turn link (number_at n handle next) (side_of n) next) (sym equal)
           (own handle link (subst (λ n. link_at handle (facts_at given n next).links ≡ Some link) equal at))
       by other handle link in_it at false differs =
           let next = after_call given station step history in
@@ -168,9 +170,9 @@ module _ (given : Given) where
           let same = now ∙ sym (lined other handle link in_it was) ∙ sym (append-nil (lines_at number side history)) in
           let turn = (facts_at given other history).turn in
           still_at history next (unsent_too other) (received_too other) other handle link facts numbers
-          (λ l is. call_stays given number side station step history
+          (λ l is. call_stays words given number side station step history kept
           (far_quiet side station (notes_after (setup_at given station) (facts_at given station history) step) (apart other in_it differs)) same ∙ is)
-          (moved handle link side history (unsent other) (unsent_too other) (received other) (received_too other) turn turn number number (u other in_it differs) (r other in_it differs) refl refl
+          (moved words handle link side history (unsent other) (unsent_too other) (received other) (received_too other) turn turn number number (u other in_it differs) (r other in_it differs) refl refl
           (are other handle link in_it was))
 
   -- ---- a call, at its own station
@@ -189,21 +191,21 @@ module _ (given : Given) where
       own = number_at station handle history
 
       -- what its host asks moves it, and it sends nothing
-      pub asked_own : leaving_at own side after ≡ Some (facts_in link).leaving → sends_under handle (facts_at given station after).turn.doing ≡ false
-          → IsLeftAt true received handle (facts_at given station after).turn link (number_at station handle after) side after
+      pub asked_own : leaving_at words own side after ≡ Some (facts_in link).leaving → sends_under handle (facts_at given station after).turn.doing ≡ false
+          → IsLeftAt words true received handle (facts_at given station after).turn link (number_at station handle after) side after
       asked_own is doing =
           let turn = (facts_at given station after).turn in record {
             leaving = (facts_in link).leaving;
-            on = ap (λ n. leaving_at n side after) number ∙ is;
+            on = ap (λ n. leaving_at words n side after) number ∙ is;
             is = ap (λ b. leaving_sent_if b (facts_in link).leaving) doing ∙ sym (takes_none (listens_under handle turn.doing) received turn.slot link (λ on. none));
           }
 
       -- what happened to an end in a call of a turn moves it by the lines of the call, and a packet that it is to send comes after them
-      pub leaves_own : IsInTurn step → (sends : Bool) (from : Keyed) (left : Leaving) → LeavesTo side own (withholds_at side history) (drawn_at side history) (turn_at history) base link sends from left
+      pub leaves_own : AreKept words → IsInTurn step → (sends : Bool) (from : Keyed) (left : Leaving) → LeavesTo side own (withholds_at side history) (drawn_at words side history) (turn_at history) base link sends from left
           → sends_under handle (facts_at given station after).turn.doing ≡ sends
-          → keyed_at own side history ≡ Some from → leaving_at own side history ≡ Some left
-          → IsLeftAt true received handle (facts_at given station after).turn link (number_at station handle after) side after
-      leaves_own in_turn sends from left leaves doing keyed is =
+          → keyed_at words own side history ≡ Some from → leaving_at words own side history ≡ Some left
+          → IsLeftAt words true received handle (facts_at given station after).turn link (number_at station handle after) side after
+      leaves_own kept in_turn sends from left leaves doing keyed is =
           let notes = notes_from base.setup (facts_in base) leaves.steps in
           let now = subst (λ n. lines_at n side after ≡ map (line_of side n) (notes_opened_on link.setup link.past)) number (lined_after station handle link in_it at) in
           let lines : lines_at own side after ≡ lines_at own side history ++ map (line_of side own) notes =
@@ -212,9 +214,9 @@ module _ (given : Given) where
           ∙ map-append (line_of side own) (notes_opened_on base.setup base.past) notes
           ∙ ap (λ xs. xs ++ map (line_of side own) notes) (sym (lined station handle base in_it was)) in
           let turn = (facts_at given station after).turn in
-          let later = leaving_noted side own (withholds_at side history) (drawn_at side history) (turn_at history) notes from left in record {
+          let later = leaving_noted side own (withholds_at side history) (drawn_at words side history) (turn_at history) notes from left in record {
             leaving = later;
-            on = ap (λ n. leaving_at n side after) number
-                ∙ call_moves given side own station step history (map (line_of side own) notes) from left (turn_quiet given station step history in_turn) lines (steps_later side own base.setup (facts_in base) leaves.steps) keyed is;
+            on = ap (λ n. leaving_at words n side after) number
+                ∙ call_moves words given side own station step history (map (line_of side own) notes) from left kept (turn_quiet given station step history in_turn) lines (steps_later side own base.setup (facts_in base) leaves.steps) keyed is;
             is = ap (λ b. leaving_sent_if b later) doing ∙ leaves.leaves ∙ sym (takes_none (listens_under handle turn.doing) received turn.slot link (λ on. none));
           }

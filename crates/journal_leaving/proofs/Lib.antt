@@ -7,9 +7,10 @@ pub mod TurnLeaving
 pub mod DueReasons
 pub mod NotShut
 pub mod OpenedLeavings
-pub mod NoKeys
+pub mod ClosedEnds
 pub mod AskedSteps
 pub mod AskedLeavings
+pub mod LeavingRefused
 pub mod LinkLeaves
 pub mod LeavingEnds
 pub mod LeavingPackets

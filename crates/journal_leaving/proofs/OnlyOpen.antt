@@ -16,8 +16,8 @@ use Rattle.journal_controls.specs.controller_model.Facts.{Facts, Setup}
 use Rattle.journal_controls.specs.controller_model.Notes.{is_opening}
 use Rattle.journal_controls.specs.controller_model.Side.{facts_after, notes_after}
 use Rattle.journal_controls.specs.controller_model.Step.{Step as Call}
-use Rattle.journal_controls.specs.KeyedLines.{drawn_by}
 use Rattle.journal_controls.specs.LineSteps.{control_on, keyed_begun, keyed_in_line, keyed_on}
+use Rattle.journal_controls.specs.journal_ends.Asked.{Words}
 use Rattle.journal_controls.specs.journal_links.Begun.{link_numbered}
 use Rattle.journal_controls.specs.journal_packets.Belonging.{is_side}
 use Rattle.journal_controls.specs.link_model.control_model.Control.{Control}
@@ -64,42 +64,42 @@ none_if : (test : Bool) → (if test then no_end else no_end) ≡ no_end
 none_if true = refl
 none_if false = refl
 
-none_after : (side : Side) (number : ℕ) (front : List Entry) (line : Entry) → opens_line line ≡ false → keyed_in_line (drawn_by side) side number front None line ≡ None
-none_after side number front (Opened other link handle role) opens = absurd cc
-none_after side number front (Shut other link reason) opens = none_if (is_side other side && link == number)
-none_after side number front line opens = refl
+none_after : (words : Words) (side : Side) (number : ℕ) (front : List Entry) (line : Entry) → opens_line line ≡ false → keyed_in_line words side number front None line ≡ None
+none_after words side number front (Opened other link handle role) opens = absurd cc
+none_after words side number front (Shut other link reason) opens = none_if (is_side other side && link == number)
+none_after words side number front line opens = refl
 
 had_of : (before after : Option Keyed) (k : Keyed) → after ≡ Some k → (before ≡ None → after ≡ None) → HasEnd before
 had_of None after k is none = absurd (let h : None ≡ Some k = sym (none refl) ∙ is in absurd cc)
 had_of (Some keyed) after k is none = record { keyed = keyed; is = refl }
 
-line_had : (side : Side) (number : ℕ) (history after : List Event) (line : Entry) (k : Keyed) → journal_of after ≡ journal_of history ++ line ∷ [] → opens_line line ≡ false
-    → keyed_at number side after ≡ Some k → HasEnd (keyed_at number side history)
-line_had side number history after line k journal opens is =
-    had_of (keyed_at number side history) (keyed_at number side after) k is
-    (λ none. ap (keyed_on side number) journal ∙ keyed_more side number (journal_of history) line
-    ∙ ap (λ before. keyed_in_line (drawn_by side) side number (journal_of history) before line) none ∙ none_after side number (journal_of history) line opens)
+line_had : (words : Words) (side : Side) (number : ℕ) (history after : List Event) (line : Entry) (k : Keyed) → journal_of after ≡ journal_of history ++ line ∷ [] → opens_line line ≡ false
+    → keyed_at words number side after ≡ Some k → HasEnd (keyed_at words number side history)
+line_had words side number history after line k journal opens is =
+    had_of (keyed_at words number side history) (keyed_at words number side after) k is
+    (λ none. ap (keyed_on words side number) journal ∙ keyed_more words side number (journal_of history) line
+    ∙ ap (λ before. keyed_in_line words side number (journal_of history) before line) none ∙ none_after words side number (journal_of history) line opens)
 
 note_opens : (side : Side) (link_of : ℕ → ℕ) (last : ℕ) (note : Note) → is_opening note ≡ false → opens_line (entry_of side link_of last note) ≡ false
 note_opens side link_of last (OpenedNote handle role own peer) none = absurd cc
 note_opens side link_of last (UpNote packet) none = refl
 note_opens side link_of last note none = refl
 
-note_had : (side : Side) (number station : ℕ) (note : Note) (history : List Event) (k : Keyed) → is_opening note ≡ false
-    → keyed_at number side (history ++ Noted station note ∷ []) ≡ Some k → HasEnd (keyed_at number side history)
-note_had side number station note history k none is =
+note_had : (words : Words) (side : Side) (number station : ℕ) (note : Note) (history : List Event) (k : Keyed) → is_opening note ≡ false
+    → keyed_at words number side (history ++ Noted station note ∷ []) ≡ Some k → HasEnd (keyed_at words number side history)
+note_had words side number station note history k none is =
     let links = links_of history in
     let line = entry_of (side_of station) (links.link_of station) (links.last_of station) note in
-    line_had side number history (history ++ Noted station note ∷ []) line k (journal_event history (Noted station note))
+    line_had words side number history (history ++ Noted station note ∷ []) line k (journal_event history (Noted station note))
     (note_opens (side_of station) (links.link_of station) (links.last_of station) note none) is
 
-notes_had : (side : Side) (number station : ℕ) (notes : List Note) (history : List Event) (k : Keyed) → AreNot is_opening notes
-    → keyed_at number side (history ++ map (Noted station) notes) ≡ Some k → HasEnd (keyed_at number side history)
-notes_had side number station [] history k none is = record { keyed = k; is = ap (keyed_at number side) (sym (append-nil history)) ∙ is }
-notes_had side number station (note ∷ notes) history k none is =
+notes_had : (words : Words) (side : Side) (number station : ℕ) (notes : List Note) (history : List Event) (k : Keyed) → AreNot is_opening notes
+    → keyed_at words number side (history ++ map (Noted station) notes) ≡ Some k → HasEnd (keyed_at words number side history)
+notes_had words side number station [] history k none is = record { keyed = k; is = ap (keyed_at words number side) (sym (append-nil history)) ∙ is }
+notes_had words side number station (note ∷ notes) history k none is =
     let next = history ++ Noted station note ∷ [] in
-    let rest = notes_had side number station notes next k none.1 (ap (keyed_at number side) (append_assoc history (Noted station note ∷ []) (map (Noted station) notes)) ∙ is) in
-    note_had side number station note history rest.keyed none.0 rest.is
+    let rest = notes_had words side number station notes next k none.1 (ap (keyed_at words number side) (append_assoc history (Noted station note ∷ []) (map (Noted station) notes)) ∙ is) in
+    note_had words side number station note history rest.keyed none.0 rest.is
 
 -- ---- a link of which the end still has one was not shut
 
@@ -112,10 +112,10 @@ same_side : (one : Side) → is_side one one ≡ true
 same_side A = refl
 same_side B = refl
 
-still_noted : (station handle : ℕ) (note : Note) (history : List Event) (k : Keyed) → is_opening note ≡ false
-    → keyed_at (number_at station handle history) (side_of station) (history ++ Noted station note ∷ []) ≡ Some k → note_open handle true note ≡ true
-still_noted station handle (OpenedNote other role own peer) history k none is = absurd cc
-still_noted station handle (ShutNote other reason) history k none is = by (other == handle) refl
+still_noted : (words : Words) (station handle : ℕ) (note : Note) (history : List Event) (k : Keyed) → is_opening note ≡ false
+    → keyed_at words (number_at station handle history) (side_of station) (history ++ Noted station note ∷ []) ≡ Some k → note_open handle true note ≡ true
+still_noted words station handle (OpenedNote other role own peer) history k none is = absurd cc
+still_noted words station handle (ShutNote other reason) history k none is = by (other == handle) refl
   where
     by : (same : Bool) → (other == handle) ≡ same → (if other == handle then false else true) ≡ true
     by false differs = ap (λ b. if b then false else true) differs
@@ -124,36 +124,36 @@ still_noted station handle (ShutNote other reason) history k none is = by (other
         let front = journal_of history in
         let number = number_at station handle history in
         let link_of = (links_of history).link_of station in
-        let gone : keyed_at number side (history ++ Noted station (ShutNote other reason) ∷ []) ≡ None =
-        ap (keyed_on side number) (journal_event history (Noted station (ShutNote other reason)))
-        ∙ keyed_more side number front (Shut side (link_of other) reason)
-        ∙ (λ i. if is_side side side && link_of (eqb-true other handle same i) == number then None else keyed_on side number front)
-        ∙ (λ i. if same_side side i && same_number number i then None else keyed_on side number front) in
+        let gone : keyed_at words number side (history ++ Noted station (ShutNote other reason) ∷ []) ≡ None =
+        ap (keyed_on words side number) (journal_event history (Noted station (ShutNote other reason)))
+        ∙ keyed_more words side number front (Shut side (link_of other) reason)
+        ∙ (λ i. if is_side side side && link_of (eqb-true other handle same i) == number then None else keyed_on words side number front)
+        ∙ (λ i. if same_side side i && same_number number i then None else keyed_on words side number front) in
         absurd (let h : None ≡ Some k = sym gone ∙ is in absurd cc)
-still_noted station handle note history k none is = refl
+still_noted words station handle note history k none is = refl
 
-still_open : (station handle : ℕ) (notes : List Note) (history : List Event) (k : Keyed) → AreNot is_opening notes
-    → keyed_at (number_at station handle history) (side_of station) (history ++ map (Noted station) notes) ≡ Some k → fold (note_open handle) true notes ≡ true
-still_open station handle [] history k none is = refl
-still_open station handle (note ∷ notes) history k none is =
+still_open : (words : Words) (station handle : ℕ) (notes : List Note) (history : List Event) (k : Keyed) → AreNot is_opening notes
+    → keyed_at words (number_at station handle history) (side_of station) (history ++ map (Noted station) notes) ≡ Some k → fold (note_open handle) true notes ≡ true
+still_open words station handle [] history k none is = refl
+still_open words station handle (note ∷ notes) history k none is =
     let next = history ++ Noted station note ∷ [] in
     let side = side_of station in
     let number = number_at station handle history in
     let same : number_at station handle next ≡ number = event_number station handle history (Noted station note) (quiet_links station station handle note (links_of history) none.0) in
-    let later : keyed_at number side (next ++ map (Noted station) notes) ≡ Some k =
-    ap (keyed_at number side) (append_assoc history (Noted station note ∷ []) (map (Noted station) notes)) ∙ is in
-    let has = notes_had side number station notes next k none.1 later in
-    ap (λ b. fold (note_open handle) b notes) (still_noted station handle note history has.keyed none.0 has.is)
-    ∙ still_open station handle notes next k none.1 (ap (λ n. keyed_at n side (next ++ map (Noted station) notes)) same ∙ later)
+    let later : keyed_at words number side (next ++ map (Noted station) notes) ≡ Some k =
+    ap (keyed_at words number side) (append_assoc history (Noted station note ∷ []) (map (Noted station) notes)) ∙ is in
+    let has = notes_had words side number station notes next k none.1 later in
+    ap (λ b. fold (note_open handle) b notes) (still_noted words station handle note history has.keyed none.0 has.is)
+    ∙ still_open words station handle notes next k none.1 (ap (λ n. keyed_at words n side (next ++ map (Noted station) notes)) same ∙ later)
 
 -- ---- what is kept
 
 -- an end that has a control part is one
-pub has_end : (side : Side) (number : ℕ) (history : List Event) (c : Control) → control_on side number (journal_of history) ≡ Some c → HasEnd (keyed_at number side history)
+pub has_end : (words : Words) (side : Side) (number : ℕ) (history : List Event) (c : Control) → control_on words side number (journal_of history) ≡ Some c → HasEnd (keyed_at words number side history)
 unfolding control_on
-has_end side number history c is = by (keyed_at number side history) refl
+has_end words side number history c is = by (keyed_at words number side history) refl
   where
-    by : (found : Option Keyed) → keyed_on side number (journal_of history) ≡ found → HasEnd found
+    by : (found : Option Keyed) → keyed_on words side number (journal_of history) ≡ found → HasEnd found
     by None none = absurd (let h : None ≡ Some c = sym (ap (option_map (λ (k : Keyed). k.phased.control)) none) ∙ is in absurd cc)
     by (Some keyed) found = record { keyed = keyed; is = refl }
 
@@ -166,15 +166,15 @@ pub record IsOfOpen (given : Given) (history : List Event) (side : Side) (number
   pub is_open : link_at handle (facts_at given station history).links ≡ Some link
   pub number_is : number_at station handle history ≡ number
 
-abbrev pub OnlyOpen : Given → List Event → Type 0
-OnlyOpen given history = (side : Side) (number : ℕ) (k : Keyed) → keyed_at number side history ≡ Some k → IsOfOpen given history side number
+abbrev pub OnlyOpen : Words → Given → List Event → Type 0
+OnlyOpen words given history = (side : Side) (number : ℕ) (k : Keyed) → keyed_at words number side history ≡ Some k → IsOfOpen given history side number
 
 -- an event of no call
-event_keeps : (given : Given) (history : List Event) (event : Event) → ((station : ℕ) → steps_in station event ≡ [])
+event_keeps : (words : Words) (given : Given) (history : List Event) (event : Event) → ((station : ℕ) → steps_in station event ≡ [])
     → ((station handle : ℕ) → number_at station handle (history ++ event ∷ []) ≡ number_at station handle history)
-    → ((side : Side) (number : ℕ) (k : Keyed) → keyed_at number side (history ++ event ∷ []) ≡ Some k → HasEnd (keyed_at number side history))
-    → OnlyOpen given history → OnlyOpen given (history ++ event ∷ [])
-event_keeps given history event none number had are = λ side n k is.
+    → ((side : Side) (number : ℕ) (k : Keyed) → keyed_at words number side (history ++ event ∷ []) ≡ Some k → HasEnd (keyed_at words number side history))
+    → OnlyOpen words given history → OnlyOpen words given (history ++ event ∷ [])
+event_keeps words given history event none number had are = λ side n k is.
     let has = had side n k is in
     let was = are side n has.keyed has.is in record {
       station = was.station;
@@ -186,25 +186,25 @@ event_keeps given history event none number had are = λ side n k is.
       number_is = number was.station was.handle ∙ was.number_is;
     }
 
-outside_keeps : (given : Given) (history : List Event) (event : Event) → is_outside event ≡ true → OnlyOpen given history → OnlyOpen given (history ++ event ∷ [])
-outside_keeps given history (TurnBegan slot radios) outside are =
+outside_keeps : (words : Words) (given : Given) (history : List Event) (event : Event) → is_outside event ≡ true → OnlyOpen words given history → OnlyOpen words given (history ++ event ∷ [])
+outside_keeps words given history (TurnBegan slot radios) outside are =
     let event = TurnBegan slot radios in
-    event_keeps given history event (λ station. refl) (λ station handle. number_quiet station handle history event (λ links. refl))
-    (λ side number k is. line_had side number history (history ++ event ∷ []) _ k (journal_event history event) refl is) are
-outside_keeps given history (HostFed other octets) outside are =
+    event_keeps words given history event (λ station. refl) (λ station handle. number_quiet station handle history event (λ links. refl))
+    (λ side number k is. line_had words side number history (history ++ event ∷ []) _ k (journal_event history event) refl is) are
+outside_keeps words given history (HostFed other octets) outside are =
     let event = HostFed other octets in
-    event_keeps given history event (λ station. refl) (λ station handle. number_quiet station handle history event (λ links. refl))
-    (λ side number k is. line_had side number history (history ++ event ∷ []) _ k (journal_event history event) refl is) are
-outside_keeps given history (Transmitted sender channel octets []) outside are =
+    event_keeps words given history event (λ station. refl) (λ station handle. number_quiet station handle history event (λ links. refl))
+    (λ side number k is. line_had words side number history (history ++ event ∷ []) _ k (journal_event history event) refl is) are
+outside_keeps words given history (Transmitted sender channel octets []) outside are =
     let event = Transmitted sender channel octets [] in
-    event_keeps given history event (λ station. refl) (λ station handle. number_sent station handle history sender channel octets [])
-    (λ side number k is. record { keyed = k; is = ap (keyed_on side number) (sym (journal_event history event ∙ append-nil (journal_of history))) ∙ is }) are
-outside_keeps given history (Transmitted sender channel octets (hearing ∷ hearings)) outside are =
+    event_keeps words given history event (λ station. refl) (λ station handle. number_sent station handle history sender channel octets [])
+    (λ side number k is. record { keyed = k; is = ap (keyed_on words side number) (sym (journal_event history event ∙ append-nil (journal_of history))) ∙ is }) are
+outside_keeps words given history (Transmitted sender channel octets (hearing ∷ hearings)) outside are =
     let event = Transmitted sender channel octets (hearing ∷ hearings) in
-    event_keeps given history event (λ station. refl) (λ station handle. number_sent station handle history sender channel octets (hearing ∷ hearings))
-    (λ side number k is. line_had side number history (history ++ event ∷ []) (air_line sender channel octets hearing) k (journal_event history event) refl is) are
-outside_keeps given history (Called station step) outside are = absurd cc
-outside_keeps given history (Noted station note) outside are = absurd cc
+    event_keeps words given history event (λ station. refl) (λ station handle. number_sent station handle history sender channel octets (hearing ∷ hearings))
+    (λ side number k is. line_had words side number history (history ++ event ∷ []) (air_line sender channel octets hearing) k (journal_event history event) refl is) are
+outside_keeps words given history (Called station step) outside are = absurd cc
+outside_keeps words given history (Noted station note) outside are = absurd cc
 
 -- ---- a call
 
@@ -216,7 +216,7 @@ quiet_notes : (handle : ℕ) (notes : List Note) → AreNot is_opening notes →
 quiet_notes handle notes none =
     All-from_recursion (OpensNone handle) notes (all_of (λ note. is_opening note ≡ false) (OpensNone handle) (quiet_note handle) notes none)
 
-module _ (given : Given) (station : ℕ) (step : Call) (history : List Event) (in_it : is_in station given.stations ≡ true) (are : OnlyOpen given history) where
+module _ (words : Words) (given : Given) (station : ℕ) (step : Call) (history : List Event) (in_it : is_in station given.stations ≡ true) (are : OnlyOpen words given history) where
   abbrev setup : Setup
   setup = setup_at given station
 
@@ -238,8 +238,8 @@ module _ (given : Given) (station : ℕ) (step : Call) (history : List Event) (i
   after_is : called ++ map (Noted station) notes ≡ after
   after_is = append_assoc history (Called station step ∷ []) (map (Noted station) notes)
 
-  called_same : (number : ℕ) (side : Side) → keyed_at number side called ≡ keyed_at number side history
-  called_same number side = ap (keyed_on side number) (journal_event history (Called station step) ∙ append-nil (journal_of history))
+  called_same : (number : ℕ) (side : Side) → keyed_at words number side called ≡ keyed_at words number side history
+  called_same number side = ap (keyed_on words side number) (journal_event history (Called station step) ∙ append-nil (journal_of history))
 
   called_number : (handle : ℕ) → number_at station handle called ≡ number_at station handle history
   called_number handle = number_quiet station handle history (Called station step) (λ links. refl)
@@ -277,18 +277,18 @@ module _ (given : Given) (station : ℕ) (step : Call) (history : List Event) (i
           number_is = number_other given station step history was.station was.handle differs ∙ was.number_is;
         }
 
-    was_of : HasEnd (keyed_at number side called) → IsOfOpen given history side number
+    was_of : HasEnd (keyed_at words number side called) → IsOfOpen given history side number
     was_of has = are side number has.keyed (sym (called_same number side) ∙ has.is)
 
-    module _ (k : Keyed) (is : keyed_at number side after ≡ Some k) where
-      is_then : keyed_at number side (called ++ map (Noted station) notes) ≡ Some k
-      is_then = ap (keyed_at number side) after_is ∙ is
+    module _ (k : Keyed) (is : keyed_at words number side after ≡ Some k) where
+      is_then : keyed_at words number side (called ++ map (Noted station) notes) ≡ Some k
+      is_then = ap (keyed_at words number side) after_is ∙ is
 
       -- no link is opened
       none_opened : AreNot is_opening notes → ((was : IsOfOpen given history side number) → was.station ≡ station → is_open facts.links was.handle ≡ true → is_open facts_then.links was.handle ≡ true)
           → IsOfOpen given after side number
       none_opened none on =
-          let was = was_of (notes_had side number station notes called k none is_then) in
+          let was = was_of (notes_had words side number station notes called k none is_then) in
           keep was (λ equal before. record {
             on = on was equal before;
             number = number_called given station step history was.handle (quiet_notes was.handle notes none);
@@ -296,8 +296,8 @@ module _ (given : Given) (station : ℕ) (step : Call) (history : List Event) (i
 
       not_shut : AreNot is_opening notes → (was : IsOfOpen given history side number) → was.station ≡ station → fold (note_open was.handle) true notes ≡ true
       not_shut none was equal =
-          still_open station was.handle notes called k none
-          ((λ i. keyed_at ((called_number was.handle ∙ ap (λ n. number_at n was.handle history) (sym equal) ∙ was.number_is) i) ((ap side_of (sym equal) ∙ was.side_is) i)
+          still_open words station was.handle notes called k none
+          ((λ i. keyed_at words ((called_number was.handle ∙ ap (λ n. number_at n was.handle history) (sym equal) ∙ was.number_is) i) ((ap side_of (sym equal) ∙ was.side_is) i)
           (called ++ map (Noted station) notes)) ∙ is_then)
 
       -- one is
@@ -310,16 +310,16 @@ module _ (given : Given) (station : ℕ) (step : Call) (history : List Event) (i
         abbrev last : ℕ
         last = (links_of called).last_of station
 
-        at_next : HasEnd (keyed_at number side (called ++ Noted station first ∷ []))
+        at_next : HasEnd (keyed_at words number side (called ++ Noted station first ∷ []))
         at_next =
-            notes_had side number station rest (called ++ Noted station first ∷ []) k none
-            (ap (keyed_at number side) (append_assoc called (Noted station first ∷ []) (map (Noted station) rest))
-            ∙ ap (λ all. keyed_at number side (called ++ map (Noted station) all)) (sym notes_are) ∙ is_then)
+            notes_had words side number station rest (called ++ Noted station first ∷ []) k none
+            (ap (keyed_at words number side) (append_assoc called (Noted station first ∷ []) (map (Noted station) rest))
+            ∙ ap (λ all. keyed_at words number side (called ++ map (Noted station) all)) (sym notes_are) ∙ is_then)
 
-        next_is : keyed_at number side (called ++ Noted station first ∷ [])
-            ≡ (if is_side (side_of station) side && last == number then keyed_begun side (link_numbered number (journal_of called)) else keyed_at number side called)
+        next_is : keyed_at words number side (called ++ Noted station first ∷ [])
+            ≡ (if is_side (side_of station) side && last == number then keyed_begun side (link_numbered number (journal_of called)) else keyed_at words number side called)
         next_is =
-            ap (keyed_on side number) (journal_event called (Noted station first)) ∙ keyed_more side number (journal_of called) (Opened (side_of station) last handle role)
+            ap (keyed_on words side number) (journal_event called (Noted station first)) ∙ keyed_more words side number (journal_of called) (Opened (side_of station) last handle role)
 
         sides : (one other : Side) → is_side one other ≡ true → one ≡ other
         sides A A is = refl
@@ -358,7 +358,7 @@ module _ (given : Given) (station : ℕ) (step : Call) (history : List Event) (i
                   number_is = number_then ∙ eqb-true last number (right_of (is_side (side_of station) side) (last == number) test);
                 }
             by false test =
-                let before = sym (next_is ∙ ap (λ b. if b then keyed_begun side (link_numbered number (journal_of called)) else keyed_at number side called) test) ∙ at_next.is in
+                let before = sym (next_is ∙ ap (λ b. if b then keyed_begun side (link_numbered number (journal_of called)) else keyed_at words number side called) test) ∙ at_next.is in
                 let was = was_of (record { keyed = at_next.keyed; is = before }) in
                 keep was (λ equal on.
                 let apart : (handle == was.handle) ≡ false = false_from_ne_true (handle == was.handle) (λ same.
@@ -379,63 +379,63 @@ module _ (given : Given) (station : ℕ) (step : Call) (history : List Event) (i
           sym (opens was.handle) ∙ ap (λ b. fold (note_open was.handle) b notes) before ∙ not_shut none was equal)
       by_notes (opens_first handle role own peer rest notes_are none shut reports free now others) = opened_one handle role own peer rest notes_are none free now others
 
-  call_keeps : OnlyOpen given after
+  call_keeps : OnlyOpen words given after
   call_keeps = λ side number k is. by_notes side number k is (past_noted setup (past_of station history) step)
 
 -- ---- a run
 
-abbrev OnlyOpenBefore : Given → List Event → Event → Type 0
-OnlyOpenBefore given before (TurnBegan slot radios) = OnlyOpen given before
-OnlyOpenBefore given before (HostFed station octets) = ⊤
-OnlyOpenBefore given before (Called station step) = ⊤
-OnlyOpenBefore given before (Noted station note) = ⊤
-OnlyOpenBefore given before (Transmitted station channel octets hearings) = ⊤
+abbrev OnlyOpenBefore : Words → Given → List Event → Event → Type 0
+OnlyOpenBefore words given before (TurnBegan slot radios) = OnlyOpen words given before
+OnlyOpenBefore words given before (HostFed station octets) = ⊤
+OnlyOpenBefore words given before (Called station step) = ⊤
+OnlyOpenBefore words given before (Noted station note) = ⊤
+OnlyOpenBefore words given before (Transmitted station channel octets hearings) = ⊤
 
-any_before : (given : Given) (history : List Event) (event : Event) → OnlyOpen given history → OnlyOpenBefore given history event
-any_before given history (TurnBegan slot radios) is = is
-any_before given history (HostFed station octets) is = tt
-any_before given history (Called station step) is = tt
-any_before given history (Noted station note) is = tt
-any_before given history (Transmitted station channel octets hearings) is = tt
+any_before : (words : Words) (given : Given) (history : List Event) (event : Event) → OnlyOpen words given history → OnlyOpenBefore words given history event
+any_before words given history (TurnBegan slot radios) is = is
+any_before words given history (HostFed station octets) is = tt
+any_before words given history (Called station step) is = tt
+any_before words given history (Noted station note) is = tt
+any_before words given history (Transmitted station channel octets hearings) is = tt
 
-record AreOnlyOpen (given : Given) (history : List Event) : Type 0 where
-  open_now : OnlyOpen given history
-  each : Each (OnlyOpenBefore given) [] history
+record AreOnlyOpen (words : Words) (given : Given) (history : List Event) : Type 0 where
+  open_now : OnlyOpen words given history
+  each : Each (OnlyOpenBefore words given) [] history
 
 -- where each call is of a station of the run
-abbrev AreOnly : Given → List Event → Type 0
-AreOnly given history = Each (OfStations given) [] history → AreOnlyOpen given history
+abbrev AreOnly : Words → Given → List Event → Type 0
+AreOnly words given history = Each (OfStations given) [] history → AreOnlyOpen words given history
 
-only_stepped : (given : Given) → IsStepped given (AreOnly given)
-only_stepped given = record {
+only_stepped : (words : Words) (given : Given) → IsStepped given (AreOnly words given)
+only_stepped words given = record {
   on_event = λ history event outside is all.
       let before = is (each_front (OfStations given) [] history (event ∷ []) all) in record {
-        open_now = outside_keeps given history event outside before.open_now;
-        each = each_event (OnlyOpenBefore given) history event before.each (any_before given history event before.open_now);
+        open_now = outside_keeps words given history event outside before.open_now;
+        each = each_event (OnlyOpenBefore words given) history event before.each (any_before words given history event before.open_now);
       };
   on_call = λ station step history is all.
       let notes = notes_after (setup_at given station) (facts_at given station history) step in
       let before = is (each_front (OfStations given) [] history (Called station step ∷ map (Noted station) notes) all) in
       let in_it = each_at (OfStations given) (after_call given station step history) history (map (Noted station) notes) (Called station step) all refl in record {
-        open_now = call_keeps given station step history in_it before.open_now;
-        each = each_called (OnlyOpenBefore given) station step notes history before.each tt (λ earlier note. tt);
+        open_now = call_keeps words given station step history in_it before.open_now;
+        each = each_called (OnlyOpenBefore words given) station step notes history before.each tt (λ earlier note. tt);
       };
 }
 
-none_only : (given : Given) → OnlyOpen given []
+none_only : (words : Words) (given : Given) → OnlyOpen words given []
 unfolding keyed_on journal_of
-none_only given side number k is = absurd cc
+none_only words given side number k is = absurd cc
 
-run_only : (given : Given) → AreOnlyOpen given (history_of (run_of given))
-run_only given = run_stepped given (AreOnly given) (only_stepped given) (λ all. record { open_now = none_only given; each = tt }) (run_of_stations given)
+run_only : (words : Words) (given : Given) → AreOnlyOpen words given (history_of (run_of given))
+run_only words given = run_stepped given (AreOnly words given) (only_stepped words given) (λ all. record { open_now = none_only words given; each = tt }) (run_of_stations given)
 
-pub only_open_before_turn : (given : Given) (before rest : List Event) (slot : ℕ) (radios : List Bool) → history_of (run_of given) ≡ before ++ TurnBegan slot radios ∷ rest
-    → OnlyOpen given before
-only_open_before_turn given before rest slot radios at =
-    each_at (OnlyOpenBefore given) (history_of (run_of given)) before rest (TurnBegan slot radios) (run_only given).each at
+pub only_open_before_turn : (words : Words) (given : Given) (before rest : List Event) (slot : ℕ) (radios : List Bool) → history_of (run_of given) ≡ before ++ TurnBegan slot radios ∷ rest
+    → OnlyOpen words given before
+only_open_before_turn words given before rest slot radios at =
+    each_at (OnlyOpenBefore words given) (history_of (run_of given)) before rest (TurnBegan slot radios) (run_only words given).each at
 
-pub only_open_at_end : (given : Given) → OnlyOpen given (history_of (run_of given))
-only_open_at_end given = (run_only given).open_now
+pub only_open_at_end : (words : Words) (given : Given) → OnlyOpen words given (history_of (run_of given))
+only_open_at_end words given = (run_only words given).open_now
 
 -- ---- the line of a turn
 

@@ -4,6 +4,8 @@ use Rattle.std.specs.Option.{option_map}
 use Rattle.ble_base.specs.declared.roles.Side.{Side}
 use Rattle.journal_controls.specs.controller_model.Step.{Step as Call, TurnBegins, TurnEnds}
 use Rattle.journal_controls.specs.journal_acks.Shut.{last_heard}
+use Rattle.journal_controls.specs.journal_ends.Asked.{Words}
+use Rattle.journal_controls.specs.journal_ends.GivenWords.{GivesWords}
 use Rattle.journal_controls.specs.journal_ends.Seen.{last_slot}
 use Rattle.journal_controls.specs.link_model.Facts.{keyed_of}
 use Rattle.journal_controls.specs.link_model.Times.{due_of, ending_of}
@@ -41,74 +43,74 @@ use Rattle.journal_leaving.proofs.KeptLeavings.{AllStay, AreLeft, AreLeftAt, Beg
 use Rattle.journal_leaving.proofs.StayingLinks.{none_ends}
 use Rattle.journal_leaving.specs.Reasons.{due_on, due_with, ending_on, ending_with}
 
-abbrev pub NoneLeaves : Given → List Event → Type 0
-NoneLeaves given history =
+abbrev pub NoneLeaves : Words → Given → List Event → Type 0
+NoneLeaves words given history =
     (station : ℕ) → is_in station given.stations ≡ true → (handle : ℕ) (link : OpenLink) → link_at handle (facts_at given station history).links ≡ Some link
-    → ending_on (side_of station) (number_at station handle history) (journal_of history) ≡ None
+    → ending_on words (side_of station) (number_at station handle history) (journal_of history) ≡ None
 
-pub ending_by_lines : (number : ℕ) (side : Side) (history : List Event) (link : OpenLink) → keyed_at number side history ≡ Some (keyed_of (facts_in link))
-    → leaving_at number side history ≡ Some (facts_in link).leaving → ending_on side number (journal_of history) ≡ ending_of (facts_in link)
+pub ending_by_lines : (words : Words) (number : ℕ) (side : Side) (history : List Event) (link : OpenLink) → keyed_at words number side history ≡ Some (keyed_of (facts_in link))
+    → leaving_at words number side history ≡ Some (facts_in link).leaving → ending_on words side number (journal_of history) ≡ ending_of (facts_in link)
 unfolding ending_on
-ending_by_lines number side history link keyed left = λ i. ending_with (control_of side number (journal_of history) (keyed_of (facts_in link)) keyed i) (left i)
+ending_by_lines words number side history link keyed left = λ i. ending_with (control_of words side number (journal_of history) (keyed_of (facts_in link)) keyed i) (left i)
 
 -- by what an end is due, as its lines tell it
-pub record TellsDue (number : ℕ) (side : Side) (station : ℕ) (history : List Event) (link : OpenLink) : Type 0 where
+pub record TellsDue (words : Words) (number : ℕ) (side : Side) (station : ℕ) (history : List Event) (link : OpenLink) : Type 0 where
   pub begun : IsBegun history number station link.setup
-  pub keyed : keyed_at number side history ≡ Some (keyed_of (facts_in link))
-  pub left : leaving_at number side history ≡ Some (facts_in link).leaving
+  pub keyed : keyed_at words number side history ≡ Some (keyed_of (facts_in link))
+  pub left : leaving_at words number side history ≡ Some (facts_in link).leaving
   pub heard : last_heard number side (journal_of history) ≡ option_map (λ (one : Reception). one.slot) (facts_in link).last_good
 
-pub due_by_lines : (number : ℕ) (side : Side) (station : ℕ) (history : List Event) (link : OpenLink) (slot : ℕ) → TellsDue number side station history link → turn_at history ≡ slot
-    → due_on side number (journal_of history) ≡ due_of link.setup (facts_in link) slot
+pub due_by_lines : (words : Words) (number : ℕ) (side : Side) (station : ℕ) (history : List Event) (link : OpenLink) (slot : ℕ) → TellsDue words number side station history link → turn_at history ≡ slot
+    → due_on words side number (journal_of history) ≡ due_of link.setup (facts_in link) slot
 unfolding due_on
-due_by_lines number side station history link slot told turn =
-    (λ i. due_with (told.begun.is_link i) (control_of side number (journal_of history) (keyed_of (facts_in link)) told.keyed i) (told.left i) (told.heard i) (turn i)) ∙ due_is told.begun.link link.setup (facts_in link) slot told.begun.slot
+due_by_lines words number side station history link slot told turn =
+    (λ i. due_with (told.begun.is_link i) (control_of words side number (journal_of history) (keyed_of (facts_in link)) told.keyed i) (told.left i) (told.heard i) (turn i)) ∙ due_is told.begun.link link.setup (facts_in link) slot told.begun.slot
 
 slot_in : (good : Option Reception) → slot_of good ≡ option_map (λ (one : Reception). one.slot) good
 slot_in None = refl
 slot_in (Some good) = refl
 
-none_by : (number : ℕ) (side : Side) (history : List Event) (link : OpenLink) → keyed_at number side history ≡ Some (keyed_of (facts_in link))
-    → leaving_at number side history ≡ Some (facts_in link).leaving → ending_in link ≡ None → ending_on side number (journal_of history) ≡ None
-none_by number side history link keyed left stays = ending_by_lines number side history link keyed left ∙ none_ends (ending_of (facts_in link)) stays
+none_by : (words : Words) (number : ℕ) (side : Side) (history : List Event) (link : OpenLink) → keyed_at words number side history ≡ Some (keyed_of (facts_in link))
+    → leaving_at words number side history ≡ Some (facts_in link).leaving → ending_in link ≡ None → ending_on words side number (journal_of history) ≡ None
+none_by words number side history link keyed left stays = ending_by_lines words number side history link keyed left ∙ none_ends (ending_of (facts_in link)) stays
 
 -- when it heard the last good packet
-pub heard_by_lines : (number : ℕ) (side : Side) (history : List Event) (link : OpenLink) → seen_at number side history ≡ seen_in_link number side link
+pub heard_by_lines : (words : Words) (number : ℕ) (side : Side) (history : List Event) (link : OpenLink) → seen_at words number side history ≡ seen_in_link number side link
     → last_heard number side (journal_of history) ≡ option_map (λ (one : Reception). one.slot) (facts_in link).last_good
-heard_by_lines number side history link seen =
-    last_is side number (journal_of history) ∙ ap last_slot seen ∙ sym (past_slot side number link.setup link.past) ∙ slot_in (facts_in link).last_good
+heard_by_lines words number side history link seen =
+    last_is words side number (journal_of history) ∙ ap last_slot seen ∙ sym (past_slot side number link.setup link.past) ∙ slot_in (facts_in link).last_good
 
-module _ (heard_whole : IsHeardWhole) (understood : IsUnderstood) (taken : AreTaken) (nth : AreNth) (apart : AreApart) (given : Given) (are_two : IsOfTwo given)
-    (six : HaveAddresses given) where
-  ends : Ends (run_of given) (IsWhole given (AreLeftAt given)) (IsStopped given (AreLeftAt given))
-  ends = run_kept given (AreLeftAt given) (leavings_kept heard_whole understood taken nth apart given are_two six) (leavings_first given)
+module _ (words : Words) (heard_whole : IsHeardWhole) (understood : IsUnderstood) (taken : AreTaken) (nth : AreNth) (apart : AreApart) (given : Given) (are_two : IsOfTwo given)
+    (six : HaveAddresses given) (gives : GivesWords given words) where
+  ends : Ends (run_of given) (IsWhole given (AreLeftAt words given)) (IsStopped given (AreLeftAt words given))
+  ends = run_kept given (AreLeftAt words given) (leavings_kept words heard_whole understood taken nth apart given are_two six gives) (leavings_first words given)
 
-  run_left : Each (LeftBefore given) [] (history_of (run_of given))
+  run_left : Each (LeftBefore words given) [] (history_of (run_of given))
   run_left =
-      ends_with (run_of given) (IsWhole given (AreLeftAt given)) (IsStopped given (AreLeftAt given)) (Each (LeftBefore given) []) ends
+      ends_with (run_of given) (IsWhole given (AreLeftAt words given)) (IsStopped given (AreLeftAt words given)) (Each (LeftBefore words given) []) ends
       (λ history whole. whole.is.each) (λ history stop stopped. stopped.kept.each)
 
   before_call : (before rest : List Event) (station : ℕ) (step : Call) → history_of (run_of given) ≡ before ++ Called station step ∷ rest
-      → IsLeftBefore given before station step × BegunBefore given before station step
-  before_call before rest station step at = each_at (LeftBefore given) (history_of (run_of given)) before rest (Called station step) run_left at
+      → IsLeftBefore words given before station step × BegunBefore given before station step
+  before_call before rest station step at = each_at (LeftBefore words given) (history_of (run_of given)) before rest (Called station step) run_left at
 
-  pub left_before_call : (before rest : List Event) (station : ℕ) (step : Call) → history_of (run_of given) ≡ before ++ Called station step ∷ rest → IsLeftBefore given before station step
+  pub left_before_call : (before rest : List Event) (station : ℕ) (step : Call) → history_of (run_of given) ≡ before ++ Called station step ∷ rest → IsLeftBefore words given before station step
   left_before_call before rest station step at = (before_call before rest station step at).0
 
   -- as a turn begins, the lines tell by what an end is due, and so what is due to it
   pub due_told : (before rest : List Event) (station slot : ℕ) (on : Bool) → history_of (run_of given) ≡ before ++ Called station (TurnBegins slot on) ∷ rest
       → is_in station given.stations ≡ true → (handle : ℕ) (link : OpenLink) → link_at handle (facts_at given station before).links ≡ Some link
-      → TellsDue (number_at station handle before) (side_of station) station before link
+      → TellsDue words (number_at station handle before) (side_of station) station before link
   due_told before rest station slot on at = λ in_it handle link is_open.
       let step = TurnBegins slot on in
       let side = side_of station in
       let number = number_at station handle before in
       let both = before_call before rest station step at in
-      let seen = seen_before_call understood taken nth apart given are_two six before rest station step at in_it handle link is_open ∙ append-nil (seen_in_link number side link) in record {
+      let seen = seen_before_call words understood taken nth apart given are_two six gives before rest station step at in_it handle link is_open ∙ append-nil (seen_in_link number side link) in record {
         begun = both.1 handle link is_open;
-        keyed = keyed_before_call heard_whole understood taken nth apart given are_two six before rest station step at in_it handle link is_open;
+        keyed = keyed_before_call words heard_whole understood taken nth apart given are_two six gives before rest station step at in_it handle link is_open;
         left = both.0 in_it handle link is_open;
-        heard = heard_by_lines number side before link seen;
+        heard = heard_by_lines words number side before link seen;
       }
 
   pub turn_told : (before rest : List Event) (station slot : ℕ) (on : Bool) → history_of (run_of given) ≡ before ++ Called station (TurnBegins slot on) ∷ rest → turn_at before ≡ slot
@@ -117,43 +119,43 @@ module _ (heard_whole : IsHeardWhole) (understood : IsUnderstood) (taken : AreTa
 
   pub due_before_call : (before rest : List Event) (station slot : ℕ) (on : Bool) → history_of (run_of given) ≡ before ++ Called station (TurnBegins slot on) ∷ rest
       → is_in station given.stations ≡ true → (handle : ℕ) (link : OpenLink) → link_at handle (facts_at given station before).links ≡ Some link
-      → due_on (side_of station) (number_at station handle before) (journal_of before) ≡ due_of link.setup (facts_in link) slot
+      → due_on words (side_of station) (number_at station handle before) (journal_of before) ≡ due_of link.setup (facts_in link) slot
   due_before_call before rest station slot on at = λ in_it handle link is_open.
-      due_by_lines (number_at station handle before) (side_of station) station before link slot (due_told before rest station slot on at in_it handle link is_open)
+      due_by_lines words (number_at station handle before) (side_of station) station before link slot (due_told before rest station slot on at in_it handle link is_open)
       (turn_told before rest station slot on at)
 
   -- as a turn ends, so is the code with which it is to end
   pub ending_before_call : (before rest : List Event) (station : ℕ) → history_of (run_of given) ≡ before ++ Called station TurnEnds ∷ rest
       → is_in station given.stations ≡ true → (handle : ℕ) (link : OpenLink) → link_at handle (facts_at given station before).links ≡ Some link
-      → ending_on (side_of station) (number_at station handle before) (journal_of before) ≡ ending_of (facts_in link)
+      → ending_on words (side_of station) (number_at station handle before) (journal_of before) ≡ ending_of (facts_in link)
   ending_before_call before rest station at = λ in_it handle link is_open.
-      ending_by_lines (number_at station handle before) (side_of station) before link
-      (keyed_before_call heard_whole understood taken nth apart given are_two six before rest station TurnEnds at in_it handle link is_open)
+      ending_by_lines words (number_at station handle before) (side_of station) before link
+      (keyed_before_call words heard_whole understood taken nth apart given are_two six gives before rest station TurnEnds at in_it handle link is_open)
       ((before_call before rest station TurnEnds at).0 in_it handle link is_open)
 
   before_turn : (before rest : List Event) (slot : ℕ) (radios : List Bool) → history_of (run_of given) ≡ before ++ TurnBegan slot radios ∷ rest
-      → AreLeft given before × AllStay given before
-  before_turn before rest slot radios at = each_at (LeftBefore given) (history_of (run_of given)) before rest (TurnBegan slot radios) run_left at
+      → AreLeft words given before × AllStay given before
+  before_turn before rest slot radios at = each_at (LeftBefore words given) (history_of (run_of given)) before rest (TurnBegan slot radios) run_left at
 
-  pub left_before_turn : (before rest : List Event) (slot : ℕ) (radios : List Bool) → history_of (run_of given) ≡ before ++ TurnBegan slot radios ∷ rest → AreLeft given before
+  pub left_before_turn : (before rest : List Event) (slot : ℕ) (radios : List Bool) → history_of (run_of given) ≡ before ++ TurnBegan slot radios ∷ rest → AreLeft words given before
   left_before_turn before rest slot radios at = (before_turn before rest slot radios at).0
 
   -- by its lines no end that is open then is to leave its link
   pub none_leaves_before_turn : (before rest : List Event) (slot : ℕ) (radios : List Bool) → history_of (run_of given) ≡ before ++ TurnBegan slot radios ∷ rest
-      → NoneLeaves given before
+      → NoneLeaves words given before
   none_leaves_before_turn before rest slot radios at = λ station in_it handle link is_open.
       let both = before_turn before rest slot radios at in
-      none_by (number_at station handle before) (side_of station) before link
-      (keyed_before_turn heard_whole understood taken nth apart given are_two six before rest slot radios at station in_it handle link is_open)
+      none_by words (number_at station handle before) (side_of station) before link
+      (keyed_before_turn words heard_whole understood taken nth apart given are_two six gives before rest slot radios at station in_it handle link is_open)
       (both.0 station in_it handle link is_open) (both.1 station in_it handle link is_open)
 
   -- at the end of a whole run
-  pub left_at_end : (history : List Event) → run_of given ≡ GoesOn history → AreLeft given history
-  left_at_end history goes = all_left given history (ends_whole (run_of given) (IsWhole given (AreLeftAt given)) (IsStopped given (AreLeftAt given)) history ends goes).is
+  pub left_at_end : (history : List Event) → run_of given ≡ GoesOn history → AreLeft words given history
+  left_at_end history goes = all_left words given history (ends_whole (run_of given) (IsWhole given (AreLeftAt words given)) (IsStopped given (AreLeftAt words given)) history ends goes).is
 
-  pub none_leaves_at_end : (history : List Event) → run_of given ≡ GoesOn history → NoneLeaves given history
+  pub none_leaves_at_end : (history : List Event) → run_of given ≡ GoesOn history → NoneLeaves words given history
   none_leaves_at_end history goes = λ station in_it handle link is_open.
-      let last = (ends_whole (run_of given) (IsWhole given (AreLeftAt given)) (IsStopped given (AreLeftAt given)) history ends goes).is in
-      none_by (number_at station handle history) (side_of station) history link
-      (subst (AreControlled given) (ap history_of goes) (keyed_at_end heard_whole understood taken nth apart given are_two six) station in_it handle link is_open)
-      (all_left given history last station in_it handle link is_open) (all_stay given history last station in_it handle link is_open)
+      let last = (ends_whole (run_of given) (IsWhole given (AreLeftAt words given)) (IsStopped given (AreLeftAt words given)) history ends goes).is in
+      none_by words (number_at station handle history) (side_of station) history link
+      (subst (AreControlled words given) (ap history_of goes) (keyed_at_end words heard_whole understood taken nth apart given are_two six gives) station in_it handle link is_open)
+      (all_left words given history last station in_it handle link is_open) (all_stay words given history last station in_it handle link is_open)

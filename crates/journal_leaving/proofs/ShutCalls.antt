@@ -11,6 +11,8 @@ use Rattle.journal_controls.specs.controller_model.Shutting.{IsShut, leaving as 
 use Rattle.journal_controls.specs.controller_model.Side.{notes_after}
 use Rattle.journal_controls.specs.controller_model.Step.{Step as Call}
 use Rattle.journal_controls.proofs.controller_model.Shuts.{shuts_with_reason}
+use Rattle.journal_controls.specs.journal_ends.Asked.{Words}
+use Rattle.journal_controls.specs.journal_ends.GivenWords.{GivesWords}
 use Rattle.journal_controls.specs.link_model.Facts.{Facts as EndFacts}
 use Rattle.journal_controls.specs.link_model.Step.{DataReported}
 use Rattle.journal_controls.specs.link_model.Times.{ending_of}
@@ -47,25 +49,25 @@ some_code (Some code) reason is = let same : code.0 ≡ reason.0 = cc in λ i. S
 pub handed : (facts : Facts) (handle : ℕ) (link : OpenLink) → link_at handle (facts_handed facts).links ≡ Some link → WasOpen link_reported (link_at handle facts.links) link
 handed facts handle link at = was_open link_reported (link_at handle facts.links) link (sym (map_under (option_map link_reported) refl 0 handle facts.links) ∙ at)
 
-module _ (heard_whole : IsHeardWhole) (understood : IsUnderstood) (taken : AreTaken) (nth : AreNth) (apart : AreApart) (given : Given) (are_two : IsOfTwo given)
-    (six : HaveAddresses given) (before rest : List Event) (station : ℕ) (in_it : is_in station given.stations ≡ true) (handle : ℕ) (reason : ErrCode) where
+module _ (words : Words) (heard_whole : IsHeardWhole) (understood : IsUnderstood) (taken : AreTaken) (nth : AreNth) (apart : AreApart) (given : Given) (are_two : IsOfTwo given)
+    (six : HaveAddresses given) (gives : GivesWords given words) (before rest : List Event) (station : ℕ) (in_it : is_in station given.stations ≡ true) (handle : ℕ) (reason : ErrCode) where
   abbrev facts : Facts
   facts = facts_at given station before
 
-  by_cause : (step : Call) → history_of (run_of given) ≡ before ++ Called station step ∷ rest → IsShut facts step handle reason.0 → IsShutIn given before station step handle reason
+  by_cause : (step : Call) → history_of (run_of given) ≡ before ++ Called station step ∷ rest → IsShut facts step handle reason.0 → IsShutIn words given before station step handle reason
   by_cause step at (shut_overdue slot on link begins is_open due) =
       let called = at ∙ ap (λ one. before ++ Called station one ∷ rest) begins in
       overdue slot on begins
-      (due_before_call heard_whole understood taken nth apart given are_two six before rest station slot on called in_it handle link is_open ∙ overdue_due slot reason.0 link due)
+      (due_before_call words heard_whole understood taken nth apart given are_two six gives before rest station slot on called in_it handle link is_open ∙ overdue_due slot reason.0 link due)
   by_cause step at (shut_leaving link ends is_open leaves) =
       let called = at ∙ ap (λ one. before ++ Called station one ∷ rest) ends in
       let was = handed facts handle link is_open in
       let same = ap (λ l. ending_of (facts_in l)) was.is ∙ reported_ends was.link in
       leaving ends
-      (ending_before_call heard_whole understood taken nth apart given are_two six before rest station called in_it handle was.link was.was
+      (ending_before_call words heard_whole understood taken nth apart given are_two six gives before rest station called in_it handle was.link was.was
       ∙ sym same ∙ some_code (ending_of (facts_in link)) reason (leaving_ends reason.0 link leaves))
   by_cause step at (shut_reset link completed is_open code) = reset completed code
 
   pub shut_in_call : (step : Call) → history_of (run_of given) ≡ before ++ Called station step ∷ rest
-      → Contains (notes_after (setup_at given station) facts step) (Shut handle reason) → IsShutIn given before station step handle reason
+      → Contains (notes_after (setup_at given station) facts step) (Shut handle reason) → IsShutIn words given before station step handle reason
   shut_in_call step at noted = by_cause step at ((shuts_with_reason (setup_at given station) (past_of station before) step handle reason.0).0 noted)

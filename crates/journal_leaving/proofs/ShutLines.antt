@@ -19,6 +19,8 @@ use Rattle.journal_controls.specs.controller_model.Step.{Step as Call, TurnBegin
 use Rattle.journal_controls.proofs.controller_model.Shuts.{shuts_with_reason}
 use Rattle.journal_controls.proofs.host_answers.LineAnswers.{IsQuiet}
 use Rattle.journal_controls.specs.SaidLines.{NoneOpens, moved_by}
+use Rattle.journal_controls.specs.journal_ends.Asked.{Words}
+use Rattle.journal_controls.specs.journal_ends.GivenWords.{GivesWords}
 use Rattle.journal_controls.specs.journal_links.Begun.{link_numbered}
 use Rattle.journal_controls.specs.journal_links.LinkLines.{line_of, lines_of}
 use Rattle.journal_controls.specs.link_model.Facts.{keyed_of}
@@ -78,7 +80,7 @@ front_quiet side station [] more quiet = tt
 front_quiet side station (note ∷ notes) more quiet = (quiet.0, front_quiet side station notes more quiet.1)
 
 -- nothing is said of the link
-module _ (understood : IsUnderstood) (taken : AreTaken) (given : Given) (are_two : IsOfTwo given) (six : HaveAddresses given) (front : List Entry) (side : Side) (number : ℕ) (reason : ErrCode)
+module _ (words : Words) (understood : IsUnderstood) (taken : AreTaken) (given : Given) (are_two : IsOfTwo given) (six : HaveAddresses given) (gives : GivesWords given words) (front : List Entry) (side : Side) (number : ℕ) (reason : ErrCode)
     (call : IsLineInCall given front (shut_line side number reason)) (in_it : is_in call.station given.stations ≡ true) (outside : ends_phase call.step ≡ false)
     (no_octet : is_octet call.step ≡ false)
     (ascend : Ascend 0 (notes_after (setup_at given call.station) (facts_at given call.station call.base) call.step)) (link : OpenLink)
@@ -129,9 +131,9 @@ module _ (understood : IsUnderstood) (taken : AreTaken) (given : Given) (are_two
       ∙ (λ i. map (line_of own_side (number_before i)) (under_same i))
       ∙ sym (lines_are_notes understood taken given distinct six call.station apart call.base (called ∷ call.after) call.handle call.called was_open)
 
-  moving : IsMoving own own_side call.base then_on
+  moving : IsMoving words (drawn_at words own_side call.base) own own_side call.base then_on
   moving =
-      part_moving own own_side call.station call.step call.earlier call.base
+      part_moving words given own own_side call.station call.step call.earlier (ShutNote call.handle reason ∷ call.later) call.base gives.kept call.notes_are
       (front_quiet own_side call.station call.earlier (ShutNote call.handle reason ∷ call.later)
       (subst (AllByRecursion (IsQuiet own_side call.station)) call.notes_are (turn_answers given own_side call.station call.step call.base no_octet)))
 
@@ -143,15 +145,15 @@ module _ (understood : IsUnderstood) (taken : AreTaken) (given : Given) (are_two
   turn_then : turn_at then_on ≡ turn_at call.base
   turn_then = moving.turns
 
-  keyed_then : (k : Keyed) → keyed_at own own_side call.base ≡ Some k → keyed_at own own_side then_on ≡ Some k
+  keyed_then : (k : Keyed) → keyed_at words own own_side call.base ≡ Some k → keyed_at words own own_side then_on ≡ Some k
   keyed_then k is =
-      moving.keyed k (subst NoneOpens (sym none) tt) is ∙ ap (λ xs. Some (moved_by (withholds_at own_side call.base) (drawn_at own_side call.base) (turn_at call.base) xs k)) none
+      moving.keyed k (subst NoneOpens (sym none) tt) is ∙ ap (λ xs. Some (moved_by (withholds_at own_side call.base) (drawn_at words own_side call.base) (turn_at call.base) xs k)) none
 
-  leaving_then : (l : Leaving) → leaving_at own own_side call.base ≡ Some l → leaving_at own own_side then_on ≡ Some l
+  leaving_then : (l : Leaving) → leaving_at words own own_side call.base ≡ Some l → leaving_at words own own_side then_on ≡ Some l
   leaving_then l is = moving.still none ∙ is
 
   -- so what was due as the turn began is still due
-  due_then : TellsDue own own_side call.station call.base link → TellsDue own own_side call.station then_on link
+  due_then : TellsDue words own own_side call.station call.base link → TellsDue words own own_side call.station then_on link
   due_then told = record {
     begun = record {
       link = told.begun.link;
@@ -167,8 +169,8 @@ module _ (understood : IsUnderstood) (taken : AreTaken) (given : Given) (are_two
 
 -- ---- a line
 
-module _ (heard_whole : IsHeardWhole) (understood : IsUnderstood) (taken : AreTaken) (nth : AreNth) (apart : AreApart) (given : Given) (are_two : IsOfTwo given)
-    (six : HaveAddresses given) (front rest : List Entry) (side : Side) (number : ℕ) (reason : ErrCode)
+module _ (words : Words) (heard_whole : IsHeardWhole) (understood : IsUnderstood) (taken : AreTaken) (nth : AreNth) (apart : AreApart) (given : Given) (are_two : IsOfTwo given)
+    (six : HaveAddresses given) (gives : GivesWords given words) (front rest : List Entry) (side : Side) (number : ℕ) (reason : ErrCode)
     (is : journal_of (history_of (run_of given)) ≡ front ++ Shut side number reason ∷ rest) where
   abbrev line : LinkLine
   line = shut_line side number reason
@@ -187,15 +189,15 @@ module _ (heard_whole : IsHeardWhole) (understood : IsUnderstood) (taken : AreTa
 
   -- what holds after the call holds before the line
   at_line : ends_phase call.step ≡ false
-      → IsShutAs (journal_of (call.base ++ Called call.station call.step ∷ map (Noted call.station) call.earlier)) (side_of call.station)
+      → IsShutAs words (journal_of (call.base ++ Called call.station call.step ∷ map (Noted call.station) call.earlier)) (side_of call.station)
       (number_at call.station call.handle call.base) reason
-      → IsShutAs front side number reason
+      → IsShutAs words front side number reason
   at_line outside so =
-      to_line given front line call (λ one entries of. IsShutAs entries of one reason)
-      (subst (λ n. IsShutAs (journal_of call.before) (side_of call.station) n reason) (number_then given front line call outside ∙ sym call.number_is)
-      (subst (λ xs. IsShutAs (journal_of xs) (side_of call.station) (number_at call.station call.handle call.base) reason) (sym call.before_is) so))
+      to_line given front line call (λ one entries of. IsShutAs words entries of one reason)
+      (subst (λ n. IsShutAs words (journal_of call.before) (side_of call.station) n reason) (number_then given front line call outside ∙ sym call.number_is)
+      (subst (λ xs. IsShutAs words (journal_of xs) (side_of call.station) (number_at call.station call.handle call.base) reason) (sym call.before_is) so))
 
-  by_cause : IsShut facts call.step call.handle reason.0 → IsShutAs front side number reason
+  by_cause : IsShut facts call.step call.handle reason.0 → IsShutAs words front side number reason
   by_cause (shut_overdue slot on link begins is_open due) =
       let station = call.station in
       let outside = ap ends_phase begins in
@@ -203,13 +205,13 @@ module _ (heard_whole : IsHeardWhole) (understood : IsUnderstood) (taken : AreTa
       let ascend = subst (λ step. Ascend 0 (notes_after (setup_at given station) facts step)) (sym begins) (begins_ascend (setup_at given station) facts slot on) in
       let own = number_at station call.handle call.base in
       let then_on = call.base ++ Called station call.step ∷ map (Noted station) call.earlier in
-      let told = due_told heard_whole understood taken nth apart given are_two six call.base call.after station slot on at in_it call.handle link is_open in
-      let turn = turn_then understood taken given are_two six front side number reason call in_it outside (ap is_octet begins) ascend link is_open in
+      let told = due_told words heard_whole understood taken nth apart given are_two six gives call.base call.after station slot on at in_it call.handle link is_open in
+      let turn = turn_then words understood taken given are_two six gives front side number reason call in_it outside (ap is_octet begins) ascend link is_open in
       at_line outside
       (overdue
       (in_call_passed station call.step call.base call.earlier ∙ none_passed given call.base call.after station (TurnBegins slot on) refl at)
-      (due_by_lines own (side_of station) station then_on link slot (due_then understood taken given are_two six front side number reason call in_it outside (ap is_octet begins) ascend link is_open told)
-      (turn ∙ turn_told heard_whole understood taken nth apart given are_two six call.base call.after station slot on at)
+      (due_by_lines words own (side_of station) station then_on link slot (due_then words understood taken given are_two six gives front side number reason call in_it outside (ap is_octet begins) ascend link is_open told)
+      (turn ∙ turn_told words heard_whole understood taken nth apart given are_two six gives call.base call.after station slot on at)
       ∙ overdue_due slot reason.0 link due))
   by_cause (shut_leaving link ends is_open leaves) =
       let station = call.station in
@@ -220,15 +222,15 @@ module _ (heard_whole : IsHeardWhole) (understood : IsUnderstood) (taken : AreTa
       let then_on = call.base ++ Called station call.step ∷ map (Noted station) call.earlier in
       let was = handed facts call.handle link is_open in
       let same = ap (λ l. ending_of (facts_in l)) was.is ∙ reported_ends was.link in
-      let keyed = keyed_before_call heard_whole understood taken nth apart given are_two six call.base call.after station TurnEnds at in_it call.handle was.link was.was in
-      let left = left_before_call heard_whole understood taken nth apart given are_two six call.base call.after station TurnEnds at in_it call.handle was.link was.was in
+      let keyed = keyed_before_call words heard_whole understood taken nth apart given are_two six gives call.base call.after station TurnEnds at in_it call.handle was.link was.was in
+      let left = left_before_call words heard_whole understood taken nth apart given are_two six gives call.base call.after station TurnEnds at in_it call.handle was.link was.was in
       at_line outside
       (leaving
-      (ending_by_lines own (side_of station) then_on was.link
-      (keyed_then understood taken given are_two six front side number reason call in_it outside (ap is_octet ends) ascend was.link was.was (keyed_of (facts_in was.link)) keyed)
-      (leaving_then understood taken given are_two six front side number reason call in_it outside (ap is_octet ends) ascend was.link was.was (facts_in was.link).leaving left)
+      (ending_by_lines words own (side_of station) then_on was.link
+      (keyed_then words understood taken given are_two six gives front side number reason call in_it outside (ap is_octet ends) ascend was.link was.was (keyed_of (facts_in was.link)) keyed)
+      (leaving_then words understood taken given are_two six gives front side number reason call in_it outside (ap is_octet ends) ascend was.link was.was (facts_in was.link).leaving left)
       ∙ sym same ∙ some_code (ending_of (facts_in link)) reason (leaving_ends reason.0 link leaves)))
   by_cause (shut_reset link completed is_open code) = reset code (reset_completed given are_two front side number reason call completed)
 
-  pub line_shut_as : IsShutAs front side number reason
+  pub line_shut_as : IsShutAs words front side number reason
   line_shut_as = by_cause (shut_in given front side number reason call)

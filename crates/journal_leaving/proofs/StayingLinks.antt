@@ -18,8 +18,7 @@ use Rattle.journal_controls.proofs.journal_acks.link_calls.UnderHandles.{host_un
 use Rattle.journal_controls.proofs.journal_ends.run_laws.Agreed.{step_facts}
 use Rattle.journal_controls.proofs.journal_ends.run_laws.OpenSteps.{none_open, open_has}
 use Rattle.journal_controls.proofs.journal_ends.run_laws.TurnPlaces.{Between, IsTurned, Stage, Within}
-use Rattle.journal_controls.proofs.link_model.Plain.{past_plain}
-use Rattle.journal_leaving.proofs.AskedSteps.{step_ending}
+use Rattle.journal_leaving.proofs.AskedSteps.{host_step, step_ending}
 
 abbrev pub AreStaying : Stage → ℕ → Facts → Type 0
 AreStaying Between begun facts = (handle : ℕ) (link : OpenLink) → link_at handle facts.links ≡ Some link → ending_in link ≡ None
@@ -28,7 +27,7 @@ AreStaying (Within phases) begun facts = Unit {0}
 host_stays : (link : OpenLink) (step : EndStep) → IsAskedStep step → ending_in link ≡ None → ending_in (link_after step link) ≡ None
 host_stays link step by_host stays =
     ap (λ (f : EndFacts). option_map (λ (code : ErrCode). code.0) (ending_of f)) (step_facts link step)
-    ∙ ap (option_map (λ (code : ErrCode). code.0)) (step_ending link.setup (facts_in link) step by_host (past_plain link.setup link.past)) ∙ stays
+    ∙ ap (option_map (λ (code : ErrCode). code.0)) (step_ending link.setup (facts_in link) step (host_step step by_host)) ∙ stays
 
 given_stays : (setup : Setup) (facts : Facts) (octet handle : ℕ) (after : OpenLink) → HasHeardHost setup facts octet handle after
     → ((link : OpenLink) → link_at handle facts.links ≡ Some link → ending_in link ≡ None) → ending_in after ≡ None

@@ -3,7 +3,7 @@ use Rattle.std.proofs.Common.{◌≡◌, ℕ, Bool, true, false, List, [], ◌++
 use Rattle.std.proofs.lemmas.List.{map-append}
 use Rattle.ble_base.specs.declared.notes.Note.{Note}
 use Rattle.ble_base.specs.declared.roles.Side.{Side}
-use Rattle.journal_controls.specs.Withheld.{Withheld}
+use Rattle.journal_controls.specs.Withheld.{Withheld, nothing_withheld}
 use Rattle.journal_controls.specs.SaidLines.{moved_by}
 use Rattle.journal_controls.specs.TurnSteps.{first_if, steps_begun, steps_taken}
 use Rattle.journal_controls.specs.journal_links.LinkLines.{line_of}
@@ -72,23 +72,27 @@ module _ (side : Side) (number : ℕ) (withheld : Withheld) (response : Response
 
     -- ---- as a packet is taken
 
-    answers_by : (answers : Bool) (now : Facts) (k : Keyed) (l : Leaving) → now.leaving ≡ l
+    pub answers_by : (answers : Bool) (now : Facts) (k : Keyed) (l : Leaving) → now.leaving ≡ l
         → (fold (facts_after setup) now (first_if answers (PacketSent slot) [])).leaving
         ≡ leaving_sent_if answers (leaving_noted side number withheld response slot (notes_from setup now (first_if answers (PacketSent slot) [])) k l)
     answers_by answers now k l is = sends_by answers now k ∙ ap (λ one. leaving_sent_if answers (leaving_noted side number withheld response slot (notes_from setup now (first_if answers (PacketSent slot) [])) k one)) is
 
-    pub taking_leaves : (octets : List ℕ) (room answers : Bool) (facts : Facts) → facts.encryption.response ≡ response → let steps = steps_taken slot octets room answers in
-        let may = good_pdu setup facts octets in
-        (fold (facts_after setup) facts steps).leaving
-        ≡ leaving_sent_if answers
-        (leaving_noted side number withheld response slot (notes_from setup facts steps) (keyed_hearing setup.link.role slot may facts) (leaving_hearing setup.link.role slot may facts))
-    taking_leaves octets room answers facts drawn =
-        let now = facts_after setup facts (PacketReceived slot octets room) in
-        let here = notes_after setup facts (PacketReceived slot octets room) in
-        let later = notes_from setup now (first_if answers (PacketSent slot) []) in
-        let may = good_pdu setup facts octets in
-        let k = keyed_hearing setup.link.role slot may facts in
-        let l = leaving_hearing setup.link.role slot may facts in
-        answers_by answers now (moved_by withheld response slot (map (line_of side number) here) k) (leaving_noted side number withheld response slot here k l)
-        (packet_leaves side number withheld slot room setup facts octets ∙ ap (λ r. leaving_noted side number withheld r slot here k l) drawn)
-        ∙ ap (leaving_sent_if answers) (sym (noted_both here later k l))
+-- where nothing is withheld from its host
+module _ (side : Side) (number : ℕ) (response : Response) (slot : ℕ) (setup : Setup) where
+  abbrev noted : List Note → Keyed → Leaving → Leaving
+  noted notes k l = leaving_noted side number nothing_withheld response slot notes k l
+
+  pub taking_leaves : (octets : List ℕ) (room answers : Bool) (facts : Facts) → facts.encryption.response ≡ response → let steps = steps_taken slot octets room answers in
+      let may = good_pdu setup facts octets in
+      (fold (facts_after setup) facts steps).leaving
+      ≡ leaving_sent_if answers (noted (notes_from setup facts steps) (keyed_hearing setup.link.role slot may facts) (leaving_hearing setup.link.role slot may facts))
+  taking_leaves octets room answers facts drawn =
+      let now = facts_after setup facts (PacketReceived slot octets room) in
+      let here = notes_after setup facts (PacketReceived slot octets room) in
+      let later = notes_from setup now (first_if answers (PacketSent slot) []) in
+      let may = good_pdu setup facts octets in
+      let k = keyed_hearing setup.link.role slot may facts in
+      let l = leaving_hearing setup.link.role slot may facts in
+      answers_by side number nothing_withheld response slot setup answers now (moved_by nothing_withheld response slot (map (line_of side number) here) k) (noted here k l)
+      (packet_leaves side number slot room setup facts octets ∙ ap (λ r. leaving_noted side number nothing_withheld r slot here k l) drawn)
+      ∙ ap (leaving_sent_if answers) (sym (noted_both side number nothing_withheld response slot here later k l))

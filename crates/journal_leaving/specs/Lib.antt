@@ -1,4 +1,5 @@
 -- The definitions of this crate.
+pub mod Lacking
 pub mod Leaving
 pub mod Reasons
 pub mod Said

@@ -12,6 +12,7 @@ use Rattle.journal_controls.specs.link_model.Step.{Step}
 use Rattle.journal_controls.specs.link_model.declared.state.Leaving.{Leaving}
 use Rattle.journal_controls.specs.link_model.keyed_control.Keyed.{Keyed}
 use Rattle.journal_controls.specs.link_model.keyed_control.declared.material.Response.{Response}
+use Rattle.journal_leaving.specs.Lacking.{leaving_answering}
 use Rattle.journal_leaving.specs.Leaving.{leaving_asking, leaving_saying}
 
 -- how an end that is like this is to leave its link after these lines, in this turn, where these requests are withheld from
@@ -20,14 +21,14 @@ abbrev pub leaving_said : Withheld → Response → ℕ → List Entry → Keyed
 leaving_said withheld response slot [] k leaving = leaving
 leaving_said withheld response slot (line ∷ lines) k leaving =
     leaving_said withheld response slot lines (keyed_by_all (steps_said withheld response slot k line) k)
-    (leaving_saying response slot (Some k) leaving line)
+    (leaving_saying withheld response slot (Some k) leaving line)
 
 -- the same by the lines of these notes
 abbrev pub leaving_noted : Side → ℕ → Withheld → Response → ℕ → List Note → Keyed → Leaving → Leaving
 leaving_noted side number withheld response slot notes k leaving =
     leaving_said withheld response slot (map (line_of side number) notes) k leaving
 
--- how it is to leave its link after what its host asks of it, if anything
-abbrev pub leaving_if_asked : Option Step → Leaving → Leaving
-leaving_if_asked None leaving = leaving
-leaving_if_asked (Some step) leaving = leaving_asking step leaving
+-- how an end that is like this is to leave its link after what its host asks of it or answers, if anything
+abbrev pub leaving_if_asked : Keyed → Option Step → Leaving → Leaving
+leaving_if_asked k None leaving = leaving
+leaving_if_asked k (Some step) leaving = leaving_asking step (leaving_answering k leaving step)

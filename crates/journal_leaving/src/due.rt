@@ -1,15 +1,16 @@
 //! Laws of the reason for which one end is to end. The bodies are empty: the contracts are the laws.
-ghost use Rattle.std.specs.Prelude.{◌≡◌, ◌≤◌, ℕ, Bool, List, Result, Some};
+ghost use Rattle.std.specs.Prelude.{◌≡◌, ◌≤◌, ℕ, Bool, List, Option, Result, Some};
 ghost use Rattle.std.specs.Option.{option_map};
 ghost use Rattle.ble_base.specs.declared.error_codes.ErrCode.{ErrCode};
 ghost use Rattle.journal_controls.specs.controller_model.Shutting.{IsLeaving, IsOverdue};
 ghost use Rattle.journal_controls.specs.journal_ends.open_links.OpenLinks.{OpenLink, facts_in};
 ghost use Rattle.journal_controls.specs.journal_links.Begun.{LinkBegun};
-ghost use Rattle.journal_controls.specs.link_model.End.{facts_after};
+ghost use Rattle.journal_controls.specs.link_model.End.{facts_after, facts_of};
 ghost use Rattle.journal_controls.specs.link_model.Facts.{Facts, params_of};
 ghost use Rattle.journal_controls.specs.link_model.Setup.{Setup};
 ghost use Rattle.journal_controls.specs.link_model.Step.{DataGiven, DataReported, Disconnected};
-ghost use Rattle.journal_controls.specs.link_model.Step.{ProcedureAsked, RequestAnswered};
+ghost use Rattle.journal_controls.specs.link_model.Step.{KeyAnswered, ProcedureAsked};
+ghost use Rattle.journal_controls.specs.link_model.Step.{RequestAnswered, Step};
 ghost use Rattle.journal_controls.specs.link_model.Times.{due_of, ending_of};
 ghost use Rattle.journal_controls.specs.link_model.declared.events.Reception.{Reception};
 ghost use Rattle.journal_controls.specs.link_model.procedure_values.declared.asks.Ask.{Ask};
@@ -38,8 +39,9 @@ pub fn an_end_is_due_for_its_cause()
 
 /// What a host does before a turn begins leaves the reason for which the end is to end then: so it
 /// may be looked at as the slot begins. A Disconnect in this slot is not due in it where the
-/// supervision timeout is not 0, and leaves one of an earlier slot as it is (Core 5.2, volume 6 part
-/// B, section 5.1.6).
+/// supervision timeout is not 0, and leaves one of an earlier slot as it is; nor is a key that lacks
+/// in this slot, and one that lacks does so before any Disconnect (Core 5.2, volume 6 part B,
+/// sections 5.1.3.1, 5.1.3.2 and 5.1.6).
 pub fn what_a_host_does_leaves_what_is_due()
     ensures given { (setup : Setup) (facts : Facts) (start : Bool) (body : List ℕ) (slot : ℕ)
         → due_of setup (facts_after setup facts (DataGiven start body)) slot
@@ -51,6 +53,10 @@ pub fn what_a_host_does_leaves_what_is_due()
         ≡ due_of setup facts slot }
     ensures answered { (setup : Setup) (facts : Facts) (answer : Result Ask ErrCode) (slot : ℕ)
         → due_of setup (facts_after setup facts (RequestAnswered answer)) slot
+        ≡ due_of setup facts slot }
+    ensures keys { (setup : Setup) (past : List Step) (key : Option (List ℕ)) (slot : ℕ)
+        → let facts = facts_of setup past in 1 ≤ (params_of facts).timeout
+        → due_of setup (facts_after setup facts (KeyAnswered key slot)) slot
         ≡ due_of setup facts slot }
     ensures disconnected { (setup : Setup) (facts : Facts) (reason : ErrCode) (slot : ℕ)
         → 1 ≤ (params_of facts).timeout

@@ -20,8 +20,8 @@ pub use crate::due::{
     an_end_is_due_by_its_parts, an_end_is_due_for_its_cause, what_a_host_does_leaves_what_is_due,
 };
 pub use crate::ends::{
-    a_packet_moves_how_an_end_leaves_by_its_lines, an_end_that_sends_has_answered,
-    lines_tell_how_an_end_that_hears_leaves,
+    a_lacking_key_moves_how_an_end_leaves, a_packet_moves_how_an_end_leaves_by_its_lines,
+    an_end_that_sends_has_answered, lines_tell_how_an_end_that_hears_leaves,
 };
 pub use crate::events::{
     a_packet_moves_how_its_two_ends_leave, turns_and_hosts_leave_an_end_as_it_is,

@@ -17,6 +17,8 @@ ghost use Rattle.journal_leaving.specs.Hearing.{leaving_next};
 ghost use Rattle.journal_leaving.specs.Leaving.{leaving_on};
 ghost use Rattle.journal_leaving.specs.Reasons.{due_on, ending_on};
 ghost use Rattle.journal_leaving.specs.Shutting.{IsShutIn};
+ghost use Rattle.journal_controls.specs.journal_ends.Asked.{Words};
+ghost use Rattle.journal_controls.specs.journal_ends.GivenWords.{GivesWords};
 
 /// In a run of two stations, with any number of links each and whatever procedures they carry, an
 /// open end is to leave its link by the lines of the journal as it holds that it is. So it is before
@@ -24,27 +26,27 @@ ghost use Rattle.journal_leaving.specs.Shutting.{IsShutIn};
 /// where a packet that the end takes in that call has reached it (Core 5.2, volume 6 part B, section
 /// 5.1.6).
 pub fn an_end_leaves_by_lines_as_it_holds()
-    ensures before_a_call { (given : Given) (before rest : List Event) (step : Step)
+    ensures before_a_call { (words : Words) (given : Given) (before rest : List Event) (step : Step)
         (station handle : ℕ) (link : OpenLink)
-        → given.stations ≡ 0 ∷ 1 ∷ [] → HaveAddresses given → Contains given.stations station
+        → given.stations ≡ 0 ∷ 1 ∷ [] → HaveAddresses given → GivesWords given words → Contains given.stations station
         → history_of (run_of given) ≡ before ++ Called station step ∷ rest
         → link_at handle (facts_at given station before).links ≡ Some link
-        → leaving_on (side_of station) ((links_of before).link_of station handle)
+        → leaving_on words (side_of station) ((links_of before).link_of station handle)
         (journal_of before)
         ≡ Some (leaving_next handle (facts_at given station before) step link) }
-    ensures before_a_turn { (given : Given) (before rest : List Event) (slot : ℕ)
+    ensures before_a_turn { (words : Words) (given : Given) (before rest : List Event) (slot : ℕ)
         (radios : List Bool) (station handle : ℕ) (link : OpenLink)
-        → given.stations ≡ 0 ∷ 1 ∷ [] → HaveAddresses given → Contains given.stations station
+        → given.stations ≡ 0 ∷ 1 ∷ [] → HaveAddresses given → GivesWords given words → Contains given.stations station
         → history_of (run_of given) ≡ before ++ TurnBegan slot radios ∷ rest
         → link_at handle (facts_at given station before).links ≡ Some link
-        → leaving_on (side_of station) ((links_of before).link_of station handle)
+        → leaving_on words (side_of station) ((links_of before).link_of station handle)
         (journal_of before) ≡ Some (facts_in link).leaving }
-    ensures at_the_end { (given : Given) (history : List Event) (station handle : ℕ)
+    ensures at_the_end { (words : Words) (given : Given) (history : List Event) (station handle : ℕ)
         (link : OpenLink)
-        → given.stations ≡ 0 ∷ 1 ∷ [] → HaveAddresses given → Contains given.stations station
+        → given.stations ≡ 0 ∷ 1 ∷ [] → HaveAddresses given → GivesWords given words → Contains given.stations station
         → run_of given ≡ GoesOn history
         → link_at handle (facts_at given station history).links ≡ Some link
-        → leaving_on (side_of station) ((links_of history).link_of station handle)
+        → leaving_on words (side_of station) ((links_of history).link_of station handle)
         (journal_of history) ≡ Some (facts_in link).leaving }
 {
     journal_controls::a_pdu_is_understood();
@@ -57,19 +59,19 @@ pub fn an_end_leaves_by_lines_as_it_holds()
 /// the lines of the journal: what is to leave it as a turn ends is shut in that turn (Core 5.2,
 /// volume 6 part B, sections 5.1.6 and 5.5.1).
 pub fn no_open_end_is_leaving_between_turns()
-    ensures before_a_turn { (given : Given) (before rest : List Event) (slot : ℕ)
+    ensures before_a_turn { (words : Words) (given : Given) (before rest : List Event) (slot : ℕ)
         (radios : List Bool) (station handle : ℕ) (link : OpenLink)
-        → given.stations ≡ 0 ∷ 1 ∷ [] → HaveAddresses given → Contains given.stations station
+        → given.stations ≡ 0 ∷ 1 ∷ [] → HaveAddresses given → GivesWords given words → Contains given.stations station
         → history_of (run_of given) ≡ before ++ TurnBegan slot radios ∷ rest
         → link_at handle (facts_at given station before).links ≡ Some link
-        → ending_on (side_of station) ((links_of before).link_of station handle)
+        → ending_on words (side_of station) ((links_of before).link_of station handle)
         (journal_of before) ≡ None }
-    ensures at_the_end { (given : Given) (history : List Event) (station handle : ℕ)
+    ensures at_the_end { (words : Words) (given : Given) (history : List Event) (station handle : ℕ)
         (link : OpenLink)
-        → given.stations ≡ 0 ∷ 1 ∷ [] → HaveAddresses given → Contains given.stations station
+        → given.stations ≡ 0 ∷ 1 ∷ [] → HaveAddresses given → GivesWords given words → Contains given.stations station
         → run_of given ≡ GoesOn history
         → link_at handle (facts_at given station history).links ≡ Some link
-        → ending_on (side_of station) ((links_of history).link_of station handle)
+        → ending_on words (side_of station) ((links_of history).link_of station handle)
         (journal_of history) ≡ None }
 {
     journal_controls::a_pdu_is_understood();
@@ -82,19 +84,19 @@ pub fn no_open_end_is_leaving_between_turns()
 /// end then is the one that is due by the lines so far; and as a turn ends, so is the code with
 /// which it is to end (Core 5.2, volume 6 part B, sections 4.5.2, 5.1.6, 5.2 and 5.5.1).
 pub fn what_is_due_by_lines_is_due_to_an_end()
-    ensures begins { (given : Given) (before rest : List Event) (slot : ℕ) (on : Bool)
+    ensures begins { (words : Words) (given : Given) (before rest : List Event) (slot : ℕ) (on : Bool)
         (station handle : ℕ) (link : OpenLink)
-        → given.stations ≡ 0 ∷ 1 ∷ [] → HaveAddresses given → Contains given.stations station
+        → given.stations ≡ 0 ∷ 1 ∷ [] → HaveAddresses given → GivesWords given words → Contains given.stations station
         → history_of (run_of given) ≡ before ++ Called station (TurnBegins slot on) ∷ rest
         → link_at handle (facts_at given station before).links ≡ Some link
-        → due_on (side_of station) ((links_of before).link_of station handle) (journal_of before)
+        → due_on words (side_of station) ((links_of before).link_of station handle) (journal_of before)
         ≡ due_of link.setup (facts_in link) slot }
-    ensures ends { (given : Given) (before rest : List Event) (station handle : ℕ)
+    ensures ends { (words : Words) (given : Given) (before rest : List Event) (station handle : ℕ)
         (link : OpenLink)
-        → given.stations ≡ 0 ∷ 1 ∷ [] → HaveAddresses given → Contains given.stations station
+        → given.stations ≡ 0 ∷ 1 ∷ [] → HaveAddresses given → GivesWords given words → Contains given.stations station
         → history_of (run_of given) ≡ before ++ Called station TurnEnds ∷ rest
         → link_at handle (facts_at given station before).links ≡ Some link
-        → ending_on (side_of station) ((links_of before).link_of station handle)
+        → ending_on words (side_of station) ((links_of before).link_of station handle)
         (journal_of before) ≡ ending_of (facts_in link) }
 {
     journal_controls::a_pdu_is_understood();
@@ -107,13 +109,13 @@ pub fn what_is_due_by_lines_is_due_to_an_end()
 /// begins, the reason that is due; as a turn ends, the code with which it is to end; or the call
 /// completes a Reset (Core 5.2, volume 6 part B, sections 4.5.2, 5.1.6, 5.2 and 5.5.1).
 pub fn a_link_is_shut_for_what_is_due_by_its_lines()
-    ensures { (given : Given) (before rest : List Event) (step : Step) (station handle : ℕ)
+    ensures { (words : Words) (given : Given) (before rest : List Event) (step : Step) (station handle : ℕ)
         (reason : ErrCode)
-        → given.stations ≡ 0 ∷ 1 ∷ [] → HaveAddresses given → Contains given.stations station
+        → given.stations ≡ 0 ∷ 1 ∷ [] → HaveAddresses given → GivesWords given words → Contains given.stations station
         → history_of (run_of given) ≡ before ++ Called station step ∷ rest
         → Contains (notes_after (setup_at given station) (facts_at given station before) step)
         (Shut handle reason)
-        → IsShutIn given before station step handle reason }
+        → IsShutIn words given before station step handle reason }
 {
     journal_controls::a_pdu_is_understood();
     advertise::laws::connections_are_taken();

@@ -5,6 +5,8 @@ ghost use Rattle.journal_controls.specs.run_model.Journal.{journal_of};
 ghost use Rattle.journal_controls.specs.run_model.LinkEnds.{HaveAddresses};
 ghost use Rattle.journal_controls.specs.run_model.Run.{Given, history_of, run_of};
 ghost use Rattle.journal_leaving.specs.Reasons.{AllAreShutAs};
+ghost use Rattle.journal_controls.specs.journal_ends.Asked.{Words};
+ghost use Rattle.journal_controls.specs.journal_ends.GivenWords.{GivesWords};
 
 /// In the journal of a run of two stations, with any number of links each and whatever procedures
 /// they carry, also of one that damage stops, each line of a link that is shut has its reason by the
@@ -14,8 +16,8 @@ ghost use Rattle.journal_leaving.specs.Reasons.{AllAreShutAs};
 /// 4.5.2, 5.2 and 5.1.6); or the end was to leave with it as the turn ended (sections 5.1.6 and
 /// 5.5.1).
 pub fn each_shut_line_has_its_reason_by_the_lines()
-    ensures { (given : Given) → given.stations ≡ 0 ∷ 1 ∷ [] → HaveAddresses given
-        → AllAreShutAs (journal_of (history_of (run_of given))) }
+    ensures { (words : Words) (given : Given) → given.stations ≡ 0 ∷ 1 ∷ [] → HaveAddresses given → GivesWords given words
+        → AllAreShutAs words (journal_of (history_of (run_of given))) }
 {
     journal_controls::a_pdu_is_understood();
     advertise::laws::connections_are_taken();

@@ -1,7 +1,7 @@
 //! Laws of how one end leaves its link, in a turn. The bodies are empty: the contracts are the laws.
 ghost use Rattle.std.specs.Prelude.{◌≡◌, ℕ, Bool, List, fold};
 ghost use Rattle.ble_base.specs.declared.roles.Side.{Side};
-ghost use Rattle.journal_controls.specs.Withheld.{Withheld};
+ghost use Rattle.journal_controls.specs.Withheld.{Withheld, nothing_withheld};
 ghost use Rattle.journal_controls.specs.TurnSteps.{steps_begun, steps_taken};
 ghost use Rattle.journal_controls.specs.link_model.End.{facts_after, facts_of, notes_from};
 ghost use Rattle.journal_controls.specs.link_model.Facts.{Facts};
@@ -29,16 +29,16 @@ pub fn a_turn_that_begins_moves_how_an_end_leaves_by_its_lines()
 {}
 
 /// As a packet reaches an end, and it may answer it, it moves by the lines that it says, from what
-/// it was as the packet reached it, and then by its own packet, if it answers (Core 5.2, volume 6
-/// part B, sections 4.5.9 and 5.1.6).
+/// it was as the packet reached it, where nothing is withheld from its host, and then by its own
+/// packet, if it answers (Core 5.2, volume 6 part B, sections 4.5.9 and 5.1.6).
 pub fn a_packet_that_is_taken_moves_how_an_end_leaves_by_its_lines()
-    ensures { (side : Side) (number slot : ℕ) (octets : List ℕ) (withheld : Withheld) (room answers : Bool)
+    ensures { (side : Side) (number slot : ℕ) (octets : List ℕ) (room answers : Bool)
         (setup : Setup) (past : List Step)
         → let facts = facts_of setup past in let steps = steps_taken slot octets room answers in
         let heard = good_pdu setup facts octets in
         (fold (facts_after setup) facts steps).leaving
         ≡ leaving_sent_if answers
-        (leaving_noted side number withheld facts.encryption.response slot
+        (leaving_noted side number nothing_withheld facts.encryption.response slot
         (notes_from setup facts steps) (keyed_hearing setup.link.role slot heard facts)
         (leaving_hearing setup.link.role slot heard facts)) }
 {}

@@ -21,7 +21,7 @@ use Rattle.run_laws.specs.controller_model.declared.doing.Turn.{Turn}
 use Rattle.run_laws.specs.controller_model.Step.{Step, HostOctet, TurnBegins, PacketHeard, TurnEnds}
 use Rattle.run_laws.specs.controller_model.Facts.{Setup, Facts, Sends, Listens}
 use Rattle.run_laws.specs.controller_model.Heard.{answers_by_connecting, connects, heard, if_pdu, initiator_heard, is_new_between, link_wanted, unheard}
-use Rattle.run_laws.specs.controller_model.Packets.{pdu_heard}
+use Rattle.run_laws.specs.controller_model.Packets.{pdu_heard, verdict_of}
 use Rattle.run_laws.specs.controller_model.Side.{facts_after, facts_of, notes_after}
 use Rattle.run_laws.proofs.controller_model.DataChannels.{link_channel}
 use Rattle.run_laws.specs.run_model.Due.{Each}
@@ -33,7 +33,8 @@ use Rattle.run_laws.specs.run_model.Links.{Links, first_links, is_advertising, i
 use Rattle.run_laws.specs.run_model.Readers.{of_side}
 use Rattle.run_laws.specs.run_model.Run.{Given, after_call, after_feed, after_octets, facts_at, hearings_of, history_of, octets_left, run_of, setup_at, step_of, use_at}
 use Rattle.run_laws.proofs.run_model.Calls.{fold_called, fold_event, past_other}
-use Rattle.run_laws.proofs.run_model.LinkEnds.{IsUnderstood, is_listener, received_by, received_packet}
+use Rattle.run_laws.proofs.run_model.Handing.{IsHanded, IsUnforged, WasForged, WasNot, WasReceived, initiator_unforged}
+use Rattle.run_laws.proofs.run_model.LinkEnds.{IsUnderstood, is_listener, packet_handed, received_by}
 use Rattle.run_laws.proofs.run_model.Places.{each_at, each_called, each_event}
 use Rattle.run_laws.proofs.run_model.Stations.{is_in, among, not_before}
 use Rattle.run_laws.proofs.run_model.Walk.{Place, NoTurn, AtBegins, AtPackets, AtListening, IsKept, IsWhole, IsStopped, ends_with, run_kept}
@@ -41,7 +42,7 @@ use Rattle.run_laws.proofs.ByCalls.{StandsBy, at_turn, first_hears, last_turn}
 use Rattle.run_laws.proofs.ChSel.{one_channel}
 use Rattle.run_laws.proofs.ConnectInds.{no_advertising, on_channel}
 use Rattle.run_laws.proofs.Entering.{IsInTurn}
-use Rattle.run_laws.proofs.Hearings.{AreHearing, hearing_kept, other_facts, own_facts, use_same, use_sent_at, wanted_is}
+use Rattle.run_laws.proofs.Hearings.{AreHearing, hearing_kept, other_facts, own_facts, unforged_same, use_same, use_sent_at, wanted_is}
 use Rattle.run_laws.proofs.SentPackets.{HasChSel, IsUseSent, Says}
 use Rattle.run_laws.proofs.TurnPlaces.{Between, Within, at_stage, event_past, stands_first}
 use Rattle.run_laws.proofs.TurnSteps.{FitsChannel, IsListening, begins_may, initiates, may_pending, octet_turn, pending, phase_turn}
@@ -205,8 +206,8 @@ IsOffered station history = is_offered (offers_at (other_side (side_of station))
 -- so it is where a station heard an advertisement
 abbrev HearsOffer : Given → List Event → ℕ → Type 0
 HearsOffer given history station =
-    (octets : List ℕ) (channel : ℕ) (pdu : AdvPdu) → packet_received station history ≡ Some octets → use_at given station history ≡ Listens channel
-    → is_advertising channel ≡ true → pdu_heard channel octets ≡ Some pdu → is_offer pdu ≡ true → IsOffered station history
+    (octets : List ℕ) (channel : ℕ) (pdu : AdvPdu) → packet_received station history ≡ Some octets → IsUnforged (facts_at given station history) octets
+    → use_at given station history ≡ Listens channel → is_advertising channel ≡ true → pdu_heard channel octets ≡ Some pdu → is_offer pdu ≡ true → IsOffered station history
 
 -- and where it is to send a CONNECT_IND
 abbrev MakesOffer : Given → List Event → ℕ → Type 0
@@ -228,7 +229,7 @@ record AreOffered (given : Given) (place : Place) (history : List Event) : Type 
   makes : (station : ℕ) → is_in station given.stations ≡ true → MakesOffer given history station
 
 hears_none : (given : Given) (history : List Event) (station : ℕ) → packet_received station history ≡ None → HearsOffer given history station
-hears_none given history station none = λ octets channel pdu is listens on says offer. absurd (let h : None ≡ Some octets = sym none ∙ is in absurd cc)
+hears_none given history station none = λ octets channel pdu is unforged listens on says offer. absurd (let h : None ≡ Some octets = sym none ∙ is in absurd cc)
 
 -- ---- a call
 
@@ -310,8 +311,9 @@ feed_so_far given station (octet ∷ octets) history is so_far =
 
 module _ (understood : IsUnderstood) (given : Given) (are : given.stations ≡ 0 ∷ 1 ∷ []) (station channel : ℕ) (octets : List ℕ) (hearings : List Hearing) (history : List Event)
     (is_one : is_in station given.stations ≡ true) (sent : IsUseSent (facts_at given station history) (Sends channel octets))
-    (received : (other : ℕ) → packet_received other (history ++ Transmitted station channel octets hearings ∷ [])
-    ≡ (if has_received other hearings then Some octets else packet_received other history)) where
+    (received : (other : ℕ) → IsHanded (has_received other hearings) octets (packet_received other history)
+    (packet_received other (history ++ Transmitted station channel octets hearings ∷ [])) (facts_at given other history) (use_at given other history) channel
+    (other == station)) where
   abbrev event : Event
   event = Transmitted station channel octets hearings
 
@@ -351,19 +353,29 @@ module _ (understood : IsUnderstood) (given : Given) (are : given.stations ≡ 0
           let below : channel < 37 = subst (λ (n : ℕ). n < 37) (sym link_sent.channel_is) (link_channel link_sent.link) in
           absurd (let h : true ≡ false = no_advertising channel true on below in absurd cc)
 
-  hears_by : (other : ℕ) → is_in other given.stations ≡ true → HearsOffer given history other → (got : Bool) → has_received other hearings ≡ got
-      → (got ≡ true → ((other == station) ≡ false) × (use_at given other history ≡ Listens channel)) → HearsOffer given after other
-  hears_by other is_too hears true got listener = λ heard on_it pdu is listens on says offer.
-      let told : Some octets ≡ Some heard = sym (received other ∙ ap (λ b. if b then Some octets else packet_received other history) got) ∙ is in
-      let equal : octets ≡ heard = cc in
-      let uses : use_at given other after ≡ use_at given other history = use_same given other history after (event_past other history event refl) in
-      let same : channel ≡ on_it = one_channel channel on_it (sym (listener refl).1 ∙ sym uses ∙ listens) in
-      offered_to other is_too (listener refl).0 got pdu (ap is_advertising same ∙ on)
-      (ap (λ n. pdu_heard n octets) same ∙ ap (pdu_heard on_it) equal ∙ says) offer
-  hears_by other is_too hears false got listener = λ heard on_it pdu is listens on says offer.
-      let uses : use_at given other after ≡ use_at given other history = use_same given other history after (event_past other history event refl) in
-      still other (hears heard on_it pdu (sym (received other ∙ ap (λ b. if b then Some octets else packet_received other history) got) ∙ is)
-      (sym uses ∙ listens) on says offer)
+  past : (other : ℕ) → past_of other after ≡ past_of other history
+  past other = event_past other history event refl
+
+  hears_by : (other : ℕ) → is_in other given.stations ≡ true → HearsOffer given history other
+      → (has_received other hearings ≡ true → ((other == station) ≡ false) × (use_at given other history ≡ Listens channel)) → HearsOffer given after other
+  hears_by other is_too hears listener = by (received other)
+    where
+      by : IsHanded (has_received other hearings) octets (packet_received other history) (packet_received other after) (facts_at given other history) (use_at given other history)
+          channel (other == station) → HearsOffer given after other
+      by (WasReceived got as_sent) = λ heard on_it pdu is unforged listens on says offer.
+          let told : Some octets ≡ Some heard = sym as_sent ∙ is in
+          let equal : octets ≡ heard = cc in
+          let uses : use_at given other after ≡ use_at given other history = use_same given other history after (past other) in
+          let same : channel ≡ on_it = one_channel channel on_it (sym (listener got).1 ∙ sym uses ∙ listens) in
+          offered_to other is_too (listener got).0 got pdu (ap is_advertising same ∙ on)
+          (ap (λ n. pdu_heard n octets) same ∙ ap (pdu_heard on_it) equal ∙ says) offer
+      by (WasForged left as_left forged listens_on differs) = λ heard on_it pdu is unforged listens on says offer.
+          let told : Some left ≡ Some heard = sym as_left ∙ is in
+          let equal : left ≡ heard = cc in
+          absurd (unforged_same given other history after heard (past other) unforged (ap (verdict_of (facts_at given other history)) (sym equal) ∙ forged))
+      by (WasNot got as_before) = λ heard on_it pdu is unforged listens on says offer.
+          let uses : use_at given other after ≡ use_at given other history = use_same given other history after (past other) in
+          still other (hears heard on_it pdu (sym as_before ∙ is) (unforged_same given other history after heard (past other) unforged) (sym uses ∙ listens) on says offer)
 
 -- ---- what is heard
 
@@ -377,16 +389,17 @@ phase_asks given station phases turns history in_turn hears (Some octets) is =
     heard_asks (setup_at given station) facts octets (IsOffered station history) facts.turn.doing refl
     (λ channel pdu doing found offer.
     let listens : facts.wanted ≡ Listens channel = subst (IsListening facts) doing in_turn.listens in
-    hears octets channel pdu is (sym (wanted_is given station history) ∙ listens) (on_channel channel (subst FitsChannel doing in_turn.fits)) found offer)
+    hears octets channel pdu is (initiator_unforged facts channel octets doing) (sym (wanted_is given station history) ∙ listens) (on_channel channel (subst FitsChannel doing in_turn.fits)) found offer)
 
 listener_hears : (given : Given) (station : ℕ) (step : Step) (history : List Event) (other : ℕ) (same : Bool) → (other == station) ≡ same → HearsOffer given history other
     → HearsOffer given (after_call given station step history) other
 listener_hears given station step history other true is hears = hears_none given (after_call given station step history) other (received_by given other station step history true is)
-listener_hears given station step history other false is hears = λ octets channel pdu heard listens on says offer.
+listener_hears given station step history other false is hears = λ octets channel pdu heard unforged listens on says offer.
     let after = after_call given station step history in
     let past = past_other other station step (notes_after (setup_at given station) (facts_at given station history) step) history is in
     offered_called given other station step history
-    (hears octets channel pdu (sym (received_by given other station step history false is) ∙ heard) (sym (use_same given other history after past) ∙ listens) on says offer)
+    (hears octets channel pdu (sym (received_by given other station step history false is) ∙ heard) (unforged_same given other history after octets past unforged)
+    (sym (use_same given other history after past) ∙ listens) on says offer)
 
 -- ---- the run
 
@@ -439,13 +452,13 @@ offered_kept understood given are_two six distinct = let kept = hearing_kept giv
       let event = Transmitted station channel octets hearings in
       let is = among given.stations done left station are in
       let sent = use_sent_at given six (AtPackets phases done (station ∷ left)) history offered.hearing.stand station is channel octets due.is_wanted in
-      let received : (other : ℕ) → packet_received other (history ++ event ∷ []) ≡ (if has_received other hearings then Some octets else packet_received other history) =
-      λ other. received_packet given plan.fates other station channel octets history due.is_seen in record {
+      let received : (other : ℕ) → IsHanded (has_received other hearings) octets (packet_received other history) (packet_received other (history ++ event ∷ []))
+      (facts_at given other history) (use_at given other history) channel (other == station) =
+      λ other. packet_handed given plan.fates station channel octets history other due.is_seen in record {
         hearing = kept.on_packet phases plan done left station channel octets history are some due offered.hearing;
         each = each_event OfferedBefore history event offered.each
             (now_offered understood given are_two station channel octets hearings history is sent received (offered.makes station is));
         hears = λ other is_too. hears_by understood given are_two station channel octets hearings history is sent received other is_too (offered.hears other is_too)
-            (has_received other hearings) refl
             (λ got. let listener = is_listener given plan.fates channel octets history station other got in (listener.differs, listener.listens));
         makes = λ other is_too. event_makes given history event other (event_past other history event refl)
             (still understood given are_two station channel octets hearings history is sent received other) (offered.makes other is_too);

@@ -28,7 +28,7 @@ use Rattle.journal_crossing.proofs.run_model.NoteLines.{line_in_call, note_line}
 use Rattle.journal_crossing.proofs.run_model.Numbers.{opening_at}
 use Rattle.journal_crossing.proofs.run_model.OfStations.{OfStations, run_of_stations}
 use Rattle.journal_crossing.proofs.run_model.Places.{each_at}
-use Rattle.journal_crossing.proofs.journal_collisions.journal_endings.journal_indications.NumberedEnds.{front_of_two, numbered_end}
+use Rattle.journal_crossing.proofs.journal_data.NumberedEnds.{front_of_two, numbered_end}
 use Rattle.journal_outcomes.proofs.NotedEnds.{IsOfEnd, IsPlain, end_of_lines}
 use Rattle.journal_outcomes.proofs.Places.{AtMostOne, NoneIn, OneIn, place_of}
 

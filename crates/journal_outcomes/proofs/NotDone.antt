@@ -1,5 +1,5 @@
 -- A peripheral is not done with a procedure that collided, by the laws of the lines of its journal.
-use Rattle.std.proofs.Common.{◌≡◌, ◌⊎◌, inl, inr, ℕ, ◌+◌, ◌≤◌, ◌==◌, Bool, true, false, Option, Some, None, List, [], ◌∷◌, ◌++◌, refl, sym, ap, ◌∙◌, append_assoc, arith, length-append}
+use Rattle.std.proofs.Common.{◌≡◌, ◌⊎◌, inl, inr, ℕ, ◌+◌, ◌≤◌, ◌==◌, Bool, true, false, Option, Some, None, List, [], ◌∷◌, ◌++◌, refl, sym, ap, ◌∙◌, append_assoc, append-nil, arith, length-append}
 use Rattle.std.specs.Prelude.{length, if◌then◌else◌}
 use Rattle.std.proofs.lemmas.Bool.{eq-eqb, eqb-true}
 use Rattle.std.proofs.lemmas.List.{append_cancel_left}
@@ -17,12 +17,13 @@ use Rattle.journal.specs.declared.entries.Entry.TheVariants.{Done, Refused, Sent
 use Rattle.procedure_stages.specs.Collisions.{collision_code}
 use Rattle.procedure_values.specs.Asks.{is_same_kind}
 use Rattle.journal_crossing.specs.journal_data.Delivered.{AllDataArrives}
+use Rattle.journal_crossing.specs.journal_data.Followed.{Mixed, StaysMixed}
 use Rattle.journal_crossing.specs.journal_links.Begun.{LinkBegun, link_numbered}
 use Rattle.journal_crossing.specs.journal_links.LinkLines.{lines_of}
 use Rattle.journal_crossing.proofs.journal_links.LinkLines.{lines_append, named_here}
 use Rattle.journal_crossing.proofs.journal_links.LinksBegun.{number_stays}
 use Rattle.journal_crossing.specs.journal_collisions.Collisions.{AllAreRefused, AllAreRejectedNext, Collides, IsRejection, IsTermination, SendsNothing, any_line, control_in, first_of, kind_begun}
-use Rattle.journal_crossing.specs.Crossing.{AllControlsAreTaken, IsPlainControl, NoneIsTakenAfterTermination, count_sent, count_taken}
+use Rattle.journal_crossing.specs.Crossing.{AllControlsAreTaken, IsKnownControl, NoneIsTakenAfterTermination, count_sent, count_taken}
 use Rattle.journal_outcomes.specs.Numbering.{AllAreNumbered}
 use Rattle.journal_outcomes.specs.Done.{AllDoneAreAnswered, IsAnsweredIn, NoneIsDone, begins, ends, kind_completed}
 use Rattle.journal_outcomes.proofs.PduPlaces.{HasLine, few_more, numbered, one_less, pdu_line, sent_in, sents, sents_are, sents_with, taken_at, taken_in, takens, takens_are, takens_with, took_first, was_sent}
@@ -33,19 +34,19 @@ use Rattle.journal_outcomes.proofs.Splits.{After, Before, InOrder, Same, in_orde
 
 record IsControl (llid : ℕ) (body : List ℕ) : Type 0 where
   llid_is : llid ≡ 3
-  plain : IsPlainControl llid body
+  control : IsKnownControl llid body
 
 known_begun : (llid : ℕ) (body : List ℕ) (q : Kind) (read : CtrlRead) → llid ≡ 3 → control_in llid body ≡ Some read → kind_begun (Some read) ≡ Some q → IsControl llid body
 known_begun llid body q (Known (ConnectionParamReq min max latency timeout periodicity reference offsets)) three says is =
-    record { llid_is = three; plain = record { ctrl = ConnectionParamReq min max latency timeout periodicity reference offsets; is = says; plain = refl } }
-known_begun llid body q (Known (PhyReq tx rx)) three says is = record { llid_is = three; plain = record { ctrl = PhyReq tx rx; is = says; plain = refl } }
+    record { llid_is = three; control = record { ctrl = ConnectionParamReq min max latency timeout periodicity reference offsets; is = says } }
+known_begun llid body q (Known (PhyReq tx rx)) three says is = record { llid_is = three; control = record { ctrl = PhyReq tx rx; is = says } }
 known_begun llid body q other three says is = absurd cc
 
 known_completed : (llid : ℕ) (body : List ℕ) (q : Kind) (read : CtrlRead) → llid ≡ 3 → control_in llid body ≡ Some read → kind_completed (Some read) ≡ Some q → IsControl llid body
 known_completed llid body q (Known (ConnectionUpdateInd win_size win_offset interval latency timeout instant)) three says is =
-    record { llid_is = three; plain = record { ctrl = ConnectionUpdateInd win_size win_offset interval latency timeout instant; is = says; plain = refl } }
+    record { llid_is = three; control = record { ctrl = ConnectionUpdateInd win_size win_offset interval latency timeout instant; is = says } }
 known_completed llid body q (Known (PhyUpdateInd to_peripheral to_central instant)) three says is =
-    record { llid_is = three; plain = record { ctrl = PhyUpdateInd to_peripheral to_central instant; is = says; plain = refl } }
+    record { llid_is = three; control = record { ctrl = PhyUpdateInd to_peripheral to_central instant; is = says } }
 known_completed llid body q other three says is = absurd cc
 
 none_known : (X : Type 0) (q : Kind) → None ≡ Some q → X
@@ -120,8 +121,9 @@ record HasMore (before after : List Entry) (line : Entry) : Type 0 where
   mid : List Entry
   is : after ≡ before ++ line ∷ mid
 
-module _ (journal : List Entry) (arrives : AllDataArrives journal) (next : AllAreNumbered journal) (rejected : AllAreRejectedNext journal)
-    (refused : AllAreRefused journal) (controls : AllControlsAreTaken journal) (terminated : NoneIsTakenAfterTermination journal)
+module _ (mixed : Mixed) (stays : StaysMixed mixed) (journal : List Entry) (arrives : AllDataArrives mixed journal) (next : AllAreNumbered journal)
+    (rejected : AllAreRejectedNext mixed journal) (refused : AllAreRefused mixed journal) (controls : AllControlsAreTaken mixed journal)
+    (terminated : NoneIsTakenAfterTermination mixed journal)
     (linked : AllAreOnLinks journal) (answered : AllDoneAreAnswered journal) (front rest start between later : List Entry) (link : LinkBegun) (number count llid : ℕ)
     (body : List ℕ) (p q : Kind) where
   abbrev central : Side
@@ -140,8 +142,8 @@ module _ (journal : List Entry) (arrives : AllDataArrives journal) (next : AllAr
   abbrev done : Entry
   done = Done peripheral number q
 
-  module _ (is : journal ≡ front ++ first_in ∷ rest) (collides : Collides front link number llid body p q)
-      (at : journal ≡ start ++ first_out ∷ between ++ done ∷ later)
+  module _ (is : journal ≡ front ++ first_in ∷ rest) (unmixed_taken : mixed number (front ++ first_in ∷ []) ≡ false) (collides : Collides front link number llid body p q)
+      (at : journal ≡ start ++ first_out ∷ between ++ done ∷ later) (unmixed_done : mixed number (start ++ first_out ∷ between) ≡ false)
       (none : any_line (begins q) (lines_of peripheral number between) ≡ false) where
     is_link : link_numbered number journal ≡ Some link
     is_link = ap (link_numbered number) is ∙ number_stays number front (first_in ∷ rest) link collides.is_link
@@ -177,10 +179,30 @@ module _ (journal : List Entry) (arrives : AllDataArrives journal) (next : AllAr
     answer_control : IsControl answer.llid answer.body
     answer_control = completed_control answer.llid answer.body q answer.completes
 
+    -- ---- the link is not mixed before
+
+    done_is : start ++ first_out ∷ between ≡ (whole ++ answer_in ∷ []) ++ answer.later
+    done_is =
+        ap (λ (xs : List Entry). start ++ first_out ∷ xs) answer.is ∙ sym (append_assoc start (first_out ∷ answer.earlier) (answer_in ∷ answer.later))
+        ∙ sym (append_assoc whole (answer_in ∷ []) answer.later)
+
+    unmixed_answer : mixed number (whole ++ answer_in ∷ []) ≡ false
+    unmixed_answer = stays number (whole ++ answer_in ∷ []) answer.later (sym (ap (mixed number) done_is) ∙ unmixed_done)
+
+    unmixed_whole : mixed number whole ≡ false
+    unmixed_whole = stays number whole (answer_in ∷ []) unmixed_answer
+
+    unmixed_front : mixed number front ≡ false
+    unmixed_front = stays number front (first_in ∷ []) unmixed_taken
+
+    -- before a front of the lines before the answer is taken
+    unmixed_in : (few more : List Entry) → whole ≡ few ++ more → mixed number few ≡ false
+    unmixed_in few more parts = stays number few more (sym (ap (mixed number) parts) ∙ unmixed_whole)
+
     -- ---- the first PDU is taken after it is sent
 
     was_first : HasLine first_out (sent_in peripheral number) front (takens central number front)
-    was_first = was_sent journal arrives number peripheral central (twice central) front rest count llid body is
+    was_first = was_sent mixed journal arrives number peripheral central (twice central) front rest count llid body is unmixed_taken
 
     -- it has its place among the PDUs of the link
     place : length (takens central number front) ≡ length (sents peripheral number start)
@@ -219,8 +241,9 @@ module _ (journal : List Entry) (arrives : AllDataArrives journal) (next : AllAr
     crossed =
         let begun = linked start (between ++ done ∷ later) peripheral link number count llid body sent_at is_link in
         let taken = controls start answer.earlier tail begun.link peripheral number count answer.count answer.llid body answer.body
-        (answer_at ∙ ap (λ n. start ++ Sent peripheral number count n body ∷ answer.earlier ++ answer_in ∷ tail) first_control.llid_is) begun.is_link
-        answer_control.plain in
+        (answer_at ∙ ap (λ n. start ++ Sent peripheral number count n body ∷ answer.earlier ++ answer_in ∷ tail) first_control.llid_is)
+        (sym (ap (λ n. mixed number (start ++ Sent peripheral number count n body ∷ answer.earlier)) first_control.llid_is) ∙ unmixed_whole) begun.is_link
+        answer_control.control in
         let three = ap (λ n. length (takens central number (start ++ Sent peripheral number count n body ∷ answer.earlier))) first_control.llid_is in
         let sent = counted_sent peripheral start in
         let same = ap (λ s. count_taken number s (start ++ Sent peripheral number count 3 body ∷ answer.earlier)) (twice central)
@@ -243,7 +266,7 @@ module _ (journal : List Entry) (arrives : AllDataArrives journal) (next : AllAr
     -- ---- the answer is sent after that
 
     was_answer : HasLine answer_out (sent_in central number) whole (takens peripheral number whole)
-    was_answer = was_sent journal arrives number central peripheral refl whole tail answer.count answer.llid answer.body answer_at
+    was_answer = was_sent mixed journal arrives number central peripheral refl whole tail answer.count answer.llid answer.body answer_at unmixed_answer
 
     answer_after : HasMore front was_answer.before first_in
     answer_after = by (in_order front taken_before.mid was_answer.before was_answer.after first_in answer_out (sym taken_before.is ∙ was_answer.is))
@@ -259,7 +282,10 @@ module _ (journal : List Entry) (arrives : AllDataArrives journal) (next : AllAr
             ∙ ap (λ n. before ++ Sent central number answer.count n answer.body ∷ mid ++ first_in ∷ rest) answer_control.llid_is in
             let begun = linked before (mid ++ first_in ∷ rest) central link number answer.count 3 answer.body
             (at_out ∙ append_assoc before (out ∷ mid) (first_in ∷ rest)) is_link in
-            let taken = controls before mid rest begun.link central number answer.count count llid answer.body body at_out begun.is_link first_control.plain in
+            let unmixed_out =
+            sym (ap (mixed number) (more ∙ ap (λ n. before ++ Sent central number answer.count n answer.body ∷ mid) answer_control.llid_is)) ∙ unmixed_front in
+            let taken = controls before mid rest begun.link central number answer.count count llid answer.body body at_out unmixed_out begun.is_link
+            first_control.control in
             let three = ap (λ (xs : List Entry). length (takens peripheral number xs)) more
             ∙ ap (λ n. length (takens peripheral number (before ++ Sent central number answer.count n answer.body ∷ mid))) answer_control.llid_is in
             let sent = counted_sent central before in
@@ -281,7 +307,9 @@ module _ (journal : List Entry) (arrives : AllDataArrives journal) (next : AllAr
     not_answer X nothing =
         no_answer answer.llid answer.body p q q X answer.completes
         (rejected front answer_after.mid (was_answer.after ++ answer_in ∷ tail) link number count llid body answer.count answer.llid answer.body p q
-        (answer_out_at ∙ ap (λ (xs : List Entry). xs ++ answer_out ∷ (was_answer.after ++ answer_in ∷ tail)) answer_after.is) collides nothing)
+        (answer_out_at ∙ ap (λ (xs : List Entry). xs ++ answer_out ∷ (was_answer.after ++ answer_in ∷ tail)) answer_after.is)
+        (unmixed_in (front ++ first_in ∷ answer_after.mid) (answer_out ∷ was_answer.after)
+        (was_answer.is ∙ ap (λ (xs : List Entry). xs ++ answer_out ∷ was_answer.after) answer_after.is)) collides nothing)
 
     module _ (next_count next_llid : ℕ) (next_body : List ℕ) (mid others : List Entry)
         (next_is : answer_after.mid ≡ mid ++ Sent central number next_count next_llid next_body ∷ others) (nothing : SendsNothing central number mid) where
@@ -310,6 +338,9 @@ module _ (journal : List Entry) (arrives : AllDataArrives journal) (next : AllAr
       next_at : journal ≡ base ++ next_out ∷ (between_outs ++ answer_in ∷ tail)
       next_at = answer_at ∙ ap (λ (xs : List Entry). xs ++ answer_in ∷ tail) whole_is ∙ append_assoc base (next_out ∷ between_outs) (answer_in ∷ tail)
 
+      unmixed_base : mixed number base ≡ false
+      unmixed_base = unmixed_in base (next_out ∷ between_outs) whole_is
+
       -- the peripheral took it before the answer
       was_next : HasLine next_in (taken_in peripheral number) whole (sents central number base)
       was_next =
@@ -325,7 +356,7 @@ module _ (journal : List Entry) (arrives : AllDataArrives journal) (next : AllAr
           by (After mid more others) =
               let less = one_less (taken_in peripheral number) was_next.before base (pdu_line number next_count next_llid next_body) (takens peripheral number mid)
               (ap (takens peripheral number) more ∙ takens_with peripheral number next_count next_llid next_body was_next.before mid) in
-              let first = took_first journal arrives number central peripheral refl base (next_out ∷ (between_outs ++ answer_in ∷ tail)) next_at in
+              let first = took_first mixed journal arrives number central peripheral refl base (next_out ∷ (between_outs ++ answer_in ∷ tail)) next_at unmixed_base in
               let parts = ap (λ xs. length xs) first.is ∙ length-append (takens peripheral number base) first.more in
               let here = ap (λ xs. length xs) was_next.earlier_are in
               absurd (omega (arith, less, parts, here))
@@ -340,7 +371,7 @@ module _ (journal : List Entry) (arrives : AllDataArrives journal) (next : AllAr
           let linked = ap (link_numbered number) (next_after.is ∙ append_assoc front (first_in ∷ mid) (next_out ∷ next_after.mid))
           ∙ number_stays number front (first_in ∷ (mid ++ next_out ∷ next_after.mid)) link collides.is_link in
           absurd (terminated was_next.before was_next.after tail link number next_count next_llid answer.count answer.llid next_body answer.body
-          next_in_at linked ends answer_control.plain)
+          next_in_at (unmixed_in (was_next.before ++ next_in ∷ was_next.after) [] (was_next.is ∙ sym (append-nil _))) linked ends answer_control.control)
 
       -- ---- the rejection
 
@@ -363,7 +394,9 @@ module _ (journal : List Entry) (arrives : AllDataArrives journal) (next : AllAr
           sym (ap first_of said_is)
           ∙ refused front mid next_after.mid (was_next.after ++ answer_in ∷ tail) link number count llid body next_count next_llid next_body p q
           (next_in_at ∙ append_assoc was_next.before (next_in ∷ was_next.after) (answer_in ∷ tail)
-          ∙ ap (λ (xs : List Entry). xs ++ next_in ∷ (was_next.after ++ answer_in ∷ tail)) next_after.is) collides nothing rejection
+          ∙ ap (λ (xs : List Entry). xs ++ next_in ∷ (was_next.after ++ answer_in ∷ tail)) next_after.is)
+          (unmixed_in (base ++ next_out ∷ next_after.mid) (next_in ∷ was_next.after)
+          (was_next.is ∙ ap (λ (xs : List Entry). xs ++ next_in ∷ was_next.after) next_after.is)) collides nothing rejection
 
       -- these lines are among those since the first PDU was sent
       abbrev earlier : List Entry
@@ -402,7 +435,8 @@ module _ (journal : List Entry) (arrives : AllDataArrives journal) (next : AllAr
 
       nothing_next : (X : Type 0) → X
       nothing_next X =
-          by (rejected front mid (between_outs ++ answer_in ∷ tail) link number count llid body next_count next_llid next_body p q next_at collides nothing)
+          by (rejected front mid (between_outs ++ answer_in ∷ tail) link number count llid body next_count next_llid next_body p q next_at unmixed_base
+          collides nothing)
         where
           by : IsRejection p q next_llid next_body ⊎ IsTermination next_llid next_body → X
           by (inl rejection) = not_rejected X rejection
@@ -415,15 +449,18 @@ module _ (journal : List Entry) (arrives : AllDataArrives journal) (next : AllAr
         by (NoneSent nothing) = not_answer X nothing
         by (OneSent next_count next_llid next_body mid others next_is nothing) = nothing_next next_count next_llid next_body mid others next_is nothing X
 
-  begun_between : journal ≡ front ++ first_in ∷ rest → Collides front link number llid body p q
-      → journal ≡ start ++ first_out ∷ between ++ done ∷ later → any_line (begins q) (lines_of peripheral number between) ≡ true
-  begun_between is collides at = by (any_line (begins q) (lines_of peripheral number between)) refl
+  begun_between : journal ≡ front ++ first_in ∷ rest → mixed number (front ++ first_in ∷ []) ≡ false → Collides front link number llid body p q
+      → journal ≡ start ++ first_out ∷ between ++ done ∷ later → mixed number (start ++ first_out ∷ between) ≡ false → any_line (begins q) (lines_of peripheral number between) ≡ true
+  begun_between is unmixed_taken collides at unmixed_done = by (any_line (begins q) (lines_of peripheral number between)) refl
     where
       by : (b : Bool) → any_line (begins q) (lines_of peripheral number between) ≡ b → any_line (begins q) (lines_of peripheral number between) ≡ true
       by true begun = begun
-      by false none = cannot_be is collides at none _
+      by false none = cannot_be is unmixed_taken collides at unmixed_done none _
 
-pub none_done : (journal : List Entry) → AllDataArrives journal → AllAreNumbered journal → AllAreRejectedNext journal → AllAreRefused journal
-    → AllControlsAreTaken journal → NoneIsTakenAfterTermination journal → AllAreOnLinks journal → AllDoneAreAnswered journal → NoneIsDone journal
-none_done journal arrives next rejected refused controls terminated linked answered front rest start between later link number count llid body p q is collides at =
-    begun_between journal arrives next rejected refused controls terminated linked answered front rest start between later link number count llid body p q is collides at
+pub none_done : (mixed : Mixed) → StaysMixed mixed → (journal : List Entry) → AllDataArrives mixed journal → AllAreNumbered journal
+    → AllAreRejectedNext mixed journal → AllAreRefused mixed journal → AllControlsAreTaken mixed journal → NoneIsTakenAfterTermination mixed journal
+    → AllAreOnLinks journal → AllDoneAreAnswered journal → NoneIsDone mixed journal
+none_done mixed stays journal arrives next rejected refused controls terminated linked answered front rest start between later link number count llid body p q
+    is unmixed_taken collides at unmixed_done =
+    begun_between mixed stays journal arrives next rejected refused controls terminated linked answered front rest start between later link number count llid body p q
+    is unmixed_taken collides at unmixed_done

@@ -11,6 +11,7 @@ use Rattle.ble_base.specs.declared.roles.Side.{Side}
 use Rattle.ble_base.specs.declared.roles.Side.TheVariants.{A, B}
 use Rattle.journal.specs.declared.entries.Entry.{Entry}
 use Rattle.journal.specs.declared.entries.Entry.TheVariants.{Fed, Opened, Sent, Shut, Took, Up}
+use Rattle.journal_crossing.specs.journal_data.Followed.{Mixed}
 use Rattle.journal_crossing.specs.journal_data.Delivered.{AllDataArrives}
 use Rattle.journal_crossing.specs.journal_data.Lines.{Lines, PduLine, line_after, lines_after, lines_of, no_lines, pdus_on}
 use Rattle.journal_crossing.specs.journal_links.Begun.{LinkBegun, link_numbered}
@@ -213,15 +214,15 @@ one_less in_line front whole one later is =
 
 -- ---- by the laws of a journal
 
-module _ (journal : List Entry) (arrives : AllDataArrives journal) (number : ℕ) (side far : Side) (is_far : other_side side ≡ far) where
+module _ (mixed : Mixed) (journal : List Entry) (arrives : AllDataArrives mixed journal) (number : ℕ) (side far : Side) (is_far : other_side side ≡ far) where
   -- what the far side took is what this side sent first
   pub record TookFirst (front : List Entry) : Type 0 where
     pub more : List PduLine
     pub is : sents side number front ≡ takens far number front ++ more
 
-  pub took_first : (front rest : List Entry) → journal ≡ front ++ rest → TookFirst front
-  took_first front rest is =
-      let ordered = (arrives front rest is side number).reliable.in_order in
+  pub took_first : (front rest : List Entry) → journal ≡ front ++ rest → mixed number front ≡ false → TookFirst front
+  took_first front rest is unmixed =
+      let ordered = (arrives front rest is side number unmixed).reliable.in_order in
       let same : pdus_on number (lines_of 8 (other_side side) front).taken ≡ takens far number front =
       ap (λ (s : Side). pdus_on number (lines_of 8 s front).taken) is_far ∙ takens_are number far front in
       let sent = pdus_on number (lines_of 8 side front).sent in
@@ -233,11 +234,12 @@ module _ (journal : List Entry) (arrives : AllDataArrives journal) (number : ℕ
 
   -- a PDU that is taken was sent, after as many as were taken before
   pub was_sent : (front rest : List Entry) (count llid : ℕ) (body : List ℕ) → journal ≡ front ++ Took far number count llid body ∷ rest
+      → mixed number (front ++ Took far number count llid body ∷ []) ≡ false
       → HasLine (Sent side number count llid body) (sent_in side number) front (takens far number front)
-  was_sent front rest count llid body is =
+  was_sent front rest count llid body is unmixed =
       let line = Took far number count llid body in
       let after = is ∙ sym (append_assoc front (line ∷ []) rest) in
-      let first = took_first (front ++ line ∷ []) rest after in
+      let first = took_first (front ++ line ∷ []) rest after unmixed in
       let same : sents side number (front ++ line ∷ []) ≡ sents side number front =
       flat_map-append (sent_in side number) front (line ∷ []) ∙ append-nil (sents side number front) in
       sent_at side number count llid body front (takens far number front) first.more

@@ -1,6 +1,6 @@
 -- What becomes of a control procedure of a peripheral: it is done only where it was answered, and it is not done where
 -- it collided with one of the central (Core 5.2, volume 6 part B, sections 5.1.7, 5.1.10 and 5.3).
-use Rattle.std.specs.Prelude.{◌≡◌, ℕ, Bool, true, false, List, ◌∷◌, ◌++◌, Option, Some, None}
+use Rattle.std.specs.Prelude.{◌≡◌, ℕ, Bool, true, false, List, [], ◌∷◌, ◌++◌, Option, Some, None}
 use Rattle.ble_base.specs.Side.{other_side}
 use Rattle.ble_base.specs.declared.procedure_kinds.Kind.{Kind}
 use Rattle.ble_base.specs.declared.procedure_kinds.Kind.TheVariants.{Phy, Request}
@@ -11,6 +11,7 @@ use Rattle.data_pdu.specs.declared.ctrl.Ctrl.TheVariants.{ConnectionUpdateInd, P
 use Rattle.journal.specs.declared.entries.Entry.{Entry}
 use Rattle.journal.specs.declared.entries.Entry.TheVariants.{Began, Done, Refused, Sent, Took}
 use Rattle.journal_crossing.specs.journal_collisions.Collisions.{Collides, any_line, control_in, kind_begun}
+use Rattle.journal_crossing.specs.journal_data.Followed.{Mixed}
 use Rattle.journal_crossing.specs.journal_links.Begun.{LinkBegun, link_numbered}
 use Rattle.journal_crossing.specs.journal_links.LinkLines.{lines_of}
 use Rattle.procedure_values.specs.Asks.{is_same_kind}
@@ -63,11 +64,12 @@ AllDoneAreAnswered journal = (start between later : List Entry) (link : LinkBegu
 -- ---- procedures that collided
 
 -- where a peripheral is done with a procedure of a kind that collided, it has begun another of that kind since it sent
--- the first PDU of the one that collided
-abbrev pub NoneIsDone : List Entry → Type 0
-NoneIsDone journal = (front rest start between later : List Entry) (link : LinkBegun) (number count llid : ℕ)
+-- the first PDU of the one that collided. So it is as long as no packet of the link is mixed
+abbrev pub NoneIsDone : Mixed → List Entry → Type 0
+NoneIsDone mixed journal = (front rest start between later : List Entry) (link : LinkBegun) (number count llid : ℕ)
     (body : List ℕ) (p q : Kind) → journal ≡ front ++ Took link.central number count llid body ∷ rest
-    → Collides front link number llid body p q
+    → mixed number (front ++ Took link.central number count llid body ∷ []) ≡ false → Collides front link number llid body p q
     → journal ≡ start ++ Sent (other_side link.central) number count llid body ∷ between
     ++ Done (other_side link.central) number q ∷ later
+    → mixed number (start ++ Sent (other_side link.central) number count llid body ∷ between) ≡ false
     → any_line (begins q) (lines_of (other_side link.central) number between) ≡ true

@@ -4,6 +4,7 @@ ghost use Rattle.std.specs.Prelude.{◌≡◌, ◌≤◌, ◌∷◌, [], ℕ, Li
 ghost use Rattle.radio_replay.specs.Script.{Script};
 ghost use Rattle.journal_outcomes.specs.Done.{AllDoneAreAnswered, NoneIsDone};
 ghost use Rattle.journal_outcomes.specs.Numbering.{AllAreNumbered};
+ghost use Rattle.journal_crossing.specs.journal_data.Followed.{Follows, Mixed};
 ghost use Rattle.journal_crossing.specs.run_model.Journal.{journal_of};
 ghost use Rattle.journal_crossing.specs.run_model.LinkEnds.{HaveAddresses};
 ghost use Rattle.journal_crossing.specs.run_model.Pair.{given_of};
@@ -47,18 +48,19 @@ pub fn pdus_have_the_next_number()
 /// collided. The same holds in the journal of a run of a pair, whole or ended by damage (Core 5.2,
 /// volume 6 part B, section 5.3).
 pub fn rejected_procedures_are_not_done()
-    ensures two_stations { (given : Given) → given.stations ≡ 0 ∷ 1 ∷ [] → HaveAddresses given
+    ensures two_stations { (given : Given) (mixed : Mixed) → given.stations ≡ 0 ∷ 1 ∷ []
+        → HaveAddresses given → Follows given mixed
         → ((station : ℕ) → (setup_at given station).links ≤ 4096)
         → ((station : ℕ) → (setup_at given station).host_buffers ≡ 8)
-        → NoneIsDone (journal_of (history_of (run_of given))) }
-    ensures pair { (a b : List ℕ) (script : Script)
+        → NoneIsDone mixed (journal_of (history_of (run_of given))) }
+    ensures pair { (a b : List ℕ) (script : Script) (mixed : Mixed)
         → length script.a.public ≡ 6 → length script.b.public ≡ 6
-        → NoneIsDone (journal_of (history_of (run_of (given_of a b script)))) }
+        → Follows (given_of a b script) mixed
+        → NoneIsDone mixed (journal_of (history_of (run_of (given_of a b script)))) }
 {
     journal_crossing::a_pdu_is_understood();
     advertise::laws::connections_are_taken();
-    scan_init::laws::searches_give_each_valid_address();
-    air_frame::laws::packet_tells_its_pdu();
+    journal_crossing::data_of_two_stations_arrives_in_order();
     pdus_have_the_next_number();
     journal_crossing::colliding_procedures_are_rejected_next();
     journal_crossing::rejected_procedures_are_refused();

@@ -1,7 +1,7 @@
 -- In every run of two stations, a peripheral sends after a packet that asked it in the same turn, and a central sends
 -- where none did.
 use Rattle.std.proofs.Common.{◌≡◌, ℕ, zero, suc, ◌==◌, ◌⊎◌, ◌&&◌, ◌||◌, not, Bool, true, false, Some, None, List, [], ◌∷◌, ◌++◌, length, take, refl, sym, ap, subst, ◌∙◌}
-use Rattle.std.specs.Prelude.{⊤, map, if◌then◌else◌}
+use Rattle.std.specs.Prelude.{⊤, map}
 use Rattle.std.proofs.lemmas.Bool.{eqb-true, or_left, or_right}
 use Rattle.std.proofs.lemmas.Slice.Eq.{bytes_eq-Decides}
 use Rattle.journal_links.specs.open_links.OpenLinks.{facts_in}
@@ -9,6 +9,7 @@ use Rattle.journal_links.specs.controller_model.declared.doing.Doing.{Doing}
 use Rattle.journal_links.specs.controller_model.declared.doing.Doing.TheVariants.{PeripheralSends}
 use Rattle.journal_links.specs.controller_model.Step.{Step, TurnBegins, TurnEnds}
 use Rattle.journal_links.specs.controller_model.Facts.{Facts, Sends, Listens}
+use Rattle.journal_links.specs.controller_model.Packets.{verdict_of}
 use Rattle.journal_links.specs.controller_model.Side.{facts_after, facts_of, notes_after}
 use Rattle.journal_links.proofs.controller_model.Always.{MayBegin}
 use Rattle.journal_links.proofs.controller_model.DataChannels.{link_channel}
@@ -19,14 +20,15 @@ use Rattle.journal_links.specs.run_model.LinkEnds.{HaveAddresses}
 use Rattle.journal_links.specs.run_model.Links.{is_advertising}
 use Rattle.journal_links.specs.run_model.Run.{Given, setup_at, facts_at, use_at, octets_left, after_call, after_feed, hearings_of, step_of, unseen_in}
 use Rattle.journal_links.proofs.run_model.Calls.{past_other}
-use Rattle.journal_links.proofs.run_model.LinkEnds.{IsUnderstood, is_listener, received_by, received_packet}
+use Rattle.journal_links.proofs.run_model.Handing.{IsHanded, IsUnforged, WasForged, WasNot, WasReceived}
+use Rattle.journal_links.proofs.run_model.LinkEnds.{IsUnderstood, is_listener, packet_handed, received_by}
 use Rattle.journal_links.proofs.run_model.Places.{each_event}
 use Rattle.journal_links.proofs.run_model.Stations.{is_in, among, in_more_other, in_more_same, not_before}
 use Rattle.journal_links.proofs.run_model.Walk.{Place, NoTurn, AtFeeds, AtBegins, AfterPhases, AtPackets, AtListening, AtEnds, IsKept}
 use Rattle.journal_links.proofs.run_laws.ByCalls.{at_turn, first_hears}
 use Rattle.journal_links.proofs.run_laws.ChSel.{one_channel}
 use Rattle.journal_links.proofs.run_laws.ConnectInds.{AreCounted, counted_kept, first_counts, no_advertising}
-use Rattle.journal_links.proofs.run_laws.Hearings.{AreHearing, hearing_kept, own_facts, use_same, wanted_is}
+use Rattle.journal_links.proofs.run_laws.Hearings.{AreHearing, hearing_kept, own_facts, unforged_same, use_same, wanted_is}
 use Rattle.journal_links.proofs.run_laws.TurnPlaces.{event_past, stands_first}
 use Rattle.journal_links.proofs.run_laws.TurnSteps.{IsListening}
 use Rattle.journal_links.proofs.OfTwo.{are_distinct, of_two_stations}
@@ -50,7 +52,7 @@ IsAnswering given history station =
 -- what it received on a data channel asks for what has the same access address
 abbrev pub IsAskedBy : Given → List Event → ℕ → Type 0
 IsAskedBy given history station =
-    (heard : List ℕ) (channel : ℕ) → packet_received station history ≡ Some heard → use_at given station history ≡ Listens channel → is_advertising channel ≡ false
+    (heard : List ℕ) (channel : ℕ) → packet_received station history ≡ Some heard → IsUnforged (facts_at given station history) heard → use_at given station history ≡ Listens channel → is_advertising channel ≡ false
     → (octets : List ℕ) → have_one_access heard octets ≡ true → is_asked history station octets ≡ true
 
 -- in the first phase nothing else does
@@ -106,8 +108,8 @@ more_asked_by : (given : Given) (history after : List Event) (station : ℕ) →
     → packet_received station after ≡ packet_received station history
     → ((octets : List ℕ) → is_asked history station octets ≡ true → is_asked after station octets ≡ true)
     → IsAskedBy given history station → IsAskedBy given after station
-more_asked_by given history after station same received more asked = λ heard channel is listens on octets begins.
-    more octets (asked heard channel (sym received ∙ is) (sym (use_same given station history after same) ∙ listens) on octets begins)
+more_asked_by given history after station same received more asked = λ heard channel is unforged listens on octets begins.
+    more octets (asked heard channel (sym received ∙ is) (unforged_same given station history after heard same unforged) (sym (use_same given station history after same) ∙ listens) on octets begins)
 
 module _ (given : Given) (are : given.stations ≡ 0 ∷ 1 ∷ []) (fates : List Fate) (sender channel : ℕ) (sent : List ℕ) (history : List Event) (one : (sender ≡ 0) ⊎ (sender ≡ 1))
     (seen : unseen_in sent (hearings_of given fates sender channel sent history) ≡ None) where
@@ -128,32 +130,49 @@ module _ (given : Given) (are : given.stations ≡ 0 ∷ 1 ∷ []) (fates : List
   packet_answering : (station : ℕ) → (station ≡ 0) ⊎ (station ≡ 1) → IsAnswering given history station → IsAnswering given next station
   packet_answering station is answering = more_answering given history next station (event_past station history event refl) (stays_asked station is) answering
 
-  packet_asked_by : (station : ℕ) → (station ≡ 0) ⊎ (station ≡ 1) → (received : Bool) → has_received station hearings ≡ received
-      → IsAskedBy given history station → IsAskedBy given next station
-  packet_asked_by station is true got asked = λ heard on same listens off octets begins.
-      let listener = is_listener given fates channel sent history sender station got in
-      let told : Some sent ≡ Some heard = sym (received_packet given fates station sender channel sent history seen ∙ ap (λ b. if b then Some sent else packet_received station history) got) ∙ same in
-      let equal : sent ≡ heard = cc in
-      let on_it = one_channel channel on (sym listener.listens ∙ sym (use_same given station history next (event_past station history event refl)) ∙ listens) in
-      asked_packet given are fates sender channel sent history station octets one is
-      ∙ or_right (is_asked history station octets) (asks_in station channel sent hearings octets)
-      (ap (λ b. b && (not (is_advertising channel) && have_one_access sent octets)) got
-      ∙ ap (λ n. not (is_advertising n) && have_one_access sent octets) on_it
-      ∙ ap (λ b. not b && have_one_access sent octets) off
-      ∙ ap (λ xs. have_one_access xs octets) equal ∙ begins)
-  packet_asked_by station is false got asked =
-      more_asked_by given history next station (event_past station history event refl)
-      (received_packet given fates station sender channel sent history seen ∙ ap (λ b. if b then Some sent else packet_received station history) got) (stays_asked station is) asked
+  abbrev Handed : ℕ → Type 0
+  Handed station =
+      IsHanded (has_received station hearings) sent (packet_received station history) (packet_received station next) (facts_at given station history)
+      (use_at given station history) channel (station == sender)
 
-  packet_only : (station : ℕ) → (station ≡ 0) ⊎ (station ≡ 1) → (phases : ℕ) (received : Bool) → has_received station hearings ≡ received
-      → OnlyAsked phases history station → OnlyAsked phases next station
-  packet_only station is (suc phases) received got only = tt
-  packet_only station is zero true got only = λ none.
-      absurd (let h : Some sent ≡ None = sym (received_packet given fates station sender channel sent history seen ∙ ap (λ b. if b then Some sent else packet_received station history) got) ∙ none in absurd cc)
-  packet_only station is zero false got only = λ none octets.
-      asked_packet given are fates sender channel sent history station octets one is
-      ∙ ap (λ b. is_asked history station octets || (b && (not (is_advertising channel) && have_one_access sent octets))) got
-      ∙ ap (λ b. b || false) (only (sym (received_packet given fates station sender channel sent history seen ∙ ap (λ b. if b then Some sent else packet_received station history) got) ∙ none) octets)
+  handed : (station : ℕ) → Handed station
+  handed station = packet_handed given fates sender channel sent history station seen
+
+  packet_asked_by : (station : ℕ) → (station ≡ 0) ⊎ (station ≡ 1) → IsAskedBy given history station → IsAskedBy given next station
+  packet_asked_by station is asked = by (handed station)
+    where
+      past : past_of station next ≡ past_of station history
+      past = event_past station history event refl
+
+      by : Handed station → IsAskedBy given next station
+      by (WasReceived got as_sent) = λ heard on same unforged listens off octets begins.
+          let listener = is_listener given fates channel sent history sender station got in
+          let told : Some sent ≡ Some heard = sym as_sent ∙ same in
+          let equal : sent ≡ heard = cc in
+          let on_it = one_channel channel on (sym listener.listens ∙ sym (use_same given station history next past) ∙ listens) in
+          asked_packet given are fates sender channel sent history station octets one is
+          ∙ or_right (is_asked history station octets) (asks_in station channel sent hearings octets)
+          (ap (λ b. b && (not (is_advertising channel) && have_one_access sent octets)) got
+          ∙ ap (λ n. not (is_advertising n) && have_one_access sent octets) on_it
+          ∙ ap (λ b. not b && have_one_access sent octets) off
+          ∙ ap (λ xs. have_one_access xs octets) equal ∙ begins)
+      by (WasForged left as_left forged listens_on differs) = λ heard on same unforged listens off octets begins.
+          let told : Some left ≡ Some heard = sym as_left ∙ same in
+          let equal : left ≡ heard = cc in
+          absurd (unforged_same given station history next heard past unforged (ap (verdict_of (facts_at given station history)) (sym equal) ∙ forged))
+      by (WasNot got as_before) = more_asked_by given history next station past as_before (stays_asked station is) asked
+
+  packet_only : (station : ℕ) → (station ≡ 0) ⊎ (station ≡ 1) → (phases : ℕ) → OnlyAsked phases history station → OnlyAsked phases next station
+  packet_only station is (suc phases) only = tt
+  packet_only station is zero only = by (handed station)
+    where
+      by : Handed station → OnlyAsked zero next station
+      by (WasReceived got as_sent) = λ none. absurd (let h : Some sent ≡ None = sym as_sent ∙ none in absurd cc)
+      by (WasForged left as_left forged listens_on differs) = λ none. absurd (let h : Some left ≡ None = sym as_left ∙ none in absurd cc)
+      by (WasNot got as_before) = λ none octets.
+          asked_packet given are fates sender channel sent history station octets one is
+          ∙ ap (λ b. is_asked history station octets || (b && (not (is_advertising channel) && have_one_access sent octets))) got
+          ∙ ap (λ b. b || false) (only (sym as_before ∙ none) octets)
 
 -- ---- a call
 
@@ -195,7 +214,7 @@ own_answers given station history listens asked_by = λ handle channel octets do
     by handle channel octets (Silent silent) is wanted = silent_none _ handle _ silent is
     by handle channel octets (Replies reply) is wanted =
         asked_called given station (step_of (packet_received station history)) history station octets
-        ∙ asked_by reply.octets (facts_in reply.link).event.channel reply.was (sym (wanted_is given station history) ∙ reply.listened)
+        ∙ asked_by reply.octets (facts_in reply.link).event.channel reply.was reply.unforged (sym (wanted_is given station history) ∙ reply.listened)
         (no_advertising (facts_in reply.link).event.channel _ refl (link_channel reply.link)) octets
         ((bytes_eq-Decides (take 4 reply.octets) (take 4 octets)).1 (reply.begins ∙ sym (reply.answers channel octets wanted)))
 
@@ -217,7 +236,7 @@ may_send_none : (doing : Doing) (handle : ℕ) (X : Type 0) → MayBegin doing �
 may_send_none doing handle X may is = absurd (subst MayBegin is may)
 
 nothing_heard : (given : Given) (history : List Event) (station : ℕ) → packet_received station history ≡ None → IsAskedBy given history station
-nothing_heard given history station none = λ heard channel is listens off octets begins. absurd (let h : None ≡ Some heard = sym none ∙ is in absurd cc)
+nothing_heard given history station none = λ heard channel is unforged listens off octets begins. absurd (let h : None ≡ Some heard = sym none ∙ is in absurd cc)
 
 phase_begins : (given : Given) (phases : ℕ) (history : List Event) → AreHearing given (AfterPhases phases) history → (station : ℕ) → is_in station given.stations ≡ true
     → AskedAt given (AfterPhases phases) history station → IsAnswering given history station × IsAskedBy given history station × OnlyAsked phases history station
@@ -280,8 +299,8 @@ asked_kept understood given are_two six =
                 let other_one = of_two_stations given are_two other in_it in
                 let before = is.asked other in_it in (
                   packet_answering given are_two plan.fates station channel octets history one due.is_seen other other_one before.0,
-                  packet_asked_by given are_two plan.fates station channel octets history one due.is_seen other other_one (has_received other hears) refl before.1,
-                  packet_only given are_two plan.fates station channel octets history one due.is_seen other other_one phases (has_received other hears) refl before.2,
+                  packet_asked_by given are_two plan.fates station channel octets history one due.is_seen other other_one before.1,
+                  packet_only given are_two plan.fates station channel octets history one due.is_seen other other_one phases before.2,
                 );
           };
       on_air = λ phases history is. record {

@@ -1,6 +1,6 @@
 -- What a controller sends on its links: a central sends first in a turn, and a peripheral answers what it received.
 use Rattle.std.proofs.Common.{◌≡◌, ℕ, zero, suc, ◌&&◌, Bool, true, false, Option, Some, None, List, take, refl, sym, ap, subst, ◌∙◌, arith}
-use Rattle.std.specs.Prelude.{⊤, is_some, if◌then◌else◌}
+use Rattle.std.specs.Prelude.{⊤, is_none, is_some, if◌then◌else◌}
 use Rattle.std.specs.Option.{option_map}
 use Rattle.std.specs.Str.{bytes_eq}
 use Rattle.std.proofs.lemmas.Bool.{and_parts}
@@ -14,13 +14,15 @@ use Rattle.advertise.specs.declared.answers.AdvAnswer.{AdvAnswer}
 use Rattle.advertise.specs.declared.answers.AdvAnswer.TheVariants.{Ignore, Respond, Connect as Takes}
 use Rattle.advertise.specs.Advertising.{AdvertiserFacts}
 use Rattle.advertise.specs.Answers.{advertiser_answer}
+use Rattle.ble_base.specs.declared.verdicts.Verdict.TheVariants.{Broken as IsBroken, Forged, Good}
+use Rattle.air_frame.specs.declared.Heard.{Heard}
 use Rattle.air_frame.specs.declared.Heard.TheVariants.{NotOurs, Broken, Whole}
 use Rattle.air_frame.specs.Hearing.{heard_in}
 use Rattle.air_frame.specs.Packet.{access_octets, is_packet, pdu_in}
 use Rattle.journal_links.specs.link_model.Receiving.{replies_by, replies_of}
 use Rattle.journal_links.specs.link_model.Facts.{Facts as EndFacts}
-use Rattle.journal_links.specs.link_model.Verdicts.{whole_in}
-use Rattle.journal_links.specs.link_model.Packets.{good_pdu, heard_of, packet_sent, pdu_read_in, whole_pdu}
+use Rattle.journal_links.specs.link_model.Verdicts.{has_room_for, pdu_by, verdict_by, whole_in}
+use Rattle.journal_links.specs.link_model.Packets.{good_pdu, heard_of, is_forged_pdu, packet_sent, pdu_read, pdu_read_in, verdict_of, whole_pdu}
 use Rattle.journal_links.specs.link_model.Payload.{opens_now}
 use Rattle.journal_links.specs.link_model.Setup.{Setup as EndSetup}
 use Rattle.journal_links.specs.link_model.Step.{Step as EndStep, PacketSent, PacketReceived, WordsGiven}
@@ -37,18 +39,21 @@ use Rattle.journal_links.specs.controller_model.Facts.{Setup, Facts, Sends, List
 use Rattle.journal_links.specs.controller_model.Heard.{advertiser_answers, advertiser_heard, asks_if, connects, facts_with_words, has_room, heard, if_pdu, initiator_heard}
 use Rattle.journal_links.specs.controller_model.Heard.{link_heard, link_received, link_to, replies_in, reply_if, scanner_heard, taken_if, taken_under, unheard}
 use Rattle.journal_links.specs.controller_model.Outcome.{Outcome, facts_passed}
-use Rattle.journal_links.specs.controller_model.Packets.{facts_doing, listens_on, pdu_heard, sends_on}
+use Rattle.journal_links.specs.controller_model.Packets.{facts_doing, listens_on, pdu_heard, sends_on, verdict_doing, verdict_of as verdict_of_side, verdict_of_link}
 use Rattle.journal_links.specs.controller_model.Sent.{SendsOn}
 use Rattle.journal_links.specs.controller_model.Side.{facts_after}
 use Rattle.journal_links.proofs.controller_model.Places.{link_receiving, receiving_is, refusal_at, refused_if}
 use Rattle.journal_links.specs.run_model.History.{Event, past_of, turns_begun}
 use Rattle.journal_links.specs.run_model.Run.{Given, facts_at, setup_at, step_of}
+use Rattle.journal_links.proofs.run_model.Handing.{IsUnforged}
 use Rattle.journal_links.proofs.run_model.Stations.{is_in}
 use Rattle.journal_links.proofs.run_model.Walk.{Place}
 use Rattle.journal_links.proofs.run_laws.Agreed.{step_facts}
 use Rattle.journal_links.proofs.run_laws.Entering.{IsInTurn}
 use Rattle.journal_links.proofs.run_laws.LinkPhases.{HasRole, IsAtStage, IsInPhase, phased_at}
-use Rattle.journal_links.proofs.run_laws.OwnLinks.{sent_begins}
+use Rattle.journal_links.specs.run_laws.Ends.{link_listened}
+use Rattle.journal_links.proofs.run_laws.OwnLinks.{sent_begins, unforged_there}
+use Rattle.journal_links.proofs.run_laws.TwoEnds.{verdict_worded}
 use Rattle.journal_links.proofs.run_laws.TurnPlaces.{AllStand, Between, Stage, Within, stands_at}
 use Rattle.journal_links.proofs.run_laws.TurnSteps.{IsListening}
 
@@ -81,6 +86,39 @@ replied_by Peripheral ended setup facts octets is replies =
           (good_is_whole facts (whole_in setup.link.max_rx opens (heard_of setup facts octets)) (and_parts _ _ replies).0),
     )
 
+-- and they are not forged
+good_is_genuine : (setup : EndSetup) (facts : EndFacts) (octets : List ℕ) → is_some (good_pdu setup facts octets) ≡ true → verdict_of setup facts octets ≡ Forged → ⊥
+unfolding good_pdu whole_pdu verdict_of
+good_is_genuine setup facts octets = by (heard_of setup facts octets)
+  where
+    does_open : Bool
+    does_open = opens_now facts.encryption.end
+
+    of : (read : Option (List ℕ)) → is_some read ≡ true → (if is_none read then Forged else Good) ≡ Forged → ⊥
+    of None some forged = absurd cc
+    of (Some pdu) some forged = absurd cc
+
+    at : (fits : Bool) (pdu : List ℕ) → is_some (pdu_read_in facts (pdu_by fits pdu)) ≡ true
+        → (if fits then (if is_forged_pdu facts pdu then Forged else Good) else IsBroken) ≡ Forged → ⊥
+    at true pdu some forged = of (pdu_read facts pdu) some forged
+    at false pdu some forged = absurd cc
+
+    by : (heard : Heard) → is_some (pdu_read_in facts (whole_in setup.link.max_rx does_open heard)) ≡ true
+        → verdict_by setup.link.max_rx does_open (is_forged_pdu facts) heard ≡ Forged → ⊥
+    by NotOurs some forged = absurd cc
+    by Broken some forged = absurd cc
+    by (Whole pdu) some forged = at (has_room_for setup.link.max_rx does_open pdu.items) pdu.items some forged
+
+genuine_by : (role : Role) (ended : Bool) (setup : EndSetup) (facts : EndFacts) (octets : List ℕ) → replies_by role ended (good_pdu setup facts octets) ≡ true
+    → verdict_of setup facts octets ≡ Forged → ⊥
+genuine_by Central ended setup facts octets replies = absurd cc
+genuine_by Peripheral ended setup facts octets replies = good_is_genuine setup facts octets (and_parts _ _ replies).0
+
+replied_genuine : (setup : EndSetup) (facts : EndFacts) (slot : ℕ) (octets : List ℕ) (room : Bool) → replies_of setup facts slot octets room ≡ true
+    → verdict_of setup facts octets ≡ Forged → ⊥
+unfolding replies_of
+replied_genuine setup facts slot octets room replies = genuine_by setup.link.role _ setup facts octets replies
+
 replied : (setup : EndSetup) (facts : EndFacts) (slot : ℕ) (octets : List ℕ) (room : Bool) → replies_of setup facts slot octets room ≡ true
     → (setup.link.role ≡ Peripheral) × (take 4 octets ≡ access_octets setup.link.fields.access)
 unfolding replies_of
@@ -101,6 +139,7 @@ pub record IsReply (facts : Facts) (received : Option (List ℕ)) (after : Facts
   pub link : OpenLink
   pub octets : List ℕ
   pub was : received ≡ Some octets
+  pub unforged : IsUnforged facts octets
   pub listened : facts.wanted ≡ Listens (facts_in link).event.channel
   pub begins : take 4 octets ≡ access_octets link.setup.link.fields.access
   pub answers : (channel : ℕ) (sent : List ℕ) → after.wanted ≡ Sends channel sent → take 4 sent ≡ access_octets link.setup.link.fields.access
@@ -121,7 +160,8 @@ receiving_setup handle room octets facts link = by (refusal_at handle room octet
     by None = refl
     by (Some step) = refl
 
-module _ (setup : Setup) (facts : Facts) (handle : ℕ) (octets : List ℕ) (listens : facts.wanted ≡ listens_on (link_at handle facts.links)) where
+module _ (setup : Setup) (facts : Facts) (handle : ℕ) (octets : List ℕ) (listens : facts.wanted ≡ listens_on (link_at handle facts.links))
+    (on : link_listened facts.turn.doing ≡ Some handle) where
   abbrev room : Bool
   room = has_room setup facts
 
@@ -139,6 +179,7 @@ module _ (setup : Setup) (facts : Facts) (handle : ℕ) (octets : List ℕ) (lis
         link = link;
         octets = octets;
         was = refl;
+        unforged = unforged_there facts handle link octets on at (replied_genuine link.setup (facts_in link) facts.turn.slot octets room replies);
         listened = listens ∙ ap listens_on at;
         begins = told.1;
         answers = λ channel sent is.
@@ -160,14 +201,16 @@ module _ (setup : Setup) (facts : Facts) (handle : ℕ) (octets : List ℕ) (lis
   link_left = reply_by (replies_in facts.turn.slot room (link_at handle facts.links) octets) refl
 
 -- a peripheral is given words before it hears the packet, which change neither its channel nor its access address
-same_left : (facts other after : Facts) (received : Option (List ℕ)) → other.wanted ≡ facts.wanted → IsLeft other received after → IsLeft facts received after
-same_left facts other after received same (Silent none) = Silent none
-same_left facts other after received same (Replies is) = Replies (record {
+same_left : (facts other after : Facts) (received : Option (List ℕ)) → other.wanted ≡ facts.wanted
+    → ((octets : List ℕ) → IsUnforged other octets → IsUnforged facts octets) → IsLeft other received after → IsLeft facts received after
+same_left facts other after received same unforged (Silent none) = Silent none
+same_left facts other after received same unforged (Replies is) = Replies (record {
   handle = is.handle;
   doing = is.doing;
   link = is.link;
   octets = is.octets;
   was = is.was;
+  unforged = unforged is.octets is.unforged;
   listened = sym same ∙ is.listened;
   begins = is.begins;
   answers = is.answers;
@@ -181,11 +224,34 @@ words_listen skd_s iv_s handle links = ap listens_on (changed_is (option_map (li
     by None = refl
     by (Some link) = ap (λ (f : EndFacts). Listens f.event.channel) (step_facts link (WordsGiven skd_s iv_s))
 
-worded_left : (setup : Setup) (facts : Facts) (handle : ℕ) (octets : List ℕ) → facts.wanted ≡ listens_on (link_at handle facts.links)
-    → IsLeft facts (Some octets) (facts_passed (link_heard setup handle octets (facts_with_words setup handle facts)))
-worded_left setup facts handle octets listens =
+-- nor what it judges
+words_judge : (skd_s iv_s handle : ℕ) (links : Links) (octets : List ℕ)
+    → verdict_of_link (link_at handle (links_with_words handle skd_s iv_s links)) octets ≡ verdict_of_link (link_at handle links) octets
+words_judge skd_s iv_s handle links octets =
+    ap (λ (found : Option OpenLink). verdict_of_link found octets) (changed_is (option_map (link_after (WordsGiven skd_s iv_s))) 0 handle links refl)
+    ∙ by (link_at handle links)
+  where
+    by : (found : Option OpenLink) → verdict_of_link (option_map (link_after (WordsGiven skd_s iv_s)) found) octets ≡ verdict_of_link found octets
+    by None = refl
+    by (Some link) =
+        ap (λ (f : EndFacts). verdict_of link.setup f octets) (step_facts link (WordsGiven skd_s iv_s))
+        ∙ verdict_worded link.setup (facts_in link) skd_s iv_s octets
+
+worded_unforged : (setup : Setup) (facts : Facts) (handle : ℕ) (octets : List ℕ) → facts.turn.doing ≡ PeripheralListens handle
+    → IsUnforged (facts_with_words setup handle facts) octets → IsUnforged facts octets
+unfolding verdict_of_side
+worded_unforged setup facts handle octets doing unforged = λ forged.
     let heard = facts_with_words setup handle facts in
-    same_left facts heard _ (Some octets) refl (link_left setup heard handle octets (listens ∙ sym (words_listen _ _ handle facts.links)))
+    unforged (ap (λ (d : Doing). verdict_doing heard.links d octets) doing ∙ words_judge _ _ handle facts.links octets
+    ∙ sym (ap (λ (d : Doing). verdict_doing facts.links d octets) doing) ∙ forged)
+
+worded_left : (setup : Setup) (facts : Facts) (handle : ℕ) (octets : List ℕ) → facts.wanted ≡ listens_on (link_at handle facts.links)
+    → facts.turn.doing ≡ PeripheralListens handle
+    → IsLeft facts (Some octets) (facts_passed (link_heard setup handle octets (facts_with_words setup handle facts)))
+worded_left setup facts handle octets listens doing =
+    let heard = facts_with_words setup handle facts in
+    same_left facts heard _ (Some octets) refl (λ xs. worded_unforged setup facts handle xs doing)
+    (link_left setup heard handle octets (listens ∙ sym (words_listen _ _ handle facts.links)) (ap link_listened doing))
 
 -- ---- nothing else sends on a link next
 
@@ -236,24 +302,24 @@ pdu_silent : (found : Option AdvPdu) (facts : Facts) (outcome : AdvPdu → Outco
 pdu_silent None facts outcome some = refl
 pdu_silent (Some pdu) facts outcome some = some pdu
 
-heard_left : (setup : Setup) (facts : Facts) (octets : List ℕ) (doing : Doing) → IsListening facts doing → IsLeft facts (Some octets) (facts_passed (heard setup doing octets facts))
-heard_left setup facts octets (AwaitsRequest channel) listens =
+heard_left : (setup : Setup) (facts : Facts) (octets : List ℕ) (doing : Doing) → facts.turn.doing ≡ doing → IsListening facts doing → IsLeft facts (Some octets) (facts_passed (heard setup doing octets facts))
+heard_left setup facts octets (AwaitsRequest channel) does listens =
     Silent (pdu_silent (pdu_heard channel octets) facts _ (λ pdu. advertiser_silent facts.advertising.on channel pdu facts))
-heard_left setup facts octets (Scans channel) listens =
+heard_left setup facts octets (Scans channel) does listens =
     Silent (pdu_silent (pdu_heard channel octets) facts _ (λ pdu. scanner_silent facts.scanning.on true channel pdu facts))
-heard_left setup facts octets (AwaitsResponse channel) listens =
+heard_left setup facts octets (AwaitsResponse channel) does listens =
     Silent (pdu_silent (pdu_heard channel octets) facts _ (λ pdu. scanner_silent facts.scanning.on false channel pdu facts))
-heard_left setup facts octets (Initiates channel) listens =
+heard_left setup facts octets (Initiates channel) does listens =
     Silent (pdu_silent (pdu_heard channel octets) facts _ (λ pdu. initiator_silent facts.initiator setup channel pdu facts))
-heard_left setup facts octets (CentralListens handle) listens = link_left setup facts handle octets listens
-heard_left setup facts octets (PeripheralListens handle) listens = worded_left setup facts handle octets listens
-heard_left setup facts octets (Advertises channel) listens = Silent (unheard_silent (Advertises channel) facts)
-heard_left setup facts octets doing listens = Silent (unheard_silent doing facts)
+heard_left setup facts octets (CentralListens handle) does listens = link_left setup facts handle octets listens (ap link_listened does)
+heard_left setup facts octets (PeripheralListens handle) does listens = worded_left setup facts handle octets listens does
+heard_left setup facts octets (Advertises channel) does listens = Silent (unheard_silent (Advertises channel) facts)
+heard_left setup facts octets doing does listens = Silent (unheard_silent doing facts)
 
 pub phase_left : (setup : Setup) (facts : Facts) (received : Option (List ℕ)) → IsListening facts facts.turn.doing
     → IsLeft facts received (facts_after setup facts (step_of received))
 phase_left setup facts None listens = Silent (unheard_silent facts.turn.doing facts)
-phase_left setup facts (Some octets) listens = heard_left setup facts octets facts.turn.doing listens
+phase_left setup facts (Some octets) listens = heard_left setup facts octets facts.turn.doing refl listens
 
 -- ---- at any time in a turn
 

@@ -1,14 +1,25 @@
--- In every run of two stations, each answer on a link that passes is judged good.
-use Rattle.std.proofs.Common.{◌≡◌, ℕ, zero, suc, ◌==◌, true, false, Some, List, [], ◌∷◌, ◌++◌, take, refl, sym, ap, subst, ◌∙◌, arith}
+-- In every run of two stations, each answer on a link that passes is heard.
+use Rattle.std.proofs.Common.{◌≡◌, ◌<◌, ℕ, zero, suc, ◌+◌, ◌==◌, nat_le, Bool, true, false, Some, List, [], ◌∷◌, ◌++◌, length, take, refl, sym, ap, subst, ◌∙◌, arith, if◌then◌else◌}
 use Rattle.std.specs.Prelude.{⊤}
+use Rattle.std.specs.Str.{bytes_eq}
+use Rattle.std.proofs.lemmas.Bool.Decides.{nat_tests}
+use Rattle.air_frame.specs.Hearing.{heard_in}
+use Rattle.air_frame.specs.Packet.{access_octets, is_packet, pdu_in}
+use Rattle.air_frame.specs.declared.Heard.{Heard}
+use Rattle.air_frame.specs.declared.Heard.TheVariants.{Broken as Faulty, NotOurs, Whole}
+use Rattle.ble_base.specs.Limits.{payload_octets}
 use Rattle.ble_base.specs.declared.roles.Role.{Role}
 use Rattle.ble_base.specs.declared.roles.Role.TheVariants.{Central, Peripheral}
-use Rattle.ble_base.specs.declared.verdicts.Verdict.TheVariants.{Good}
+use Rattle.ble_base.specs.declared.verdicts.Verdict.TheVariants.{Broken, Forged, Good}
 use Rattle.journal.specs.declared.entries.Mark.TheVariants.{Pass as Passed}
-use Rattle.journal_sending.specs.journal_data.link_model.Packets.{verdict_of as end_verdict}
+use Rattle.journal_sending.specs.journal_data.link_model.Facts.{Facts as EndFacts}
+use Rattle.journal_sending.specs.journal_data.link_model.Hearing.{air_octets}
+use Rattle.journal_sending.specs.journal_data.link_model.Packets.{heard_of, is_forged_pdu, verdict_of as end_verdict}
+use Rattle.journal_sending.specs.journal_data.link_model.Payload.{opens_now}
+use Rattle.journal_sending.specs.journal_data.link_model.Setup.{Setup}
 use Rattle.journal_sending.specs.journal_data.link_model.Step.{PacketSent}
+use Rattle.journal_sending.specs.journal_data.link_model.Verdicts.{code_octets, has_room_for, pdu_of, verdict_by}
 use Rattle.journal_sending.proofs.journal_data.link_model.Hearing.{IsHeardWhole}
-use Rattle.journal_sending.proofs.journal_data.link_model.Received.{judged_good}
 use Rattle.journal_sending.specs.journal_data.open_links.OpenLinks.{Links, OpenLink, facts_in, link_after, link_at}
 use Rattle.radio_replay.specs.Damage.{damaged_packet}
 use Rattle.radio_replay.specs.declared.fates.Fate.{Fate}
@@ -19,7 +30,7 @@ use Rattle.journal_sending.specs.controller_model.Facts.{Facts, Use, Sends, List
 use Rattle.journal_sending.specs.controller_model.Packets.{channel_listened, listens_on, verdict_doing, verdict_of, verdict_of_link}
 use Rattle.journal_sending.specs.controller_model.Sent.{SendsOn}
 use Rattle.journal_sending.specs.run_model.Feeding.{AreDistinct}
-use Rattle.journal_sending.specs.run_model.History.{Event, Hearing, Transmitted, packet_received, turns_begun}
+use Rattle.journal_sending.specs.run_model.History.{Event, Hearing, Transmitted, is_handed, packet_received, turns_begun}
 use Rattle.journal_sending.specs.run_model.Journal.{journal_of, mark_of, side_of}
 use Rattle.journal_sending.specs.run_model.LinkEnds.{HaveAddresses}
 use Rattle.journal_sending.specs.run_model.Links.{is_advertising}
@@ -48,14 +59,15 @@ use Rattle.journal_sending.proofs.journal_packets.SoFar.{IsBelongingSoFar}
 use Rattle.journal_sending.proofs.journal_acks.Counting.{AreKnown, one_begun}
 use Rattle.journal_sending.proofs.journal_acks.Exchanging.{number_at}
 use Rattle.journal_sending.proofs.journal_acks.link_calls.InRange.{ranges_in, sent_ranges}
-use Rattle.journal_sending.proofs.journal_acks.link_calls.Pieces.{ranged_understand}
+use Rattle.journal_sending.proofs.journal_data.run_laws.Pieces.{sent_readable}
 use Rattle.journal_sending.proofs.journal_acks.Known.{known_of}
 use Rattle.journal_sending.proofs.journal_acks.Seen.{IsSeen, seen_packet}
 use Rattle.journal_sending.proofs.journal_acks.Standing.{PhasedBy, phased_at}
 use Rattle.journal_sending.proofs.journal_acks.TwoStations.{IsOfTwo, hearing_of, one_hearing, other_of, same_number, side_other}
 use Rattle.journal_sending.proofs.journal_data.KeptData.{other_in}
 use Rattle.journal_hearings.proofs.RequestsHeard.{pass_mark, judged_where, one_of_list}
-use Rattle.journal_pdus.specs.Answered.{AllAnswersAreHeard}
+use Rattle.journal_sending.proofs.TakenPdus.{heard_there}
+use Rattle.journal_pdus.specs.Answered.{AllAnswersAreHeard, IsHeardAs, IsRead, IsTooLong}
 use Rattle.journal_pdus.proofs.Awaited.{AreAskedWell, IsAsker, IsAsking, asked_well_first, asked_well_kept}
 
 -- ---- who sends and who listens after the first phase
@@ -90,21 +102,66 @@ IsAwaitedAnswer given history station channel octets =
 
 -- ---- its verdict
 
-record ListensFor (facts : Facts) (channel : ℕ) (octets : List ℕ) : Type 0 where
+-- a packet that an end hears whole
+abbrev items_of : Heard → List ℕ
+items_of NotOurs = []
+items_of Faulty = []
+items_of (Whole pdu) = pdu.items
+
+whole_is : (channel access init : ℕ) (octets pdu : List ℕ) → heard_in channel access init octets ≡ Whole (record { items = pdu }) → pdu ≡ pdu_in channel octets
+unfolding heard_in
+whole_is channel access init octets pdu = by (bytes_eq (take 4 octets) (access_octets access)) (is_packet channel access init octets)
+  where
+    by : (own found : Bool) → (if own then (if found then Whole (record { items = pdu_in channel octets }) else Faulty) else NotOurs) ≡ Whole (record { items = pdu })
+        → pdu ≡ pdu_in channel octets
+    by true true is = sym (ap items_of is)
+    by true false is = absurd (let h : Faulty ≡ Whole (record { items = pdu }) = is in absurd cc)
+    by false found is = absurd (let h : NotOurs ≡ Whole (record { items = pdu }) = is in absurd cc)
+
+no_room : (most code count : ℕ) → most ≡ payload_octets → nat_le count (2 + (most + code)) ≡ false → payload_octets + 2 < count
+no_room most code count is none = let all = is in grind (arith, nat_tests)
+
+module _ (to : Setup) (listener : EndFacts) (octets pdu : List ℕ) (heard : heard_of to listener octets ≡ Whole (record { items = pdu }))
+    (most : to.link.max_rx ≡ payload_octets) where
+  abbrev forged : Bool
+  forged = is_forged_pdu listener pdu
+
+  abbrev code : ℕ
+  code = code_octets (opens_now listener.encryption.end) (pdu_of pdu)
+
+  verdict_is : end_verdict to listener octets ≡ (if has_room_for to.link.max_rx (opens_now listener.encryption.end) pdu then (if forged then Forged else Good) else Broken)
+  unfolding end_verdict
+  verdict_is = ap (verdict_by to.link.max_rx (opens_now listener.encryption.end) (is_forged_pdu listener)) heard
+
+  heard_as : IsHeardAs listener.event.channel octets (end_verdict to listener octets)
+  heard_as = subst (IsHeardAs listener.event.channel octets) (sym verdict_is) (by (has_room_for to.link.max_rx (opens_now listener.encryption.end) pdu) refl)
+    where
+      handed : (wrong : Bool) → is_handed (if wrong then Forged else Good) ≡ true
+      handed true = refl
+      handed false = refl
+
+      by : (room : Bool) → has_room_for to.link.max_rx (opens_now listener.encryption.end) pdu ≡ room
+          → IsHeardAs listener.event.channel octets (if room then (if forged then Forged else Good) else Broken)
+      by true has = IsRead (handed forged)
+      by false none =
+          IsTooLong refl (subst (λ (xs : List ℕ). payload_octets + 2 < length xs)
+          (whole_is listener.event.channel to.link.fields.access to.link.fields.crc_init octets pdu heard) (no_room to.link.max_rx code (length pdu) most none))
+
+record ListensFor (facts : Facts) (channel : ℕ) (octets : List ℕ) (far : OpenLink) : Type 0 where
   wants : facts.wanted ≡ Listens channel
-  judges : verdict_of facts octets ≡ Good
+  judges : verdict_of facts octets ≡ end_verdict far.setup (facts_in far) octets
 
 listens_for : (facts : Facts) (handle : ℕ) (far : OpenLink) (channel : ℕ) (octets : List ℕ) → facts.turn.doing ≡ CentralListens handle → IsListening facts facts.turn.doing
-    → link_at handle facts.links ≡ Some far → channel ≡ (facts_in far).event.channel → end_verdict far.setup (facts_in far) octets ≡ Good → ListensFor facts channel octets
+    → link_at handle facts.links ≡ Some far → channel ≡ (facts_in far).event.channel → ListensFor facts channel octets far
 unfolding verdict_of
-listens_for facts handle far channel octets doing listens is_open channel_is good = record {
+listens_for facts handle far channel octets doing listens is_open channel_is = record {
   wants = subst (IsListening facts) doing listens ∙ ap listens_on is_open ∙ ap Listens (sym channel_is);
-  judges = ap (λ (d : Doing). verdict_doing facts.links d octets) doing ∙ ap (λ may. verdict_of_link may octets) is_open ∙ good;
+  judges = ap (λ (d : Doing). verdict_doing facts.links d octets) doing ∙ ap (λ may. verdict_of_link may octets) is_open;
 }
 
-judges_good : (given : Given) (channel : ℕ) (octets : List ℕ) (history : List Event) (listener : ℕ) → ListensFor (facts_at given listener history) channel octets
-    → (hearing_at given Pass channel octets history listener).verdict ≡ Good
-judges_good given channel octets history listener listens =
+judges_so : (given : Given) (channel : ℕ) (octets : List ℕ) (history : List Event) (listener : ℕ) (far : OpenLink) → ListensFor (facts_at given listener history) channel octets far
+    → (hearing_at given Pass channel octets history listener).verdict ≡ end_verdict far.setup (facts_in far) octets
+judges_so given channel octets history listener far listens =
     let facts = facts_at given listener history in
     ap (λ (wanted : Use). verdict_where (reaches Pass channel (channel_listened wanted)) facts (damaged_packet Pass octets))
     (sym (wanted_is given listener history) ∙ listens.wants)
@@ -215,20 +272,21 @@ module _ (whole : IsHeardWhole) (understood : IsUnderstood) (taken : AreTaken) (
     abbrev far : OpenLink
     far = awaited.asker.far
 
-    good : end_verdict far.setup (facts_in far) octets ≡ Good
-    good =
+    heard : IsHeardAs channel octets (end_verdict far.setup (facts_in far) octets)
+    heard =
         let sender = awaited.sent.link in
         let ranges = sent_ranges true awaited.sent.slot sender
         (ranges_in given before rest station awaited.sent.handle (link_after (PacketSent awaited.sent.slot) sender) distinct in_it at awaited.sent.is_open) in
         let far_ranges = ranges_in given before rest far_side awaited.asker.handle far distinct far_in at awaited.asker.is_open in
-        ap (end_verdict far.setup (facts_in far)) awaited.sent.packet
-        ∙ judged_good whole sender.setup far.setup (facts_in sender) (facts_in far)
-        (ranged_understand sender far ranges far_ranges awaited.one.fields (sym awaited.sent.channel_is ∙ awaited.channel_is))
+        let whole_there = ap (heard_of far.setup (facts_in far)) awaited.sent.packet
+        ∙ heard_there whole sender.setup far.setup (facts_in sender) (facts_in far) (sent_readable sender ranges) awaited.one.fields (sym awaited.sent.channel_is ∙ awaited.channel_is) in
+        subst (λ n. IsHeardAs n octets (end_verdict far.setup (facts_in far) octets)) (sym awaited.channel_is)
+        (heard_as far.setup (facts_in far) octets (air_octets (facts_in sender)) whole_there far_ranges.max_rx)
 
-    is_heard : ListensFor (facts_at given far_side before) channel octets
+    is_heard : ListensFor (facts_at given far_side before) channel octets far
     is_heard =
         listens_for (facts_at given far_side before) awaited.asker.handle far channel octets awaited.listens awaited.wants awaited.asker.is_open
-        awaited.channel_is good
+        awaited.channel_is
 
   -- ---- each line
 
@@ -246,6 +304,9 @@ module _ (whole : IsHeardWhole) (understood : IsUnderstood) (taken : AreTaken) (
       let one = one_of_list aired.hearing (hearing_of given aired.is_due.plan.fates station channel octets before) aired.others
       (aired.is_due.hearings_are ∙ one_hearing given pair aired.is_due.plan.fates station channel octets before in_it) in
       let passes = pass_mark _ (aired.fate_is ∙ ap (λ (h : Hearing). mark_of h.fate) one) in
+      let rest_of = event ∷ aired.after in
+      let judged : verdict ≡ end_verdict awaited.asker.far.setup (facts_in awaited.asker.far) octets =
       aired.verdict_is ∙ ap (λ (h : Hearing). h.verdict) one
       ∙ ap (λ (fate : Fate). (hearing_at given fate channel octets before (other_of station)).verdict) passes
-      ∙ judges_good given channel octets before (other_of station) (is_heard before (event ∷ aired.after) aired.is_at station channel octets in_it awaited)
+      ∙ judges_so given channel octets before (other_of station) awaited.asker.far (is_heard before rest_of aired.is_at station channel octets in_it awaited) in
+      subst (IsHeardAs channel octets) (sym judged) (heard before rest_of aired.is_at station channel octets in_it awaited)

@@ -4,6 +4,7 @@ mod SettledRuns
 mod SettledShut
 mod SettledEarly
 mod Law
+mod OneKey
 mod Awaited
 mod AnswersHeard
 mod CentralsOpen

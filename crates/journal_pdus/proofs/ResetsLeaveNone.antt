@@ -250,7 +250,7 @@ module _ (whole : IsHeardWhole) (understood : IsUnderstood) (taken : AreTaken) (
   run_clear : Each LeavesNone [] (history_of (run_of given))
   run_clear =
       ends_with (run_of given) (IsWhole given AreClearSoFar) (IsStopped given AreClearSoFar) (Each LeavesNone [])
-      (run_kept given AreClearSoFar clear_kept (record { is = (first_data given).is; each = tt })) (λ history wholly. wholly.is.each) (λ history stop stopped. stopped.kept.each)
+      (run_kept given AreClearSoFar clear_kept (record { is = first_data given; each = tt })) (λ history wholly. wholly.is.each) (λ history stop stopped. stopped.kept.each)
 
   pub resets_leave_none : ResetsLeaveNoLink (journal_of (history_of (run_of given)))
   resets_leave_none = λ front rest side octets is answers.

@@ -6,6 +6,7 @@ use Rattle.ble_base.specs.declared.roles.Side.{Side}
 use Rattle.journal.specs.declared.entries.Entry.{Entry}
 use Rattle.journal.specs.declared.entries.Entry.TheVariants.{Turn, Sent, Shut}
 use Rattle.journal_sending.specs.journal_acks.Carried.{IsNewPdu}
+use Rattle.journal_sending.specs.journal_controls.journal_ends.Asked.{Words}
 use Rattle.journal_sending.specs.journal_leaving.Reasons.{packets_passed}
 use Rattle.journal_sending.specs.Announced.{AllGoOutAtOnce}
 use Rattle.journal_sending.specs.NextPdus.{AllNewPdusAreNext}
@@ -31,12 +32,12 @@ abbrev pub AllAreSettledAsShut : List Entry → Type 0
 AllAreSettledAsShut journal = (front rest : List Entry) (side : Side) (link : ℕ) (reason : ErrCode)
     → journal ≡ front ++ Shut side link reason ∷ rest → packets_passed front ≡ true → IsSettled link side front
 
-pub record PdusAreDue (journal : List Entry) : Type 0 where
+pub record PdusAreDue (words : Words) (journal : List Entry) : Type 0 where
   pub new : AllAreNew journal
-  pub next : AllNewPdusAreNext journal
-  pub tell_what_waits : AllTellWhatWaits journal
+  pub next : AllNewPdusAreNext words journal
+  pub tell_what_waits : AllTellWhatWaits words journal
   pub go_out_at_once : AllGoOutAtOnce journal
-  pub taken_at_once : AllAreTakenAtOnce journal
-  pub at_rest : AllAreAtRest journal
+  pub taken_at_once : AllAreTakenAtOnce words journal
+  pub at_rest : AllAreAtRest words journal
   pub settled : AllAreSettled journal
   pub settled_as_shut : AllAreSettledAsShut journal

@@ -10,14 +10,17 @@ use Rattle.journal_sending.specs.journal_links.Opened.{IsOpenedInTime}
 use Rattle.journal_sending.specs.journal_packets.Addresses.{AllAddressesAreNext}
 use Rattle.journal_sending.specs.journal_acks.EventOrder.{AllAreInOrder}
 use Rattle.journal_sending.specs.journal_data.Delivered.{AllDataArrives}
+use Rattle.journal_sending.specs.journal_data.Followed.{Mixed}
 use Rattle.journal_sending.specs.journal_data.Held.{LinesAreOfOpenLinks}
+use Rattle.journal_sending.specs.journal_controls.journal_ends.Asked.{Words}
 use Rattle.journal_sending.specs.journal_due.ProcedureLines.{AllIndicationsAreDue, AllProceduresAreDue, NoneIsDue}
 use Rattle.journal_sending.specs.journal_due.ProcedureLines.{NoneIsLeftOut}
-use Rattle.journal_outcomes.specs.Done.{NoneIsDone}
-use Rattle.journal_outcomes.specs.journal_collisions.Collisions.{AllAreRefused, AllAreRejectedNext}
-use Rattle.journal_outcomes.specs.journal_collisions.Outcomes.{NoneIsIndicated}
-use Rattle.journal_outcomes.specs.journal_collisions.journal_endings.Endings.{NoneEndsByProtocolError}
-use Rattle.journal_outcomes.specs.journal_collisions.journal_agreement.Indications.{AllAreEnteredAlike, AllFollowCentral}
+use Rattle.journal_failures.specs.Failures.{AllFailuresAreForged}
+use Rattle.journal_failures.specs.journal_outcomes.Done.{NoneIsDone}
+use Rattle.journal_failures.specs.journal_outcomes.journal_collisions.Collisions.{AllAreRefused, AllAreRejectedNext}
+use Rattle.journal_failures.specs.journal_outcomes.journal_collisions.Outcomes.{NoneIsIndicated}
+use Rattle.journal_failures.specs.journal_outcomes.journal_collisions.journal_endings.Endings.{NoneEndsByProtocolError}
+use Rattle.journal_failures.specs.journal_outcomes.journal_collisions.journal_agreement.Indications.{AllAreEnteredAlike, AllFollowCentral}
 use Rattle.journal_hearings.specs.Openings.{AllHeardLinksAreOpened, HeardLinksAreOpened, OpenedLinksWereToOpen}
 use Rattle.journal_hearings.specs.Requests.{AllRequestsAreHeard}
 use Rattle.journal_sending.specs.journal_hosts.Answered.{AllAreAnswered}
@@ -26,15 +29,18 @@ use Rattle.journal_sending.specs.journal_hosts.Credits.{AllEarlyCreditsComeAtOnc
 use Rattle.journal_sending.specs.journal_hosts.Ends.{AllLateEndsAreReported}
 use Rattle.journal_sending.specs.journal_leaving.Reasons.{AllAreShutAs, AllEndInTime, AllStayOpen}
 use Rattle.journal_sending.specs.Resting.{IsAtRest}
+use Rattle.journal_seals.specs.journal_sealing.Mixed.{is_mixed}
 use Rattle.journal_slots.specs.SecondSlot.{AllAreContinued}
 use Rattle.journal_turns.specs.Follows.{FollowsSchedule}
 use Rattle.journal_turns.specs.Scheduled.{AreAllTurns}
+use Rattle.journal_words.specs.Drawn.{words_by}
 use Rattle.journal_pdus.specs.Answered.{AllAnswersAreHeard}
 use Rattle.journal_pdus.specs.AtOnce.{AllAreCreditedAtOnce}
 use Rattle.journal_pdus.specs.Exchanged.{PdusAreDue}
 use Rattle.journal_pdus.specs.InEvent.{AllAreInEvents}
 use Rattle.journal_pdus.specs.OpenedLinks.{AllAreOpenedByThen, AreOpened}
 use Rattle.journal_pdus.specs.Resetting.{ResetsLeaveNoLink}
+use Rattle.journal_pdus.specs.Sealed.{PacketsAreSealed}
 use Rattle.journal_pdus.specs.Settled.{AreSettled}
 
 -- each line of a link that a side holds from there on is in the turn of the CONNECT_IND of that link
@@ -54,27 +60,30 @@ pub record CreditsAreInOrder (journal : List Entry) : Type 0 where
   pub late : AllLateCreditsComeLast journal
   pub ends : AllLateEndsAreReported journal
 
--- a line of a control procedure comes exactly where it is due by the lines before
-pub record ProcedureLinesAreDue (journal : List Entry) : Type 0 where
+-- a line of a control procedure comes exactly where it is due by the lines before. `words` are those that a side would
+-- draw after any lines
+pub record ProcedureLinesAreDue (words : Words) (journal : List Entry) : Type 0 where
   -- that a procedure begins, is done or is refused
-  pub procedures : AllProceduresAreDue journal
+  pub procedures : AllProceduresAreDue words journal
   -- that an indication comes into force
-  pub indications : AllIndicationsAreDue journal
+  pub indications : AllIndicationsAreDue words journal
   -- before each packet and each turn nothing of the kind is due
-  pub none_left_out : NoneIsLeftOut journal
+  pub none_left_out : NoneIsLeftOut words journal
 
--- what becomes of two procedures that collide on a link
-pub record CollisionsAreRefused (journal : List Entry) : Type 0 where
+-- what becomes of two procedures that collide on a link, up to the first packet of it that mixes two session keys
+pub record CollisionsAreRefused (mixed : Mixed) (journal : List Entry) : Type 0 where
   -- the next PDU of the central is the rejection of the peripheral's procedure, or LL_TERMINATE_IND
-  pub rejected : AllAreRejectedNext journal
+  pub rejected : AllAreRejectedNext mixed journal
   -- a peripheral that takes the rejection says next that its procedure is refused with that error
-  pub refused : AllAreRefused journal
+  pub refused : AllAreRefused mixed journal
   -- no indication of the central comes of it, and the peripheral is never done with it
-  pub indicated : NoneIsIndicated journal
-  pub done : NoneIsDone journal
+  pub indicated : NoneIsIndicated mixed journal
+  pub done : NoneIsDone mixed journal
 
--- a journal of a run of these streams by this script, up to its end or to some place in a turn
-pub record IsLawful (a b : List ℕ) (script : Script) (journal : List Entry) : Type 0 where
+-- a journal of a run of these streams by this script, up to its end or to some place in a turn. `words` are those that a
+-- side would draw after any lines; two ends of a link are followed up to the first packet that mixes two session keys
+pub record IsLawfulWith (words : Words) (mixed : Mixed) (a b : List ℕ) (script : Script)
+    (journal : List Entry) : Type 0 where
   -- its turns, what is fed in them, and the fates of packets are those of the script
   pub follows : FollowsSchedule a b script journal
   -- links and their events are those of their CONNECT_INDs, each of which has the next access address
@@ -89,8 +98,8 @@ pub record IsLawful (a b : List ℕ) (script : Script) (journal : List Entry) : 
   pub events : AllAreInOrder journal
   -- each end lets the indications hold that its central sent, and both ends enter an event in one turn, on one channel and
   -- with equal parameters wherever the same number of them is in force
-  pub follows_central : AllFollowCentral journal
-  pub alike : AllAreEnteredAlike journal
+  pub follows_central : AllFollowCentral mixed journal
+  pub alike : AllAreEnteredAlike mixed journal
   -- a packet of a link is in the turn of the event that its side entered last, or in the next one
   pub in_events : AllAreInEvents journal
   -- in the next one only where a packet in the turn of the event says that more waits
@@ -98,16 +107,18 @@ pub record IsLawful (a b : List ℕ) (script : Script) (journal : List Entry) : 
   -- lines name links that are open at their side, and a link is opened under the next free handle
   pub held : LinesAreOfOpenLinks journal
   -- each link that is shut has its reason, and one that is open as a turn begins had none in the turn before
-  pub shut : AllAreShutAs journal
-  pub in_time : AllEndInTime journal
+  pub shut : AllAreShutAs words journal
+  pub in_time : AllEndInTime words journal
   -- and a Reset leaves none
   pub resets : ResetsLeaveNoLink journal
   -- each line of a control procedure is due, and each that is due is there
-  pub procedure_lines : ProcedureLinesAreDue journal
+  pub procedure_lines : ProcedureLinesAreDue words journal
   -- of two procedures that collide the peripheral's is rejected, and refused
-  pub collisions : CollisionsAreRefused journal
+  pub collisions : CollisionsAreRefused mixed journal
   -- no link ends for want of room, or by procedures that collide otherwise than the rules let them
-  pub no_protocol_error : NoneEndsByProtocolError journal
+  pub no_protocol_error : NoneEndsByProtocolError mixed journal
+  -- and one ends for a wrong integrity code only where its side judged a packet of it forged
+  pub failures : AllFailuresAreForged mixed journal
   -- an answer on a link that passes is heard, and so are requests and responses on the advertising channels
   pub answered : AllAnswersAreHeard journal
   pub requested : AllRequestsAreHeard journal
@@ -116,17 +127,23 @@ pub record IsLawful (a b : List ℕ) (script : Script) (journal : List Entry) : 
   -- complete packets are reported in their order
   pub credits : CreditsAreInOrder journal
   -- what goes out on links and what is taken is what is due, line by line
-  pub due : PdusAreDue journal
+  pub due : PdusAreDue words journal
+  -- the packets of links are sealed and judged as the keys and the counters of their ends say
+  pub sealed : PacketsAreSealed words journal
   -- data arrives in order, and is credited only as it is accepted
-  pub arrives : AllDataArrives journal
+  pub arrives : AllDataArrives mixed journal
+
+-- with the words of the script; and a packet mixes two keys where the lines say so
+abbrev pub IsLawful : (a b : List ℕ) (script : Script) → List Entry → Type 0
+IsLawful a b script journal = IsLawfulWith (words_by script) (is_mixed (words_by script)) a b script journal
 
 -- the journal of a whole run: all turns of the script begin, and at the end nothing is under way, nothing waits for a
 -- host, no link was to end, no line of a procedure is due, and each CONNECT_IND has opened its link at both sides
 pub record IsWhole (script : Script) (journal : List Entry) : Type 0 where
   pub turns : AreAllTurns script journal
-  pub at_rest : IsAtRest journal
+  pub at_rest : IsAtRest (words_by script) journal
   pub settled : AreSettled journal
-  pub in_time : AllStayOpen journal
-  pub procedure_lines : NoneIsDue journal
+  pub in_time : AllStayOpen (words_by script) journal
+  pub procedure_lines : NoneIsDue (words_by script) journal
   pub begun : AreOpened journal
   pub taken : HeardLinksAreOpened journal

@@ -1,5 +1,6 @@
 -- The definitions of this crate.
 pub mod Settled
+pub mod Sealed
 pub mod AtOnce
 pub mod Exchanged
 pub mod Undelivered
@@ -12,16 +13,21 @@ pub mod Lawful
 pub use Rattle.journal_sending.specs.controller_model as controller_model
 pub use Rattle.journal_sending.specs.journal_acks as journal_acks
 pub use Rattle.journal_sending.specs.journal_data as journal_data
-pub use Rattle.journal_outcomes.specs.journal_collisions as journal_collisions
-pub use Rattle.journal_outcomes.specs.journal_collisions.journal_agreement as journal_agreement
+pub use Rattle.journal_failures.specs.journal_outcomes.journal_collisions as journal_collisions
+pub use Rattle.journal_failures.specs.journal_outcomes.journal_collisions.journal_agreement as journal_agreement
+pub use Rattle.journal_failures.specs as journal_failures
+pub use Rattle.journal_seals.specs.journal_forgeries as journal_forgeries
 pub use Rattle.journal_hearings.specs as journal_hearings
 pub use Rattle.journal_sending.specs.journal_hosts as journal_hosts
 pub use Rattle.journal_sending.specs.journal_leaving as journal_leaving
 pub use Rattle.journal_sending.specs.journal_links as journal_links
 pub use Rattle.journal_sending.specs.journal_packets as journal_packets
 pub use Rattle.journal_sending.specs as journal_sending
+pub use Rattle.journal_seals.specs.journal_sealing as journal_sealing
+pub use Rattle.journal_seals.specs as journal_seals
 pub use Rattle.journal_slots.specs as journal_slots
 pub use Rattle.journal_turns.specs as journal_turns
+pub use Rattle.journal_words.specs as journal_words
 pub use Rattle.journal_sending.specs.journal_data.link_end as link_end
 pub use Rattle.journal_sending.specs.journal_data.link_model as link_model
 pub use Rattle.journal_sending.specs.journal_data.run_laws as run_laws

@@ -5,7 +5,9 @@ use Rattle.ble_base.specs.declared.roles.Side.{Side}
 use Rattle.journal.specs.declared.entries.Entry.{Entry}
 use Rattle.radio_replay.specs.Script.{Script}
 use Rattle.journal_sending.specs.run_model.Links.{is_advertising}
+use Rattle.journal_seals.specs.journal_sealing.SealedLines.{HasPayload}
 use Rattle.journal_turns.specs.Stopped.{IsStoppedAt}
+use Rattle.journal_words.specs.Drawn.{words_by}
 use Rattle.journal_sending.specs.Announced.{announced_pdu, new_pdu_on}
 use Rattle.journal_sending.specs.WhatWaits.{TellsWhatWaits}
 
@@ -14,7 +16,8 @@ pub record IsUndelivered (script : Script) (turn packet : ℕ) (sent heard : Lis
   pub side : Side
   pub channel : ℕ
   pub stopped : IsStoppedAt script side turn packet sent heard journal
-  -- on a data channel it is a packet of a link, with the PDU and the bits that the lines give
-  pub tells : is_advertising channel ≡ false → TellsWhatWaits journal side channel sent
+  -- on a data channel it is a packet of a link, with the PDU and the bits that the lines give, and with the payload
+  pub tells : is_advertising channel ≡ false → TellsWhatWaits (words_by script) journal side channel sent
+  pub payload : is_advertising channel ≡ false → HasPayload (words_by script) journal side channel sent
   -- and the line of a new PDU in it is the last line of its side
   pub announced : announced_pdu side journal ≡ new_pdu_on journal side channel sent

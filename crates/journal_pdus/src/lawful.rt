@@ -27,17 +27,36 @@ use crate::links::{
 /// (`journal_due`); where two procedures collide, the next PDU of the central is the rejection of
 /// the peripheral's or LL_TERMINATE_IND, the peripheral's procedure is refused where that rejection
 /// is taken, no indication comes of it, and it is never done (`journal_collisions`,
-/// `journal_outcomes`); no link ends with 0x07, 0x23 or 0x2A (`journal_endings`); an answer on a
-/// link that passes is heard, and so are requests on the advertising channels; a side opens a link
-/// as its peripheral exactly where it heard the CONNECT_IND and is to open it
-/// (`journal_hearings`); each command is answered once, and complete packets are reported in their
-/// order (`journal_hosts`); and data arrives in order
-/// (`journal_data::data_arrives_in_order_in_every_journal`). The packet at which damage ends a run
-/// is due as those before it are. Line by line (Core 5.2, volume 6 part B, sections 2.4, 4.5.6,
-/// 4.5.9, 4.5.10, 5.1.3 and 5.1.6, and volume 4 part E, section 7.7.19):
+/// `journal_outcomes`); no link ends with 0x07, 0x23 or 0x2A (`journal_endings`), and one ends with
+/// 0x3D only where its side judged a packet of it forged (`journal_failures`); an answer on a link
+/// that passes is heard: it is judged good or forged, or broken where its payload has more than 251
+/// octets; requests on the advertising channels that pass are heard too; a side opens a link as its
+/// peripheral exactly where it heard the CONNECT_IND and is to open it (`journal_hearings`); each
+/// command is answered once, and complete packets are reported in their order (`journal_hosts`); and
+/// data arrives in order (`journal_data::data_arrives_in_order_in_every_journal`). The packet at which
+/// damage ends a run is due as those before it are.
+///
+/// Links encrypt. What is said of one end holds in all phases, by the keys and the counters that the
+/// lines give it, with the words of the script as what its side draws. What is said of both ends of a
+/// link (that they follow the central and enter events alike, what becomes of procedures that
+/// collide, the reasons 0x07, 0x23, 0x2A and 0x3D, and that data arrives) holds up to the first packet
+/// of that link that mixes two session keys: one that is new and not empty, that reaches unchanged an
+/// end which opens what it hears with another key than its peer has, and that is judged good, so that
+/// its integrity code is right by chance (`journal_sealing`). Where both ends have one key there is
+/// none (`with_one_key_nothing_is_mixed`). Line by line (Core 5.2, volume 6 part B, sections 2.4, 4.5.6,
+/// 4.5.9, 4.5.10, 5.1.3 and 5.1.6, and part E, section 2, and volume 4 part E, section 7.7.19):
 ///
 /// - each packet of a link has the channel, the access address, the CRCInit, SN and NESN that the
 ///   lines before it give, and carries the PDU that its side sent last, until that is acknowledged;
+/// - its payload is what its end made of that PDU with the keys and the counter that it had before
+///   the line of the PDU: its body, or its body sealed. So it has the same octets each time, however
+///   often it is sent. Where it reaches the other side as it was sent, is heard whole there and brings
+///   a new PDU that is not empty, it is sealed exactly if the end of that side opens what it hears, up
+///   to the first packet of the link that mixes two session keys;
+/// - a packet of a link that the other side hears whole is judged forged exactly where its integrity
+///   code is wrong for the session and the counter of the end that hears it, and good where it is not;
+///   one that the radio left as it was is judged forged only where its two ends have two session keys,
+///   up to the first packet of the link that mixes them;
 /// - each line of a new PDU comes after all PDUs before it on its side are acknowledged;
 /// - each new PDU has the next number: it is the next control PDU where one that may go waited as
 ///   the PDU was fixed, else the next piece of one packet that the host of the side submitted on the
@@ -48,7 +67,8 @@ use crate::links::{
 ///   and a new empty PDU goes out only where neither may go;
 /// - the line of a new PDU is the last of its side before the packet that the PDU first goes out
 ///   in;
-/// - the next line of a side after the first good packet that brings a PDU is that it takes it, but
+/// - the next line of a side after the first good packet that brings a PDU is that it takes it, with
+///   the body that its end reads in the packet by its own key and counter, but
 ///   for the lines that a procedure is done on that link; it takes nothing more on a link once its
 ///   LL_TERMINATE_IND is acknowledged there;
 /// - before each turn, and at the end of a whole run, the packet of each line of a new PDU was on
@@ -81,16 +101,25 @@ pub fn each_journal_is_lawful()
     journal_sending::each_side_enters_its_events_in_order();
     journal_sending::lines_are_of_open_links_in_every_journal();
     journal_sending::data_arrives_in_order_in_every_journal();
-    journal_outcomes::ends_follow_their_central_in_every_journal();
-    journal_outcomes::ends_enter_each_event_alike_in_every_journal();
-    journal_outcomes::colliding_procedures_are_rejected_next();
-    journal_outcomes::rejected_procedures_are_refused();
-    journal_outcomes::rejected_procedures_are_not_indicated();
-    journal_outcomes::rejected_procedures_are_not_done();
-    journal_outcomes::no_link_ends_by_a_protocol_error();
+    journal_failures::ends_follow_their_central_in_every_journal();
+    journal_failures::ends_enter_each_event_alike_in_every_journal();
+    journal_failures::colliding_procedures_are_rejected_next();
+    journal_failures::rejected_procedures_are_refused();
+    journal_failures::rejected_procedures_are_not_indicated();
+    journal_failures::rejected_procedures_are_not_done();
+    journal_failures::no_link_ends_by_a_protocol_error();
+    journal_failures::a_link_fails_only_after_a_forged_packet();
     journal_sending::each_line_of_a_procedure_is_where_it_is_due();
     journal_sending::each_shut_line_has_its_reason_by_the_lines();
     journal_sending::links_end_in_time_by_the_lines();
+    journal_words::the_words_of_a_run_are_given();
+    journal_seals::a_mixed_journal_stays_mixed();
+    journal_seals::ends_hear_no_mixed_packet_while_their_journal_is_not_mixed();
+    journal_seals::each_packet_has_the_payload_of_the_lines();
+    journal_seals::a_pdu_is_sent_again_with_its_payload();
+    journal_seals::each_verdict_is_that_of_the_lines();
+    journal_seals::a_packet_is_forged_only_between_two_keys();
+    journal_seals::both_ends_agree_on_what_is_sealed();
     journal_sending::each_new_pdu_is_next_by_the_lines();
     journal_sending::each_packet_of_a_link_tells_what_waits();
     journal_sending::the_line_of_each_new_pdu_is_just_before_its_packet();

@@ -9,6 +9,7 @@ use Rattle.ccm_link.specs.Payload.{additional_data, is_genuine, nonce}
 use Rattle.journal.specs.declared.entries.Entry.{Entry}
 use Rattle.journal_controls.specs.LineSteps.{keyed_on}
 use Rattle.journal_controls.specs.journal_acks.Exchange.{Exchanged, exchange_of}
+use Rattle.journal_controls.specs.journal_ends.Asked.{Words}
 use Rattle.journal_controls.specs.journal_links.Begun.{LinkBegun, link_numbered}
 use Rattle.journal_controls.specs.link_model.Payload.{first_octet, opens_now}
 use Rattle.journal_controls.specs.link_model.enc_phase.Phases.{is_central}
@@ -39,6 +40,6 @@ none_on : (link : Option LinkBegun) (found : Option Keyed) (end : Exchanged) (ch
 none_on None found end channel octets opens = refl
 none_on (Some link) found end channel octets opens = none_heard found end (heard_in channel link.fields.access link.fields.crc_init octets) opens
 
-pub none_forged : (number : ℕ) (front : List Entry) (side : Side) (channel : ℕ) (octets : List ℕ) → OpensNothing number front side → is_forged_for number front side channel octets ≡ false
-none_forged number front side channel octets opens =
-    none_on (link_numbered number front) (keyed_on side number front) (exchange_of number front side) channel octets opens
+pub none_forged : (words : Words) (number : ℕ) (front : List Entry) (side : Side) (channel : ℕ) (octets : List ℕ) → OpensNothing words number front side → is_forged_for words number front side channel octets ≡ false
+none_forged words number front side channel octets opens =
+    none_on (link_numbered number front) (keyed_on words side number front) (exchange_of number front side) channel octets opens

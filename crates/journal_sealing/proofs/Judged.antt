@@ -17,6 +17,8 @@ use Rattle.journal_controls.specs.journal_acks.Carried.{bits_of}
 use Rattle.journal_controls.specs.journal_acks.Counted.{IsCounted}
 use Rattle.journal_controls.specs.journal_acks.Exchange.{Exchanged, exchange_of}
 use Rattle.journal_controls.specs.journal_acks.HeardBy.{IsHeardLine}
+use Rattle.journal_controls.specs.journal_ends.Asked.{Words}
+use Rattle.journal_controls.specs.journal_ends.Left.{left_of}
 use Rattle.journal_controls.specs.journal_links.Begun.{link_numbered}
 use Rattle.journal_controls.specs.journal_packets.Belonging.{link_of_packet}
 use Rattle.journal_controls.specs.link_model.Acknowledgement.{Acknowledgement, bits_of as end_bits}
@@ -34,9 +36,8 @@ use Rattle.journal_controls.specs.run_model.Run.{Given}
 use Rattle.radio_replay.specs.Damage.{damaged_packet}
 use Rattle.radio_replay.specs.declared.fates.Fate.{Fate}
 use Rattle.radio_replay.specs.declared.fates.Fate.TheVariants.{Pass, Lost, Damage}
-use Rattle.journal_sealing.specs.Forged.{is_forged_for, is_wrong, is_wrong_in, is_wrong_on}
+use Rattle.journal_sealing.specs.Forged.{counts_by, is_forged_for, is_wrong, is_wrong_in, is_wrong_on}
 use Rattle.journal_sealing.specs.Judged.{IsJudgedByLines}
-use Rattle.journal_sealing.specs.Left.{left_of}
 
 -- ---- an end
 
@@ -49,11 +50,15 @@ none_read true false end pdu is = ap (λ b. is_none (opened_if b end pdu)) is
 same_bits : (end : Exchanged) (ack : Acknowledgement) → IsCounted end ack → bits_of end ≡ end_bits ack
 same_bits end ack is = (λ i. record { sn = is_odd (is.acked i); nesn = is_odd (is.accepted i) })
 
+-- its PDU is new and not empty, by the lines and by what the end holds
+pub counts_as : (end : Exchanged) (facts : Facts) (pdu : List ℕ) → IsCounted end facts.acknowledgement → counts_here facts pdu ≡ counts_by end pdu
+counts_as end facts pdu is = ap (λ (bits : AckBits). is_new bits (header_in pdu) && not (is_empty (pdu_of pdu))) (sym (same_bits end facts.acknowledgement is))
+
 forged_as : (end : Exchanged) (facts : Facts) (pdu : List ℕ) → IsCounted end facts.acknowledgement → is_forged_pdu facts pdu ≡ is_wrong (Some (keyed_of facts)) end pdu
 forged_as end facts pdu is =
     let right = is_right facts.encryption.end (first_octet pdu) (drop 2 pdu) in
     none_read (counts_here facts pdu) right facts.encryption.end pdu refl
-    ∙ ap (λ (bits : AckBits). is_new bits (header_in pdu) && not (is_empty (pdu_of pdu)) && not right) (sym (same_bits end facts.acknowledgement is))
+    ∙ ap (λ counts. counts && not right) (counts_as end facts pdu is)
 
 in_room : (has_room forged wrong : Bool) → forged ≡ wrong → is_handed (if has_room then (if forged then Forged else Good) else Broken) ≡ true
     → (if has_room then (if forged then Forged else Good) else Broken) ≡ (if wrong then Forged else Good)
@@ -76,16 +81,16 @@ end_judges setup facts end octets counted handed =
 
 -- ---- a line
 
-left_is : (fate : Fate) (octets : List ℕ) → left_of (mark_of fate) octets ≡ damaged_packet fate octets
+pub left_is : (fate : Fate) (octets : List ℕ) → left_of (mark_of fate) octets ≡ damaged_packet fate octets
 left_is Pass octets = refl
 left_is Lost octets = refl
 left_is (Damage at pattern) octets = refl
 
-pub judged_by_lines : (given : Given) (front : List Entry) (side : Side) (channel : ℕ) (octets : List ℕ) (fate : Mark) (verdict : Verdict)
+pub judged_by_lines : (words : Words) (given : Given) (front : List Entry) (side : Side) (channel : ℕ) (octets : List ℕ) (fate : Mark) (verdict : Verdict)
     (line : IsHeardLine given front side channel octets fate verdict)
-    → keyed_on (side_of line.aired.hearing.listener) line.by_end.number (journal_of line.aired.before) ≡ Some (keyed_of (facts_in line.by_end.link))
-    → is_handed verdict ≡ true → IsJudgedByLines front side channel octets fate verdict
-judged_by_lines given front side channel octets fate verdict line keyed handed =
+    → keyed_on words (side_of line.aired.hearing.listener) line.by_end.number (journal_of line.aired.before) ≡ Some (keyed_of (facts_in line.by_end.link))
+    → is_handed verdict ≡ true → IsJudgedByLines words front side channel octets fate verdict
+judged_by_lines words given front side channel octets fate verdict line keyed handed =
     let aired = line.aired in
     let by_end = line.by_end in
     let number = by_end.number in
@@ -96,9 +101,9 @@ judged_by_lines given front side channel octets fate verdict line keyed handed =
     let left : left_of fate octets ≡ heard = ap (λ mark. left_of mark octets) aired.fate_is ∙ left_is aired.hearing.fate octets in
     let same = aired.verdict_is ∙ by_end.verdict_is in
     let begun = ap (link_numbered number) aired.front_is ∙ by_end.is_link in
-    let found = (λ i. keyed_on (listener i) number (aired.front_is i)) ∙ keyed in
+    let found = (λ i. keyed_on words (listener i) number (aired.front_is i)) ∙ keyed in
     let counts : exchange_of number front (other_side side) ≡ end = (λ i. exchange_of number (aired.front_is i) (listener i)) in
-    let wrong : is_forged_for number front (other_side side) channel (left_of fate octets) ≡ is_wrong_on (Some by_end.begun) (Some (keyed_of facts)) end channel heard =
+    let wrong : is_forged_for words number front (other_side side) channel (left_of fate octets) ≡ is_wrong_on (Some by_end.begun) (Some (keyed_of facts)) end channel heard =
     (λ i. is_wrong_on (begun i) (found i) (counts i) channel (left i)) in
     let hears : heard_in channel by_end.begun.fields.access by_end.begun.fields.crc_init heard ≡ heard_of by_end.link.setup facts heard =
     (λ i. heard_in (by_end.channel_is i) (by_end.fields i).access (by_end.fields i).crc_init heard) in

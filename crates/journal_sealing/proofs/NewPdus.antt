@@ -3,6 +3,7 @@ use Rattle.std.proofs.Common.{◌≡◌, ℕ, ◌+◌, ◌-◌, Bool, true, fals
 use Rattle.journal_controls.specs.LineSteps.{keyed_on}
 use Rattle.journal_controls.specs.journal_acks.Carried.{carried_of}
 use Rattle.journal_controls.specs.journal_acks.Held.{HasPayloadOfEnd}
+use Rattle.journal_controls.specs.journal_ends.Asked.{Words}
 use Rattle.journal_controls.specs.link_model.Controls.{pdu_fixed}
 use Rattle.journal_controls.specs.link_model.Data.{is_empty}
 use Rattle.journal_controls.specs.link_model.Facts.{Facts, keyed_of}
@@ -28,14 +29,14 @@ pub before_after : (e : EncEnd) → end_before (after_sending e) ≡ e
 before_after e = ap (λ (count : ℕ). record e { sent = count }) (taken_back (seals e.role e.phase) e.sent)
 
 -- what its lines say of an open end, before a packet
-abbrev AreKeyed : Given → List Event → ℕ → Type 0
-AreKeyed given history station =
+abbrev AreKeyed : Words → Given → List Event → ℕ → Type 0
+AreKeyed words given history station =
     (handle : ℕ) (link : OpenLink) → link_at handle (facts_at given station history).links ≡ Some link
-    → keyed_on (side_of station) ((links_of history).link_of station handle) (journal_of history) ≡ Some (keyed_of (facts_in link))
+    → keyed_on words (side_of station) ((links_of history).link_of station handle) (journal_of history) ≡ Some (keyed_of (facts_in link))
 
-pub made_by_lines : (given : Given) (history : List Event) (station channel : ℕ) (octets : List ℕ) → AreKeyed given history station
-    → HasPayloadOfEnd given history station channel octets → IsMadeByLines given history station channel octets
-made_by_lines given history station channel octets keyed by_end =
+pub made_by_lines : (words : Words) (given : Given) (history : List Event) (station channel : ℕ) (octets : List ℕ) → AreKeyed words given history station
+    → HasPayloadOfEnd given history station channel octets → IsMadeByLines words given history station channel octets
+made_by_lines words given history station channel octets keyed by_end =
     let from = by_end.sent in
     let facts = facts_in from.link in
     let sender = link_after (PacketSent from.slot) from.link in
@@ -44,7 +45,7 @@ made_by_lines given history station channel octets keyed by_end =
     record {
       by_end = by_end;
       end = keyed_of (facts_in sender);
-      is_end = ap (λ n. keyed_on side n (journal_of history)) by_end.number_is ∙ keyed from.handle sender from.is_open;
+      is_end = ap (λ n. keyed_on words side n (journal_of history)) by_end.number_is ∙ keyed from.handle sender from.is_open;
       made = λ all some.
           let fixed : pdu ≡ pdu_fixed facts = by_end.pdu_is ∙ ap (λ b. if b then pdu_fixed facts else facts.acknowledgement.last) all in
           let counter : (facts_in sender).encryption.end ≡ after_sending facts.encryption.end =

@@ -11,7 +11,9 @@ use Rattle.journal_controls.specs.TurnSteps.{first_if}
 use Rattle.journal_controls.specs.controller_model.Side.{notes_after}
 use Rattle.journal_controls.specs.controller_model.Since.{notes_opened_on}
 use Rattle.journal_controls.specs.controller_model.Step.{Step as Call}
-use Rattle.journal_controls.specs.journal_acks.Carried.{IsPayload, pdu_carried, sent_line_of}
+use Rattle.journal_controls.specs.journal_acks.Carried.{pdu_carried, sent_line_of}
+use Rattle.journal_controls.specs.journal_acks.run_laws.Ranges.{IsPayload}
+use Rattle.journal_controls.specs.journal_ends.Asked.{Words}
 use Rattle.journal_controls.specs.journal_links.LinkLines.{line_of, lines_of}
 use Rattle.journal_controls.specs.link_model.Acknowledgement.{Acknowledgement, Pdu, empty_pdu, is_acked}
 use Rattle.journal_controls.specs.link_model.End.{facts_of}
@@ -82,19 +84,19 @@ first_last : (link : OpenLink) → link.past ≡ [] → (ack_of link).last ≡ e
 unfolding facts_of
 first_last link none = ap (λ past. (facts_of link.setup past).acknowledgement.last) none
 
-pub sealed_new : (number : ℕ) (journal : List Entry) (side : Side) (link : OpenLink) → link.past ≡ [] → IsLined (sent_line_of number journal side) (ack_of link)
-    → IsSealedSo (sealed_line_of number journal side) link
-sealed_new number journal side link none lined = λ one is count out.
+pub sealed_new : (words : Words) (number : ℕ) (journal : List Entry) (side : Side) (link : OpenLink) → link.past ≡ [] → IsLined (sent_line_of number journal side) (ack_of link)
+    → IsSealedSo (sealed_line_of words number journal side) link
+sealed_new words number journal side link none lined = λ one is count out.
     let own : pdu_carried (Some (record { pdu = one.pdu; acked = one.acked })) one.acked ≡ one.pdu = ap (λ b. if b then one.pdu else empty_pdu) (same_number one.acked) in
     let last : empty_pdu ≡ one.pdu =
     sym (first_last link none) ∙ lined.last one.acked count
-    ∙ ap (λ line. pdu_carried line one.acked) (sym (forgets number side journal) ∙ ap without_payload is) ∙ own in
+    ∙ ap (λ line. pdu_carried line one.acked) (sym (forgets words number side journal) ∙ ap without_payload is) ∙ own in
     first_payload link none
-    ∙ sym (empty_payload one.payload (subst (λ pdu. IsPayload pdu one.payload) (sym last) (line_payload number side journal one is)))
+    ∙ sym (empty_payload one.payload (subst (λ pdu. IsPayload pdu one.payload) (sym last) (line_payload words number side journal one is)))
 
 -- ---- a call of a turn, at its own station
 
-module _ (given : Given) (station : ℕ) (call : Call) (history : List Event) (handle : ℕ) (base link : OpenLink) (led : IsLed base link) where
+module _ (words : Words) (given : Given) (station : ℕ) (call : Call) (history : List Event) (handle : ℕ) (base link : OpenLink) (led : IsLed base link) where
   abbrev after : List Event
   after = after_call given station call history
 
@@ -109,13 +111,13 @@ module _ (given : Given) (station : ℕ) (call : Call) (history : List Event) (h
 
   module _ (lines_before : lines_of side own (journal_of history) ≡ map (line_of side own) (notes_opened_on base.setup base.past))
       (lines_now : lines_of side own (journal_of after) ≡ map (line_of side own) (notes_opened_on link.setup link.past))
-      (keyed : keyed_on side own (journal_of after) ≡ Some (keyed_of (facts_in link)))
-      (lined : IsLined (sent_line_of own (journal_of history) side) (ack_of base)) (sealed : IsSealedSo (sealed_line_at own history side) base) where
-    kept : IsSealedSo (sealed_line_at own history side) link
+      (keyed : keyed_on words side own (journal_of after) ≡ Some (keyed_of (facts_in link)))
+      (lined : IsLined (sent_line_of own (journal_of history) side) (ack_of base)) (sealed : IsSealedSo (sealed_line_at words own history side) base) where
+    kept : IsSealedSo (sealed_line_at words own history side) link
     kept =
         let last = first_if led.sends (PacketSent led.slot) [] in
-        sealed_kept (sealed_line_at own history side) base link (led.early ++ last) led.setup_is (led.past_is ∙ append_assoc base.past led.early last)
-        (subst (λ line. IsLined line (ack_of base)) (sym (forgets own side (journal_of history))) lined) sealed
+        sealed_kept (sealed_line_at words own history side) base link (led.early ++ last) led.setup_is (led.past_is ∙ append_assoc base.past led.early last)
+        (subst (λ line. IsLined line (ack_of base)) (sym (forgets words own side (journal_of history))) lined) sealed
 
     module _ (front : List Entry) (more : List Entry) (count llid : ℕ) (body : List ℕ) (front_is : front ≡ journal_of history ++ more)
         (after_is : journal_of after ≡ front ++ Sent side own count llid body ∷ []) where
@@ -133,49 +135,49 @@ module _ (given : Given) (station : ℕ) (call : Call) (history : List Event) (h
           ∙ ap (λ xs. xs ++ line ∷ []) (ap (lines_of side own) front_is ∙ lines_append side own (journal_of history) more ∙ ap (λ xs. xs ++ lines_of side own more) lines_before)
           ∙ append_assoc (map (line_of side own) (notes_opened_on base.setup base.past)) (lines_of side own more) (line ∷ [])
 
-      was : WasSealing side own front (keyed_of (facts_in link))
-      was = was_sealing side own front count llid body (keyed_of (facts_in link)) (ap (keyed_on side own) (sym after_is) ∙ keyed)
+      was : WasSealing words side own front (keyed_of (facts_in link))
+      was = was_sealing words side own front count llid body (keyed_of (facts_in link)) (ap (keyed_on words side own) (sym after_is) ∙ keyed)
 
-      made : (facts_in link).outgoing.payload ≡ payload_by (keyed_on side own front) pdu
+      made : (facts_in link).outgoing.payload ≡ payload_by (keyed_on words side own front) pdu
       made =
           led_made side own base link led (lines_of side own more) count llid body own_lines was.end.end was.sealed
           ∙ ap (λ found. payload_by found pdu) (sym was.is_end)
 
-      sealed_now : (now : Option SealedLine) → now ≡ Some (sealed_line own front side pdu) → IsSealedSo now link
+      sealed_now : (now : Option SealedLine) → now ≡ Some (sealed_line words own front side pdu) → IsSealedSo now link
       sealed_now now now_is = λ one is acked out.
-          let h : Some (sealed_line own front side pdu) ≡ Some one = sym now_is ∙ is in
-          let same : sealed_line own front side pdu ≡ one = cc in
+          let h : Some (sealed_line words own front side pdu) ≡ Some one = sym now_is ∙ is in
+          let same : sealed_line words own front side pdu ≡ one = cc in
           made ∙ ap (λ (l : SealedLine). l.payload) same
 
-    sealed_by : IsSendingLast notes → IsSealedSo (sealed_line_at own after side) link
-    sealed_by (NoneSends none) = subst (λ line. IsSealedSo line link) (sym (sealed_called given own station call history side none)) kept
+    sealed_by : IsSendingLast notes → IsSealedSo (sealed_line_at words own after side) link
+    sealed_by (NoneSends none) = subst (λ line. IsSealedSo line link) (sym (sealed_called words given own station call history side none)) kept
     sealed_by (LastSends earlier other count llid body are none opens) = by (number_at station other history == own) refl
       where
         by : (same : Bool) → (number_at station other history == number_at station handle history) ≡ same
-            → IsSealedSo (sealed_line_at (number_at station handle history) (after_call given station call history) (side_of station)) link
+            → IsSealedSo (sealed_line_at words (number_at station handle history) (after_call given station call history) (side_of station)) link
         by false differs =
-            let now = sealed_last given station call history earlier other count llid body are none opens own in
-            let front = journal_of (before_sent given station call history earlier other count llid body are none opens) in
+            let now = sealed_last words given station call history earlier other count llid body are none opens own in
+            let front = journal_of (before_sent words given station call history earlier other count llid body are none opens) in
             subst (λ line. IsSealedSo line link)
-            (sym (now ∙ ap (λ b. if b then Some (sealed_line own front side (record { llid = llid; body = body })) else sealed_line_at own history side) differs)) kept
+            (sym (now ∙ ap (λ b. if b then Some (sealed_line words own front side (record { llid = llid; body = body })) else sealed_line_at words own history side) differs)) kept
         by true same =
-            let now = sealed_last given station call history earlier other count llid body are none opens own in
-            let front = journal_of (before_sent given station call history earlier other count llid body are none opens) in
+            let now = sealed_last words given station call history earlier other count llid body are none opens own in
+            let front = journal_of (before_sent words given station call history earlier other count llid body are none opens) in
             sealed_now front (journal_from (links_of history) (Called station call ∷ map (Noted station) earlier)) count llid body
-            (journal_before given station call history earlier other count llid body are none opens)
-            (journal_last given station call history earlier other count llid body are none opens
+            (journal_before words given station call history earlier other count llid body are none opens)
+            (journal_last words given station call history earlier other count llid body are none opens
             ∙ ap (λ n. front ++ Sent side n count llid body ∷ []) (eqb-true (number_at station other history) own same))
-            (sealed_line_at own after side)
-            (now ∙ ap (λ b. if b then Some (sealed_line own front side (record { llid = llid; body = body })) else sealed_line_at own history side) same)
+            (sealed_line_at words own after side)
+            (now ∙ ap (λ b. if b then Some (sealed_line words own front side (record { llid = llid; body = body })) else sealed_line_at words own history side) same)
 
   -- under its number after the call
   pub own_sealed : IsSendingLast notes → number_at station handle after ≡ own
       → lines_of side own (journal_of history) ≡ map (line_of side own) (notes_opened_on base.setup base.past)
       → lines_of side (number_at station handle after) (journal_of after) ≡ map (line_of side (number_at station handle after)) (notes_opened_on link.setup link.past)
-      → keyed_on side (number_at station handle after) (journal_of after) ≡ Some (keyed_of (facts_in link))
-      → IsLined (sent_line_of own (journal_of history) side) (ack_of base) → IsSealedSo (sealed_line_at own history side) base
-      → IsSealedSo (sealed_line_at (number_at station handle after) after side) link
+      → keyed_on words side (number_at station handle after) (journal_of after) ≡ Some (keyed_of (facts_in link))
+      → IsLined (sent_line_of own (journal_of history) side) (ack_of base) → IsSealedSo (sealed_line_at words own history side) base
+      → IsSealedSo (sealed_line_at words (number_at station handle after) after side) link
   own_sealed last number lines_before lines_now keyed lined sealed =
-      subst (λ n. IsSealedSo (sealed_line_at n after side) link) (sym number)
+      subst (λ n. IsSealedSo (sealed_line_at words n after side) link) (sym number)
       (sealed_by lines_before (subst (λ n. lines_of side n (journal_of after) ≡ map (line_of side n) (notes_opened_on link.setup link.past)) number lines_now)
-      (ap (λ n. keyed_on side n (journal_of after)) (sym number) ∙ keyed) lined sealed last)
+      (ap (λ n. keyed_on words side n (journal_of after)) (sym number) ∙ keyed) lined sealed last)

@@ -11,6 +11,7 @@ use Rattle.journal_controls.specs.controller_model.Packets.{notes_doing}
 use Rattle.journal_controls.specs.controller_model.Side.{notes_after}
 use Rattle.journal_controls.specs.controller_model.Step.{Step}
 use Rattle.journal_controls.specs.controller_model.declared.doing.Doing.{Doing}
+use Rattle.journal_controls.specs.journal_ends.Asked.{Words}
 use Rattle.journal_controls.specs.journal_packets.Belonging.{is_side}
 use Rattle.journal_controls.specs.link_model.Acknowledgement.{Pdu, is_acked}
 use Rattle.journal_controls.specs.link_model.Controls.{pdu_fixed}
@@ -30,42 +31,42 @@ use Rattle.journal_sealing.specs.SealedLines.{NoneSent, SealedLine, says_sent, s
 use Rattle.journal_sealing.proofs.SealedLines.{line_more, same_line}
 
 -- the last line of a new PDU of a side on a link, with its payload, as the journal of a history has it
-abbrev pub sealed_line_at : ℕ → List Event → Side → Option SealedLine
-sealed_line_at number history side = sealed_line_of number (journal_of history) side
+abbrev pub sealed_line_at : Words → ℕ → List Event → Side → Option SealedLine
+sealed_line_at words number history side = sealed_line_of words number (journal_of history) side
 
 -- ---- an event more
 
 -- in the entries of which no new PDU is sent
-entries_same : (number : ℕ) (history after : List Event) (side : Side) (more : List Entry) → journal_of after ≡ journal_of history ++ more → NoneSent number side more
-    → sealed_line_at number after side ≡ sealed_line_at number history side
-entries_same number history after side more is none =
-    ap (λ xs. sealed_line_of number xs side) is ∙ same_line number side (journal_of history) more none
+entries_same : (words : Words) (number : ℕ) (history after : List Event) (side : Side) (more : List Entry) → journal_of after ≡ journal_of history ++ more → NoneSent number side more
+    → sealed_line_at words number after side ≡ sealed_line_at words number history side
+entries_same words number history after side more is none =
+    ap (λ xs. sealed_line_of words number xs side) is ∙ same_line words number side (journal_of history) more none
 
-event_same : (number : ℕ) (history : List Event) (event : Event) (side : Side) → NoneSent number side (entries_of (links_of history) event)
-    → sealed_line_at number (history ++ event ∷ []) side ≡ sealed_line_at number history side
-event_same number history event side none =
-    entries_same number history (history ++ event ∷ []) side (entries_of (links_of history) event) (journal_event history event) none
+event_same : (words : Words) (number : ℕ) (history : List Event) (event : Event) (side : Side) → NoneSent number side (entries_of (links_of history) event)
+    → sealed_line_at words number (history ++ event ∷ []) side ≡ sealed_line_at words number history side
+event_same words number history event side none =
+    entries_same words number history (history ++ event ∷ []) side (entries_of (links_of history) event) (journal_event history event) none
 
-pub turn_sealed : (number : ℕ) (history : List Event) (slot : ℕ) (radios : List Bool) (side : Side)
-    → sealed_line_at number (history ++ TurnBegan slot radios ∷ []) side ≡ sealed_line_at number history side
-turn_sealed number history slot radios side = event_same number history (TurnBegan slot radios) side (refl, tt)
+pub turn_sealed : (words : Words) (number : ℕ) (history : List Event) (slot : ℕ) (radios : List Bool) (side : Side)
+    → sealed_line_at words number (history ++ TurnBegan slot radios ∷ []) side ≡ sealed_line_at words number history side
+turn_sealed words number history slot radios side = event_same words number history (TurnBegan slot radios) side (refl, tt)
 
-pub feed_sealed : (number : ℕ) (history : List Event) (station : ℕ) (octets : List ℕ) (side : Side)
-    → sealed_line_at number (history ++ HostFed station octets ∷ []) side ≡ sealed_line_at number history side
-feed_sealed number history station octets side = event_same number history (HostFed station octets) side (refl, tt)
+pub feed_sealed : (words : Words) (number : ℕ) (history : List Event) (station : ℕ) (octets : List ℕ) (side : Side)
+    → sealed_line_at words number (history ++ HostFed station octets ∷ []) side ≡ sealed_line_at words number history side
+feed_sealed words number history station octets side = event_same words number history (HostFed station octets) side (refl, tt)
 
 air_none : (number : ℕ) (side sender : Side) (channel : ℕ) (octets : List ℕ) (hearings : List Hearing) → NoneSent number side (air_entries sender channel octets hearings)
 air_none number side sender channel octets [] = tt
 air_none number side sender channel octets (hearing ∷ hearings) = (refl, tt)
 
-pub air_sealed : (number : ℕ) (history : List Event) (sender channel : ℕ) (octets : List ℕ) (hearings : List Hearing) (side : Side)
-    → sealed_line_at number (history ++ Transmitted sender channel octets hearings ∷ []) side ≡ sealed_line_at number history side
-air_sealed number history sender channel octets hearings side =
-    event_same number history (Transmitted sender channel octets hearings) side (air_none number side (side_of sender) channel octets hearings)
+pub air_sealed : (words : Words) (number : ℕ) (history : List Event) (sender channel : ℕ) (octets : List ℕ) (hearings : List Hearing) (side : Side)
+    → sealed_line_at words number (history ++ Transmitted sender channel octets hearings ∷ []) side ≡ sealed_line_at words number history side
+air_sealed words number history sender channel octets hearings side =
+    event_same words number history (Transmitted sender channel octets hearings) side (air_none number side (side_of sender) channel octets hearings)
 
-call_sealed : (number : ℕ) (history : List Event) (station : ℕ) (step : Step) (side : Side)
-    → sealed_line_at number (history ++ Called station step ∷ []) side ≡ sealed_line_at number history side
-call_sealed number history station step side = event_same number history (Called station step) side tt
+call_sealed : (words : Words) (number : ℕ) (history : List Event) (station : ℕ) (step : Step) (side : Side)
+    → sealed_line_at words number (history ++ Called station step ∷ []) side ≡ sealed_line_at words number history side
+call_sealed words number history station step side = event_same words number history (Called station step) side tt
 
 -- ---- a note
 
@@ -79,34 +80,34 @@ other_entry number side other link_of last (Sent handle count llid body) differs
 other_entry number side other link_of last (Up packet) differs = refl
 other_entry number side other link_of last note differs = refl
 
-quiet_note : (number station : ℕ) (side : Side) (history : List Event) (note : Note) → SendsNone note
-    → sealed_line_at number (history ++ Noted station note ∷ []) side ≡ sealed_line_at number history side
-quiet_note number station side history note none =
-    event_same number history (Noted station note) side
+quiet_note : (words : Words) (number station : ℕ) (side : Side) (history : List Event) (note : Note) → SendsNone note
+    → sealed_line_at words number (history ++ Noted station note ∷ []) side ≡ sealed_line_at words number history side
+quiet_note words number station side history note none =
+    event_same words number history (Noted station note) side
     (quiet_entry number side (side_of station) ((links_of history).link_of station) ((links_of history).last_of station) note none, tt)
 
-other_note : (number station : ℕ) (side : Side) (history : List Event) (note : Note) → is_side (side_of station) side ≡ false
-    → sealed_line_at number (history ++ Noted station note ∷ []) side ≡ sealed_line_at number history side
-other_note number station side history note differs =
-    event_same number history (Noted station note) side
+other_note : (words : Words) (number station : ℕ) (side : Side) (history : List Event) (note : Note) → is_side (side_of station) side ≡ false
+    → sealed_line_at words number (history ++ Noted station note ∷ []) side ≡ sealed_line_at words number history side
+other_note words number station side history note differs =
+    event_same words number history (Noted station note) side
     (other_entry number side (side_of station) ((links_of history).link_of station) ((links_of history).last_of station) note differs, tt)
 
 -- ---- a call
 
 -- in which no new PDU is sent
-pub sealed_called : (given : Given) (number station : ℕ) (step : Step) (history : List Event) (side : Side)
+pub sealed_called : (words : Words) (given : Given) (number station : ℕ) (step : Step) (history : List Event) (side : Side)
     → All SendsNone (notes_after (setup_at given station) (facts_at given station history) step)
-    → sealed_line_at number (after_call given station step history) side ≡ sealed_line_at number history side
-sealed_called given number station step history side none =
-    call_keeps (Option SealedLine) (λ before. sealed_line_at number before side) SendsNone station (λ before note quiet. quiet_note number station side before note quiet)
-    given step history (call_sealed number history station step side) none
+    → sealed_line_at words number (after_call given station step history) side ≡ sealed_line_at words number history side
+sealed_called words given number station step history side none =
+    call_keeps (Option SealedLine) (λ before. sealed_line_at words number before side) SendsNone station (λ before note quiet. quiet_note words number station side before note quiet)
+    given step history (call_sealed words number history station step side) none
 
 -- on the other side
-pub sealed_other : (given : Given) (number station : ℕ) (step : Step) (history : List Event) (side : Side) → is_side (side_of station) side ≡ false
-    → sealed_line_at number (after_call given station step history) side ≡ sealed_line_at number history side
-sealed_other given number station step history side differs =
-    call_keeps (Option SealedLine) (λ before. sealed_line_at number before side) (λ note. true ≡ true) station
-    (λ before note any. other_note number station side before note differs) given step history (call_sealed number history station step side) (any_note _)
+pub sealed_other : (words : Words) (given : Given) (number station : ℕ) (step : Step) (history : List Event) (side : Side) → is_side (side_of station) side ≡ false
+    → sealed_line_at words number (after_call given station step history) side ≡ sealed_line_at words number history side
+sealed_other words given number station step history side differs =
+    call_keeps (Option SealedLine) (λ before. sealed_line_at words number before side) (λ note. true ≡ true) station
+    (λ before note any. other_note words number station side before note differs) given step history (call_sealed words number history station step side) (any_note _)
 
 -- a call notes no new PDU, or one, and that last
 pub data IsSendingLast (notes : List Note) : Type 0 where
@@ -134,7 +135,7 @@ sending_last doing facts notes earlier are none opens = by (sends_from doing fac
         (opens link.setup.link.handle)
 
 -- one that sends such a PDU
-module _ (given : Given) (station : ℕ) (step : Step) (history : List Event) (earlier : List Note) (handle count llid : ℕ) (body : List ℕ)
+module _ (words : Words) (given : Given) (station : ℕ) (step : Step) (history : List Event) (earlier : List Note) (handle count llid : ℕ) (body : List ℕ)
     (are : notes_after (setup_at given station) (facts_at given station history) step ≡ earlier ++ Sent handle count llid (record { items = body }) ∷ [])
     (none : All SendsNone earlier) (opens : All (OpensNone handle) earlier) where
   abbrev called : List Event
@@ -170,19 +171,19 @@ module _ (given : Given) (station : ℕ) (step : Step) (history : List Event) (e
     abbrev side : Side
     side = side_of station
 
-    earlier_same : sealed_line_at number before_sent side ≡ sealed_line_at number history side
+    earlier_same : sealed_line_at words number before_sent side ≡ sealed_line_at words number history side
     earlier_same =
-        notes_keep (Option SealedLine) (λ xs. sealed_line_at number xs side) SendsNone station (λ xs one quiet. quiet_note number station side xs one quiet) earlier called none
-        ∙ call_sealed number history station step side
+        notes_keep (Option SealedLine) (λ xs. sealed_line_at words number xs side) SendsNone station (λ xs one quiet. quiet_note words number station side xs one quiet) earlier called none
+        ∙ call_sealed words number history station step side
 
-    pub sealed_last : sealed_line_at number (after_call given station step history) side
+    pub sealed_last : sealed_line_at words number (after_call given station step history) side
         ≡ (if number_at station handle history == number
-        then Some (sealed_line number (journal_of before_sent) side (record { llid = llid; body = body }))
-        else sealed_line_at number history side)
+        then Some (sealed_line words number (journal_of before_sent) side (record { llid = llid; body = body }))
+        else sealed_line_at words number history side)
     sealed_last =
-        let one = Some (sealed_line number (journal_of before_sent) side (record { llid = llid; body = body })) in
+        let one = Some (sealed_line words number (journal_of before_sent) side (record { llid = llid; body = body })) in
         let own = number_at station handle history == number in
-        ap (λ xs. sealed_line_of number xs side) journal_last
-        ∙ line_more number side (journal_of before_sent) (SentLine side (number_at station handle history) count llid body)
-        ∙ ap (λ b. if b && own then one else sealed_line_at number before_sent side) (side_same station)
+        ap (λ xs. sealed_line_of words number xs side) journal_last
+        ∙ line_more words number side (journal_of before_sent) (SentLine side (number_at station handle history) count llid body)
+        ∙ ap (λ b. if b && own then one else sealed_line_at words number before_sent side) (side_same station)
         ∙ ap (λ line. if own then one else line) earlier_same

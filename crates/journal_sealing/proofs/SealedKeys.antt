@@ -5,9 +5,10 @@ use Rattle.ble_base.specs.declared.roles.Role.TheVariants.{Central, Peripheral}
 use Rattle.ble_base.specs.declared.roles.Side.{Side}
 use Rattle.journal.specs.declared.entries.Entry.{Entry}
 use Rattle.journal.specs.declared.entries.Entry.TheVariants.{Sent}
-use Rattle.journal_controls.specs.KeyedLines.{does_if, drawn_by, keyed_by_all, steps_sending}
+use Rattle.journal_controls.specs.KeyedLines.{does_if, keyed_by_all, steps_sending}
 use Rattle.journal_controls.specs.LineSteps.{keyed_in_line, keyed_on, turn_now, withholds}
 use Rattle.journal_controls.specs.SaidLines.{NoneOpens, moved_by}
+use Rattle.journal_controls.specs.journal_ends.Asked.{Words}
 use Rattle.journal_controls.specs.journal_links.LinkLines.{where_named}
 use Rattle.journal_controls.specs.link_model.Acknowledgement.{Pdu}
 use Rattle.journal_controls.specs.link_model.Controls.{is_procedure_pdu}
@@ -40,35 +41,35 @@ sending_seals Peripheral slot pdu k = refl
 
 -- ---- an end that is open after such a line was open before it
 
-pub record WasSealing (side : Side) (number : ℕ) (front : List Entry) (after : Keyed) : Type 0 where
+pub record WasSealing (words : Words) (side : Side) (number : ℕ) (front : List Entry) (after : Keyed) : Type 0 where
   pub end : Keyed
-  pub is_end : keyed_on side number front ≡ Some end
+  pub is_end : keyed_on words side number front ≡ Some end
   pub sealed : after.end ≡ after_sending end.end
 
-module _ (side : Side) (number : ℕ) (front : List Entry) (count llid : ℕ) (body : List ℕ) where
+module _ (words : Words) (side : Side) (number : ℕ) (front : List Entry) (count llid : ℕ) (body : List ℕ) where
   abbrev line : Entry
   line = Sent side number count llid body
 
   named : where_named side number (Some (side, number)) line ≡ line ∷ []
   named = own_side side (if number == number then line ∷ [] else []) ∙ ap (λ b. if b then line ∷ [] else []) (same_number number)
 
-  moves : (k : Keyed) → keyed_in_line (drawn_by side) side number front (Some k) line
+  moves : (k : Keyed) → keyed_in_line words side number front (Some k) line
       ≡ Some (keyed_by_all (steps_sending (role_now k.phased) (turn_now front) (record { llid = llid; body = body })) k)
   moves k =
-      line_moves side number front line k refl (unaccepted_by side front line refl) (subst NoneOpens (sym named) (refl, tt))
-      ∙ ap (λ lines. Some (moved_by (withholds side front) (drawn_by side front) (turn_now front) lines k)) named
+      line_moves words side number front line k refl (unaccepted_by side front line refl) (subst NoneOpens (sym named) (refl, tt))
+      ∙ ap (λ lines. Some (moved_by (withholds side front) (words side front) (turn_now front) lines k)) named
 
-  pub was_sealing : (after : Keyed) → keyed_on side number (front ++ line ∷ []) ≡ Some after → WasSealing side number front after
-  was_sealing after is = by (keyed_on side number front) refl
+  pub was_sealing : (after : Keyed) → keyed_on words side number (front ++ line ∷ []) ≡ Some after → WasSealing words side number front after
+  was_sealing after is = by (keyed_on words side number front) refl
     where
-      by : (found : Option Keyed) → keyed_on side number front ≡ found → WasSealing side number front after
+      by : (found : Option Keyed) → keyed_on words side number front ≡ found → WasSealing words side number front after
       by None none =
           absurd (let h : None ≡ Some after =
-          ap (λ before. keyed_in_line (drawn_by side) side number front before line) (sym none) ∙ sym (keyed_more side number front line) ∙ is in absurd cc)
+          ap (λ before. keyed_in_line words side number front before line) (sym none) ∙ sym (keyed_more words side number front line) ∙ is in absurd cc)
       by (Some k) some =
           let moved = keyed_by_all (steps_sending (role_now k.phased) (turn_now front) (record { llid = llid; body = body })) k in
           let h : Some after ≡ Some moved =
-          sym is ∙ keyed_more side number front line ∙ ap (λ before. keyed_in_line (drawn_by side) side number front before line) some ∙ moves k in
+          sym is ∙ keyed_more words side number front line ∙ ap (λ before. keyed_in_line words side number front before line) some ∙ moves k in
           let same : after ≡ moved = cc in
           record {
             end = k;

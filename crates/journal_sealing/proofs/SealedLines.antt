@@ -1,7 +1,5 @@
 -- What the payload by the lines of a journal is, whatever these lines are.
-use Rattle.std.proofs.Common.{◌≡◌, ℕ, ◌==◌, ◌&&◌, not, Bool, true, false, Option, Some, None, List, [], ◌∷◌, ◌++◌, length, refl, sym, ap, subst, ◌∙◌, append-nil, append_assoc, if◌then◌else◌}
-use Rattle.std.proofs.Math.Bool.{and-false}
-use Rattle.std.proofs.lemmas.Bool.{eq-eqb}
+use Rattle.std.proofs.Common.{◌≡◌, ℕ, ◌==◌, ◌&&◌, not, Bool, true, false, Option, Some, None, List, [], ◌∷◌, ◌++◌, refl, sym, ap, subst, ◌∙◌, append-nil, append_assoc, if◌then◌else◌}
 use Rattle.ble_base.specs.declared.roles.Side.{Side}
 use Rattle.ble_base.specs.declared.roles.Side.TheVariants.{A, B}
 use Rattle.ble_base.specs.declared.verdicts.Verdict.{Verdict}
@@ -11,8 +9,10 @@ use Rattle.journal.specs.declared.entries.Entry.{Entry}
 use Rattle.journal.specs.declared.entries.Entry.TheVariants.{Air, Sent, Turn}
 use Rattle.journal.specs.declared.entries.Mark.{Mark}
 use Rattle.journal_controls.specs.LineSteps.{keyed_on}
-use Rattle.journal_controls.specs.journal_acks.Carried.{IsPayload, carried_of, pdu_carried, sent_line_after, sent_line_from, sent_line_of}
+use Rattle.journal_controls.specs.journal_acks.run_laws.Ranges.{IsPayload}
+use Rattle.journal_controls.specs.journal_acks.Carried.{carried_of, pdu_carried, sent_line_after, sent_line_from, sent_line_of}
 use Rattle.journal_controls.specs.journal_acks.Exchange.{Exchanged, after_packet, carries_empty, exchange_after, exchange_of, is_number}
+use Rattle.journal_controls.specs.journal_ends.Asked.{Words}
 use Rattle.journal_controls.specs.journal_links.Begun.{link_numbered}
 use Rattle.journal_controls.specs.journal_packets.Belonging.{is_side, link_of_packet}
 use Rattle.journal_controls.specs.link_model.Acknowledgement.{Pdu, empty_pdu}
@@ -23,40 +23,39 @@ use Rattle.journal_controls.specs.link_model.keyed_control.Keyed.{Keyed}
 use Rattle.journal_controls.specs.run_model.History.{is_good}
 use Rattle.journal_controls.specs.run_model.Links.{is_advertising}
 use Rattle.journal_controls.proofs.journal_acks.Exchanging.{exchange_more}
-use Rattle.journal_controls.proofs.journal_acks.Payloads.{in_clear, made_is}
-use Rattle.journal_sealing.specs.Mixed.{is_sealed_line}
+use Rattle.journal_controls.proofs.journal_acks.run_laws.Payloads.{in_clear, made_is}
 use Rattle.journal_sealing.specs.SealedLines.{HasPayload, IsSentAgain, NeverSeals, NoneSent, SealedLine, payload_by, payload_carried, payload_of_line, says_sent, sealed_line, sealed_line_after, sealed_line_from, sealed_line_of, without_payload}
 
 -- ---- something of each line
 
-module _ (number : ℕ) (side : Side) where
+module _ (words : Words) (number : ℕ) (side : Side) where
   -- whether an entry is such a line or not
   module _ (front : List Entry) (before : Option SealedLine) where
-    after_forgets : (entry : Entry) → without_payload (sealed_line_after number front side before entry) ≡ sent_line_after number front side (without_payload before) entry
+    after_forgets : (entry : Entry) → without_payload (sealed_line_after words number front side before entry) ≡ sent_line_after number front side (without_payload before) entry
     after_forgets (Sent other link count llid body) = by (is_side other side && link == number)
       where
-        by : (says : Bool) → without_payload (if says then Some (sealed_line number front side (record { llid = llid; body = body })) else before)
+        by : (says : Bool) → without_payload (if says then Some (sealed_line words number front side (record { llid = llid; body = body })) else before)
             ≡ (if says then Some (record { pdu = record { llid = llid; body = body }; acked = (exchange_of number front side).acked }) else without_payload before)
         by true = refl
         by false = refl
     after_forgets (Turn slot a b) = refl
     after_forgets other = refl
 
-    after_same : (entry : Entry) → says_sent number side entry ≡ false → sealed_line_after number front side before entry ≡ before
+    after_same : (entry : Entry) → says_sent number side entry ≡ false → sealed_line_after words number front side before entry ≡ before
     after_same (Sent other link count llid body) none =
-        ap (λ b. if b then Some (sealed_line number front side (record { llid = llid; body = body })) else before) none
+        ap (λ b. if b then Some (sealed_line words number front side (record { llid = llid; body = body })) else before) none
     after_same (Turn slot a b) none = refl
     after_same other none = refl
 
   from_forgets : (front : List Entry) (before : Option SealedLine) (entries : List Entry)
-      → without_payload (sealed_line_from number front side before entries) ≡ sent_line_from number front side (without_payload before) entries
+      → without_payload (sealed_line_from words number front side before entries) ≡ sent_line_from number front side (without_payload before) entries
   from_forgets front before [] = refl
   from_forgets front before (entry ∷ entries) =
-      from_forgets (front ++ entry ∷ []) (sealed_line_after number front side before entry) entries
+      from_forgets (front ++ entry ∷ []) (sealed_line_after words number front side before entry) entries
       ∙ ap (λ line. sent_line_from number (front ++ entry ∷ []) side line entries) (after_forgets front before entry)
 
   -- the lines are those that say what is carried
-  pub forgets : (journal : List Entry) → without_payload (sealed_line_of number journal side) ≡ sent_line_of number journal side
+  pub forgets : (journal : List Entry) → without_payload (sealed_line_of words number journal side) ≡ sent_line_of number journal side
   unfolding sealed_line_of sent_line_of
   forgets journal = from_forgets [] None journal
 
@@ -67,25 +66,25 @@ module _ (number : ℕ) (side : Side) where
     IsSo None = Unit {0}
     IsSo (Some line) = P line
 
-    so_after : (front : List Entry) (before : Option SealedLine) (entry : Entry) → ((pdu : Pdu) → P (sealed_line number front side pdu)) → IsSo before
-        → IsSo (sealed_line_after number front side before entry)
+    so_after : (front : List Entry) (before : Option SealedLine) (entry : Entry) → ((pdu : Pdu) → P (sealed_line words number front side pdu)) → IsSo before
+        → IsSo (sealed_line_after words number front side before entry)
     so_after front before (Sent other link count llid body) each is = by (is_side other side && link == number)
       where
-        by : (says : Bool) → IsSo (if says then Some (sealed_line number front side (record { llid = llid; body = body })) else before)
+        by : (says : Bool) → IsSo (if says then Some (sealed_line words number front side (record { llid = llid; body = body })) else before)
         by true = each (record { llid = llid; body = body })
         by false = is
     so_after front before (Turn slot a b) each is = is
     so_after front before other each is = is
 
     so_from : (journal front : List Entry) (before : Option SealedLine) (entries : List Entry) → journal ≡ front ++ entries
-        → ((one rest : List Entry) (pdu : Pdu) → journal ≡ one ++ rest → P (sealed_line number one side pdu)) → IsSo before
-        → IsSo (sealed_line_from number front side before entries)
+        → ((one rest : List Entry) (pdu : Pdu) → journal ≡ one ++ rest → P (sealed_line words number one side pdu)) → IsSo before
+        → IsSo (sealed_line_from words number front side before entries)
     so_from journal front before [] at each is = is
     so_from journal front before (entry ∷ entries) at each is =
-        so_from journal (front ++ entry ∷ []) (sealed_line_after number front side before entry) entries (at ∙ sym (append_assoc front (entry ∷ []) entries)) each
+        so_from journal (front ++ entry ∷ []) (sealed_line_after words number front side before entry) entries (at ∙ sym (append_assoc front (entry ∷ []) entries)) each
         (so_after front before entry (λ pdu. each front (entry ∷ entries) pdu at) is)
 
-    so_line : (journal : List Entry) → ((one rest : List Entry) (pdu : Pdu) → journal ≡ one ++ rest → P (sealed_line number one side pdu)) → IsSo (sealed_line_of number journal side)
+    so_line : (journal : List Entry) → ((one rest : List Entry) (pdu : Pdu) → journal ≡ one ++ rest → P (sealed_line words number one side pdu)) → IsSo (sealed_line_of words number journal side)
     unfolding sealed_line_of
     so_line journal each = so_from journal [] None journal refl each tt
 
@@ -104,17 +103,17 @@ module _ (number : ℕ) (side : Side) where
       by true = is
       by false = in_clear empty_pdu
 
-  pub carries_payload : (journal : List Entry) → IsPayload (carried_of number journal side) (payload_carried number journal side)
+  pub carries_payload : (journal : List Entry) → IsPayload (carried_of number journal side) (payload_carried words number journal side)
   carries_payload journal =
       let acked = (exchange_of number journal side).acked in
-      subst (λ line. IsPayload (pdu_carried line acked) (payload_carried number journal side)) (forgets journal)
-      (carried_by acked (sealed_line_of number journal side)
-      (so_line (λ one. IsPayload one.pdu one.payload) journal (λ one rest pdu at. by_is (keyed_on side number one) pdu)))
+      subst (λ line. IsPayload (pdu_carried line acked) (payload_carried words number journal side)) (forgets journal)
+      (carried_by acked (sealed_line_of words number journal side)
+      (so_line (λ one. IsPayload one.pdu one.payload) journal (λ one rest pdu at. by_is (keyed_on words side number one) pdu)))
 
-  pub line_payload : (journal : List Entry) (one : SealedLine) → sealed_line_of number journal side ≡ Some one → IsPayload one.pdu one.payload
+  pub line_payload : (journal : List Entry) (one : SealedLine) → sealed_line_of words number journal side ≡ Some one → IsPayload one.pdu one.payload
   line_payload journal one is =
       subst (IsSo (λ line. IsPayload line.pdu line.payload)) is
-      (so_line (λ line. IsPayload line.pdu line.payload) journal (λ front rest pdu at. by_is (keyed_on side number front) pdu))
+      (so_line (λ line. IsPayload line.pdu line.payload) journal (λ front rest pdu at. by_is (keyed_on words side number front) pdu))
 
   -- ---- where the end never seals, it is the body
 
@@ -141,53 +140,45 @@ module _ (number : ℕ) (side : Side) where
       by true = is
       by false = refl
 
-  bodies : (journal : List Entry) → NeverSeals number journal side → IsSo (λ one. one.payload ≡ one.pdu.body) (sealed_line_of number journal side)
+  bodies : (journal : List Entry) → NeverSeals words number journal side → IsSo (λ one. one.payload ≡ one.pdu.body) (sealed_line_of words number journal side)
   bodies journal never =
-      so_line (λ one. one.payload ≡ one.pdu.body) journal (λ one rest pdu at. found_clear (keyed_on side number one) pdu (λ k is. never one rest k at is))
+      so_line (λ one. one.payload ≡ one.pdu.body) journal (λ one rest pdu at. found_clear (keyed_on words side number one) pdu (λ k is. never one rest k at is))
 
-  pub carries_body : (journal : List Entry) → NeverSeals number journal side → payload_carried number journal side ≡ (carried_of number journal side).body
+  pub carries_body : (journal : List Entry) → NeverSeals words number journal side → payload_carried words number journal side ≡ (carried_of number journal side).body
   carries_body journal never =
       let acked = (exchange_of number journal side).acked in
-      body_by acked (sealed_line_of number journal side) (bodies journal never)
+      body_by acked (sealed_line_of words number journal side) (bodies journal never)
       ∙ ap (λ line. (pdu_carried line acked).body) (forgets journal)
-
-  unsealed_by : (acked : ℕ) (line : Option SealedLine) → IsSo (λ one. one.payload ≡ one.pdu.body) line → is_sealed_line line acked ≡ false
-  unsealed_by acked None is = refl
-  unsealed_by acked (Some line) is =
-      ap (λ b. line.acked == acked && not b) (eq-eqb (length line.payload) (length line.pdu.body) (ap length is)) ∙ and-false (line.acked == acked)
-
-  pub none_sealed : (journal : List Entry) (acked : ℕ) → NeverSeals number journal side → is_sealed_line (sealed_line_of number journal side) acked ≡ false
-  none_sealed journal acked never = unsealed_by acked (sealed_line_of number journal side) (bodies journal never)
 
   -- ---- it is the same until a PDU is acknowledged, or a new one is sent
 
   from_more : (front : List Entry) (before : Option SealedLine) (entries : List Entry) (entry : Entry)
-      → sealed_line_from number front side before (entries ++ entry ∷ []) ≡ sealed_line_after number (front ++ entries) side (sealed_line_from number front side before entries) entry
-  from_more front before [] entry = ap (λ xs. sealed_line_after number xs side before entry) (sym (append-nil front))
+      → sealed_line_from words number front side before (entries ++ entry ∷ []) ≡ sealed_line_after words number (front ++ entries) side (sealed_line_from words number front side before entries) entry
+  from_more front before [] entry = ap (λ xs. sealed_line_after words number xs side before entry) (sym (append-nil front))
   from_more front before (first ∷ entries) entry =
-      let next = sealed_line_after number front side before first in
+      let next = sealed_line_after words number front side before first in
       from_more (front ++ first ∷ []) next entries entry
-      ∙ ap (λ xs. sealed_line_after number xs side (sealed_line_from number (front ++ first ∷ []) side next entries) entry) (append_assoc front (first ∷ []) entries)
+      ∙ ap (λ xs. sealed_line_after words number xs side (sealed_line_from words number (front ++ first ∷ []) side next entries) entry) (append_assoc front (first ∷ []) entries)
 
   pub line_more : (journal : List Entry) (entry : Entry)
-      → sealed_line_of number (journal ++ entry ∷ []) side ≡ sealed_line_after number journal side (sealed_line_of number journal side) entry
+      → sealed_line_of words number (journal ++ entry ∷ []) side ≡ sealed_line_after words number journal side (sealed_line_of words number journal side) entry
   unfolding sealed_line_of
   line_more journal entry = from_more [] None journal entry
 
   -- no entry of these says that a new PDU is sent
-  pub same_line : (front more : List Entry) → NoneSent number side more → sealed_line_of number (front ++ more) side ≡ sealed_line_of number front side
-  same_line front [] none = ap (λ xs. sealed_line_of number xs side) (append-nil front)
+  pub same_line : (front more : List Entry) → NoneSent number side more → sealed_line_of words number (front ++ more) side ≡ sealed_line_of words number front side
+  same_line front [] none = ap (λ xs. sealed_line_of words number xs side) (append-nil front)
   same_line front (entry ∷ more) none =
-      ap (λ xs. sealed_line_of number xs side) (sym (append_assoc front (entry ∷ []) more))
+      ap (λ xs. sealed_line_of words number xs side) (sym (append_assoc front (entry ∷ []) more))
       ∙ same_line (front ++ entry ∷ []) more none.1
-      ∙ line_more front entry ∙ after_same front (sealed_line_of number front side) entry none.0
+      ∙ line_more front entry ∙ after_same front (sealed_line_of words number front side) entry none.0
 
   pub same_payload : (front more : List Entry) → NoneSent number side more
       → (exchange_of number (front ++ more) side).acked ≡ (exchange_of number front side).acked
-      → payload_carried number (front ++ more) side ≡ payload_carried number front side
+      → payload_carried words number (front ++ more) side ≡ payload_carried words number front side
   same_payload front more none acked =
       ap (λ line. payload_of_line line (exchange_of number (front ++ more) side).acked) (same_line front more none)
-      ∙ ap (payload_of_line (sealed_line_of number front side)) acked
+      ∙ ap (payload_of_line (sealed_line_of words number front side)) acked
 
 -- a packet of a side acknowledges none of its own PDUs
 own_packet : (side : Side) (good empty : Bool) (ends : Side → Exchanged) → (after_packet side good empty ends side).acked ≡ (ends side).acked
@@ -203,30 +194,30 @@ own_air number front side channel octets fate verdict ends =
     by true good empty = own_packet side good empty ends
     by false good empty = refl
 
-pub packet_again : (number : ℕ) (front : List Entry) (side : Side) (channel : ℕ) (octets : List ℕ) (fate : Mark) (verdict : Verdict)
-    → payload_carried number (front ++ Air side channel octets fate verdict ∷ []) side ≡ payload_carried number front side
-packet_again number front side channel octets fate verdict =
+pub packet_again : (words : Words) (number : ℕ) (front : List Entry) (side : Side) (channel : ℕ) (octets : List ℕ) (fate : Mark) (verdict : Verdict)
+    → payload_carried words number (front ++ Air side channel octets fate verdict ∷ []) side ≡ payload_carried words number front side
+packet_again words number front side channel octets fate verdict =
     let entry = Air side channel octets fate verdict in
-    same_payload number side front (entry ∷ []) (refl, tt)
+    same_payload words number side front (entry ∷ []) (refl, tt)
     (ap (λ (ends : Side → Exchanged). (ends side).acked) (exchange_more number front entry)
     ∙ own_air number front side channel octets fate verdict (exchange_of number front))
 
 -- so two packets have one payload, where no PDU was acknowledged between them and no new one was sent
-pub one_payload : (front more : List Entry) (side : Side) (channel channel_too : ℕ) (octets octets_too : List ℕ) (fate : Mark) (verdict : Verdict)
-    → (p : HasPayload front side channel octets) (q : HasPayload (front ++ Air side channel octets fate verdict ∷ more) side channel_too octets_too)
+pub one_payload : (words : Words) (front more : List Entry) (side : Side) (channel channel_too : ℕ) (octets octets_too : List ℕ) (fate : Mark) (verdict : Verdict)
+    → (p : HasPayload words front side channel octets) (q : HasPayload words (front ++ Air side channel octets fate verdict ∷ more) side channel_too octets_too)
     → q.packet.number ≡ p.packet.number → NoneSent p.packet.number side more
     → (exchange_of p.packet.number (front ++ Air side channel octets fate verdict ∷ more) side).acked ≡ (exchange_of p.packet.number front side).acked
     → q.packet.payload ≡ p.packet.payload
-one_payload front more side channel channel_too octets octets_too fate verdict p q same none acked =
+one_payload words front more side channel channel_too octets octets_too fate verdict p q same none acked =
     let entry = Air side channel octets fate verdict in
-    q.payload_is ∙ ap (λ n. payload_carried n (front ++ entry ∷ more) side) same
-    ∙ same_payload p.packet.number side front (entry ∷ more) (refl, none) acked ∙ sym p.payload_is
+    q.payload_is ∙ ap (λ n. payload_carried words n (front ++ entry ∷ more) side) same
+    ∙ same_payload words p.packet.number side front (entry ∷ more) (refl, none) acked ∙ sym p.payload_is
 
-pub sent_again : (front more : List Entry) (side : Side) (channel channel_too : ℕ) (octets octets_too : List ℕ) (fate : Mark) (verdict : Verdict)
-    → HasPayload front side channel octets → HasPayload (front ++ Air side channel octets fate verdict ∷ more) side channel_too octets_too
-    → IsSentAgain front more side channel channel_too octets octets_too fate verdict
-sent_again front more side channel channel_too octets octets_too fate verdict first again = record {
+pub sent_again : (words : Words) (front more : List Entry) (side : Side) (channel channel_too : ℕ) (octets octets_too : List ℕ) (fate : Mark) (verdict : Verdict)
+    → HasPayload words front side channel octets → HasPayload words (front ++ Air side channel octets fate verdict ∷ more) side channel_too octets_too
+    → IsSentAgain words front more side channel channel_too octets octets_too fate verdict
+sent_again words front more side channel channel_too octets octets_too fate verdict first again = record {
   first = first;
   again = again;
-  same = one_payload front more side channel channel_too octets octets_too fate verdict first again;
+  same = one_payload words front more side channel channel_too octets octets_too fate verdict first again;
 }

@@ -2,8 +2,7 @@
 pub mod SealedLines
 pub mod NewPdus
 pub mod Forged
-pub mod Left
 pub mod Mixed
-pub mod ClearPackets
+pub mod Sessions
 pub mod Judged
 pub mod Rows

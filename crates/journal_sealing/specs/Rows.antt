@@ -1,20 +1,18 @@
 -- Ends and PDUs of worked examples.
-use Rattle.std.specs.Prelude.{ℕ, List, [], ◌∷◌, ◌++◌, Some}
+use Rattle.std.specs.Prelude.{ℕ, List, [], ◌∷◌, ◌++◌}
 use Rattle.ble_base.specs.declared.roles.Role.{Role}
-use Rattle.ble_base.specs.declared.roles.Role.TheVariants.{Central}
 use Rattle.ble_base.specs.declared.roles.Side.TheVariants.{B}
 use Rattle.ble_base.specs.declared.verdicts.Verdict.TheVariants.{Missed}
 use Rattle.journal.specs.declared.entries.Entry.{Entry}
 use Rattle.journal.specs.declared.entries.Entry.TheVariants.{Air}
 use Rattle.journal.specs.declared.entries.Mark.TheVariants.{Lost as WasLost}
-use Rattle.journal_controls.specs.Rows.{begun_on, one_octet}
+use Rattle.journal_controls.specs.Rows.{begun_on}
 use Rattle.journal_controls.specs.journal_acks.Exchange.{Exchanged}
 use Rattle.journal_controls.specs.journal_acks.Rows.{data_packet, data_sent}
 use Rattle.journal_controls.specs.link_model.Acknowledgement.{Pdu}
 use Rattle.journal_controls.specs.link_model.enc_phase.Sealing.{EncEnd, end_with}
 use Rattle.journal_controls.specs.link_model.enc_phase.declared.facts.PhaseFacts.TheVariants.{HalfKeyed, Secure}
 use Rattle.journal_controls.specs.link_model.keyed_control.Keyed.{Keyed}
-use Rattle.journal_sealing.specs.SealedLines.{SealedLine, payload_by}
 
 -- LL_START_ENC_REQ and LL_START_ENC_RSP (sections 2.4.2.6 and 2.4.2.7)
 abbrev pub start_enc_req : Pdu
@@ -53,13 +51,6 @@ data_lost = data_sent ++ Air B 25 data_packet WasLost Missed ∷ []
 abbrev pub secured_as : Role → ℕ → Keyed
 secured_as role octet = record (begun_on role) { end = end_with role Secure (octet ∷ []) [] 0 0 }
 
--- the line of a PDU of one octet, as a central sealed it or sent it in clear
-abbrev pub sealed_octet : SealedLine
-sealed_octet = record { pdu = one_octet; acked = 1; payload = payload_by (Some (secured_as Central 1)) one_octet }
-
-abbrev pub clear_octet : SealedLine
-clear_octet = record { pdu = one_octet; acked = 1; payload = one_octet.body }
-
--- the octets of that PDU with SN 1, NESN 1 and MD 0, and a payload of five octets
+-- the octets of a PDU of one octet that is sealed, with SN 1, NESN 1 and MD 0, and a payload of five octets
 abbrev pub sealed_octets : List ℕ
 sealed_octets = 0x0E ∷ 0x05 ∷ 0x00 ∷ 0x00 ∷ 0x00 ∷ 0x00 ∷ 0x00 ∷ []

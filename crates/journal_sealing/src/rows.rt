@@ -4,13 +4,14 @@ ghost use Rattle.ble_base.specs.declared.roles.Role.TheVariants.{Central, Periph
 ghost use Rattle.ble_base.specs.declared.roles.Side.TheVariants.{A, B};
 ghost use Rattle.journal_controls.specs.Rows.{begun_on, one_octet, secured};
 ghost use Rattle.journal_controls.specs.journal_acks.Rows.{data_acknowledged, data_sent};
+ghost use Rattle.journal_controls.specs.journal_ends.Asked.{Words};
 ghost use Rattle.journal_controls.specs.link_model.Acknowledgement.{empty_pdu};
 ghost use Rattle.journal_controls.specs.link_model.Payload.{payload_made};
 ghost use Rattle.journal_controls.specs.link_model.enc_phase.Sealing.{after_sending};
 ghost use Rattle.journal_sealing.specs.Forged.{counts_by, is_wrong};
 ghost use Rattle.journal_sealing.specs.Mixed.{mixes};
-ghost use Rattle.journal_sealing.specs.Rows.{clear_octet, sealed_octet, sealed_octets, secured_as};
 ghost use Rattle.journal_sealing.specs.Rows.{begun, data_lost, empty_octets, one_each};
+ghost use Rattle.journal_sealing.specs.Rows.{sealed_octets, secured_as};
 ghost use Rattle.journal_sealing.specs.Rows.{start_enc_req, start_enc_rsp};
 ghost use Rattle.journal_sealing.specs.Rows.{start_enc_rsp_octets, starting, two_taken};
 ghost use Rattle.journal_sealing.specs.SealedLines.{payload_by, payload_carried, payload_of_line};
@@ -18,10 +19,10 @@ ghost use Rattle.journal_sealing.specs.SealedLines.{payload_by, payload_carried,
 /// On a link in clear the payload of a PDU of data is its body, also where its first packet was lost,
 /// until it is acknowledged. That of an end that sent nothing is empty.
 pub fn worked_payloads()
-    ensures first { payload_carried 1 data_sent B ≡ 0xAA ∷ [] }
-    ensures again { payload_carried 1 data_lost B ≡ 0xAA ∷ [] }
-    ensures acknowledged { payload_carried 1 data_acknowledged B ≡ [] }
-    ensures other { payload_carried 1 data_sent A ≡ [] }
+    ensures first { (words : Words) → payload_carried words 1 data_sent B ≡ 0xAA ∷ [] }
+    ensures again { (words : Words) → payload_carried words 1 data_lost B ≡ 0xAA ∷ [] }
+    ensures acknowledged { (words : Words) → payload_carried words 1 data_acknowledged B ≡ [] }
+    ensures other { (words : Words) → payload_carried words 1 data_sent A ≡ [] }
 {}
 
 /// LL_START_ENC_REQ goes in clear, and LL_START_ENC_RSP of the central does not: it is sealed, so it
@@ -54,25 +55,21 @@ pub fn worked_forgeries()
 {}
 
 /// A sealed PDU of a central that a peripheral with another session key judges good mixes keys. It does
-/// not between two ends with one key, nor does one in clear, one that is acknowledged, one that the
-/// peripheral accepted before, or one that comes after the peripheral shut the link.
+/// not between two ends with one key, for an end that opens nothing, for one that accepted it before,
+/// or where it comes after the peripheral shut the link.
 pub fn worked_mixtures()
-    ensures two_keys { mixes (Some sealed_octet) 1 (counts_by one_each sealed_octets)
-        (Some (secured_as Central 1)) (Some (secured_as Peripheral 2))
+    ensures two_keys { mixes (counts_by one_each sealed_octets) (Some (secured_as Central 1))
+        (Some (secured_as Peripheral 2))
         ≡ true }
-    ensures one_key { mixes (Some sealed_octet) 1 (counts_by one_each sealed_octets)
-        (Some (secured_as Central 1)) (Some (secured_as Peripheral 1))
+    ensures one_key { mixes (counts_by one_each sealed_octets) (Some (secured_as Central 1))
+        (Some (secured_as Peripheral 1))
         ≡ false }
-    ensures in_clear { mixes (Some clear_octet) 1 (counts_by one_each sealed_octets)
-        (Some (secured_as Central 1)) (Some (secured_as Peripheral 2))
+    ensures in_clear { mixes (counts_by one_each sealed_octets) (Some (secured_as Central 1))
+        (Some (begun_on Peripheral))
         ≡ false }
-    ensures acknowledged { mixes (Some sealed_octet) 2 (counts_by one_each sealed_octets)
-        (Some (secured_as Central 1)) (Some (secured_as Peripheral 2))
+    ensures again { mixes (counts_by two_taken sealed_octets) (Some (secured_as Central 1))
+        (Some (secured_as Peripheral 2))
         ≡ false }
-    ensures again { mixes (Some sealed_octet) 1 (counts_by two_taken sealed_octets)
-        (Some (secured_as Central 1)) (Some (secured_as Peripheral 2))
-        ≡ false }
-    ensures shut { mixes (Some sealed_octet) 1 (counts_by one_each sealed_octets)
-        (Some (secured_as Central 1)) None
+    ensures shut { mixes (counts_by one_each sealed_octets) (Some (secured_as Central 1)) None
         ≡ false }
 {}

@@ -30,14 +30,16 @@ use Rattle.journal_sending.specs.Resting.{AllAreAtRest, IsAtRest}
 use Rattle.journal_sending.proofs.TakenInRuns.{IsTakenAt, taken_first, taken_kept}
 use Rattle.journal_sending.proofs.Told.{off_told}
 use Rattle.journal_sending.proofs.ToldInRuns.{IsToldAt, told_first, told_kept}
+use Rattle.journal_fixing.specs.journal_controls.journal_ends.Asked.{Words}
+use Rattle.journal_fixing.specs.journal_controls.journal_ends.GivenWords.{GivesWords}
 
 -- each side is that of a station
 by_side : (given : Given) → IsOfTwo given → (T : Side → Type 0) → ((station : ℕ) → is_in station given.stations ≡ true → T (side_of station)) → (side : Side) → T side
 by_side given are_two T all A = all 0 (ap (is_in 0) are_two)
 by_side given are_two T all B = all 1 (ap (is_in 1) are_two)
 
-module _ (whole : IsHeardWhole) (understood : IsUnderstood) (taken : AreTaken) (nth : AreNth) (apart : AreApart) (given : Given) (are_two : IsOfTwo given) (few_links : HaveFewLinks given)
-    (six : HaveAddresses given) (distinct : AreDistinct given.stations) (eight : (station : ℕ) → (setup_at given station).host_buffers ≡ 8)
+module _ (words : Words) (whole : IsHeardWhole) (understood : IsUnderstood) (taken : AreTaken) (nth : AreNth) (apart : AreApart) (given : Given) (are_two : IsOfTwo given) (few_links : HaveFewLinks given)
+    (six : HaveAddresses given) (gives : GivesWords given words) (distinct : AreDistinct given.stations) (eight : (station : ℕ) → (setup_at given station).host_buffers ≡ 8)
     (some : (station : ℕ) → 0 < (setup_at given station).air_buffers) where
   abbrev Q : Place → List Event → Type 0
   Q place history = IsBelongingSoFar given place history
@@ -62,33 +64,33 @@ module _ (whole : IsHeardWhole) (understood : IsUnderstood) (taken : AreTaken) (
   -- ---- none is to be taken
 
   abbrev NonePending : List Event → Type 0
-  NonePending history = (side : Side) → pending_pdu side (journal_of history) ≡ None
+  NonePending history = (side : Side) → pending_pdu words side (journal_of history) ≡ None
 
-  sees_none_pending : IsSeen given (IsTakenAt given) NonePending (λ history station channel octets. Unit {0})
+  sees_none_pending : IsSeen given (IsTakenAt words given) NonePending (λ history station channel octets. Unit {0})
   sees_none_pending = record {
-    turn = λ history is. by_side given are_two (λ side. pending_pdu side (journal_of history) ≡ None) is.pending_pdu;
+    turn = λ history is. by_side given are_two (λ side. pending_pdu words side (journal_of history) ≡ None) is.pending_pdu;
     packet = λ phases done left station channel octets history are wanted is. tt;
   }
 
-  keeps_taken : IsKept given (IsTakenAt given)
-  keeps_taken = taken_kept whole understood taken nth apart given are_two few_links six distinct eight some
+  keeps_taken : IsKept given (IsTakenAt words given)
+  keeps_taken = taken_kept words whole understood taken nth apart given are_two few_links six gives distinct eight some
 
   -- ---- in a run
 
-  pub resting_lines : AllAreAtRest (journal_of (history_of (run_of given)))
+  pub resting_lines : AllAreAtRest words (journal_of (history_of (run_of given)))
   resting_lines = λ front rest slot a_on b_on is.
       let one = is_of_event (history_of (run_of given)) front rest (Turn slot a_on b_on) is in
       let turn = turn_of_line (links_of one.before) one.event slot a_on b_on one.entry_is in
       let at = one.is_at ∙ ap (λ event. one.before ++ event ∷ one.after) turn.is in
-      subst IsAtRest (sym one.front_is) (λ side. (
+      subst (IsAtRest words) (sym one.front_is) (λ side. (
         seen_turn given (IsToldAt given Q) keeps_told NoneAnnounced (λ history station channel octets. Unit {0}) sees_none_announced (told_first given)
             one.before one.after turn.slot turn.radios at side,
-        seen_turn given (IsTakenAt given) keeps_taken NonePending (λ history station channel octets. Unit {0}) sees_none_pending (taken_first given)
+        seen_turn given (IsTakenAt words given) keeps_taken NonePending (λ history station channel octets. Unit {0}) sees_none_pending (taken_first words given)
             one.before one.after turn.slot turn.radios at side,
       ))
 
-  pub resting_last : (history : List Event) → run_of given ≡ GoesOn history → IsAtRest (journal_of history)
+  pub resting_last : (history : List Event) → run_of given ≡ GoesOn history → IsAtRest words (journal_of history)
   resting_last history goes = λ side. (
     seen_last given (IsToldAt given Q) keeps_told NoneAnnounced (λ history station channel octets. Unit {0}) sees_none_announced (told_first given) history goes side,
-    seen_last given (IsTakenAt given) keeps_taken NonePending (λ history station channel octets. Unit {0}) sees_none_pending (taken_first given) history goes side,
+    seen_last given (IsTakenAt words given) keeps_taken NonePending (λ history station channel octets. Unit {0}) sees_none_pending (taken_first words given) history goes side,
   )

@@ -61,6 +61,8 @@ use Rattle.journal_fixing.specs.NextPdu.{pdu_next}
 use Rattle.journal_fixing.specs.OnLines.{control_fixing, control_going}
 use Rattle.journal_fixing.specs.PastFixing.{facts_fixing, past_fixing}
 use Rattle.journal_fixing.specs.journal_controls.TurnSteps.{first_if, steps_begun}
+use Rattle.journal_fixing.specs.journal_controls.journal_ends.Asked.{Words}
+use Rattle.journal_fixing.specs.journal_controls.journal_ends.GivenWords.{GivesWords}
 use Rattle.journal_fixing.specs.link_model.keyed_control.Keyed.{Keyed}
 use Rattle.journal_fixing.proofs.AnsweredLines.{fixing_in_answer, pdu_in_answer}
 use Rattle.journal_fixing.proofs.journal_controls.Replies.{IsReply}
@@ -107,8 +109,8 @@ same_lines number before now held submitted sent is = record {
   sent = ap (pdus_on number) sent ∙ is.sent;
 }
 
-module _ (heard_whole : IsHeardWhole) (understood : IsUnderstood) (taken : AreTaken) (nth : AreNth) (apart : AreApart) (given : Given) (are_two : IsOfTwo given)
-    (few_links : HaveFewLinks given) (six : HaveAddresses given) (distinct : AreDistinct given.stations) (eight : (station : ℕ) → (setup_at given station).host_buffers ≡ 8)
+module _ (words : Words) (heard_whole : IsHeardWhole) (understood : IsUnderstood) (taken : AreTaken) (nth : AreNth) (apart : AreApart) (given : Given) (are_two : IsOfTwo given)
+    (few_links : HaveFewLinks given) (six : HaveAddresses given) (gives : GivesWords given words) (distinct : AreDistinct given.stations) (eight : (station : ℕ) → (setup_at given station).host_buffers ≡ 8)
     (station : ℕ) (history rest : List Event) (earlier later : List Note) (handle count llid : ℕ) (body : List ℕ) (in_it : is_in station given.stations ≡ true)
     (well : IsWell given station history) where
   abbrev facts : Facts
@@ -124,7 +126,7 @@ module _ (heard_whole : IsHeardWhole) (understood : IsUnderstood) (taken : AreTa
   CalledAt step = IsCalledAt given station history rest earlier later handle count llid body step
 
   abbrev NextAt : Step → Type 0
-  NextAt step = IsNextPdu (number_at station handle (now step)) (journal_of (now step)) (side_of station) count pdu
+  NextAt step = IsNextPdu words (number_at station handle (now step)) (journal_of (now step)) (side_of station) count pdu
 
   -- by what the end held as it fixed the PDU
   lines_now : (step : Step) → CalledAt step → (old : OpenLink) → link_at handle facts.links ≡ Some old → (held : EndFacts) → HasSameData (facts_in old) held
@@ -136,8 +138,8 @@ module _ (heard_whole : IsHeardWhole) (understood : IsUnderstood) (taken : AreTa
       (lines_by (number_at station handle history) (lines_at station history) (facts_in old) held (data_waiting handle facts.received) booked same))
 
   next_by : (step : Step) (setup : EndSetup) (past : List EndStep) → let held = end_facts setup past in IsOnLines (number_at station handle (now step)) (lines_at station (now step)) held
-      → control_fixing (side_of station) (number_at station handle (now step)) (journal_of (now step)) ≡ Some (keyed_of held)
-      → (going : Keyed) → control_going (side_of station) (number_at station handle (now step)) (journal_of (now step)) ≡ Some going
+      → control_fixing words (side_of station) (number_at station handle (now step)) (journal_of (now step)) ≡ Some (keyed_of held)
+      → (going : Keyed) → control_going words (side_of station) (number_at station handle (now step)) (journal_of (now step)) ≡ Some going
       → pdu ≡ pdu_next (keyed_of held) going (next_piece (data_cut held)) → count ≡ numbered held.acknowledgement.sent + 1 → NextAt step
   next_by step setup past lines fixing_is going going_is is numbered_is =
       let held = end_facts setup past in
@@ -171,10 +173,10 @@ module _ (heard_whole : IsHeardWhole) (understood : IsUnderstood) (taken : AreTa
       let is_open = ap (λ (f : Facts). link_at handle f.links) facts_now ∙ at_then in
       let after = map (Noted station) earlier ++ rest in
       let fixing_is =
-      fixing_in_begin heard_whole understood taken nth apart given are_two six history after station slot on handle count llid body earlier later link in_it called.at called.notes_are is_open in
-      let going_is = going_in_begin heard_whole understood taken nth apart given are_two six history after station slot on handle count llid body earlier later link in_it called.at called.notes_are is_open in
+      fixing_in_begin words heard_whole understood taken nth apart given are_two six gives history after station slot on handle count llid body earlier later link in_it called.at called.notes_are is_open in
+      let going_is = going_in_begin words heard_whole understood taken nth apart given are_two six gives history after station slot on handle count llid body earlier later link in_it called.at called.notes_are is_open in
       next_by step link.setup (past_fixing link.past) (lines_now step called old was held of_old) fixing_is (keyed_of held) going_is
-      (pdu_in_begin heard_whole understood taken nth apart given are_two six history after station slot on handle count llid body earlier later link in_it called.at called.notes_are is_open
+      (pdu_in_begin words heard_whole understood taken nth apart given are_two six gives history after station slot on handle count llid body earlier later link in_it called.at called.notes_are is_open
       (keyed_of held) (keyed_of held) fixing_is going_is)
       (numbered_is ∙ ap (λ (pdus : List Pdu). numbered pdus + 1) of_old.sent)
 
@@ -186,12 +188,12 @@ module _ (heard_whole : IsHeardWhole) (understood : IsUnderstood) (taken : AreTa
       let held = facts_fixing link.setup link.past in
       let since = (since_in given history (Called station step ∷ (map (Noted station) earlier ++ rest)) station handle link distinct in_it called.at is_open).listens on reply.role in
       let same = subst (λ f. HasSameData f held) (sym since.1) (same_fixed link) in
-      let fixing_is = fixing_in_answer heard_whole understood taken nth apart given are_two six history rest octets station handle count llid body earlier later link in_it called.at called.notes_are is_open in
+      let fixing_is = fixing_in_answer words heard_whole understood taken nth apart given are_two six gives history rest octets station handle count llid body earlier later link in_it called.at called.notes_are is_open in
       let going = control_acking (facts_in link) reply.pdu in
-      let going_is = ap (λ n. control_going (side_of station) n (journal_of (now step))) called.number
-      ∙ going_in_call heard_whole understood taken nth apart given are_two six history rest octets reply.pdu earlier station handle link in_it called.at is_open on reply.good in
+      let going_is = ap (λ n. control_going words (side_of station) n (journal_of (now step))) called.number
+      ∙ going_in_call words heard_whole understood taken nth apart given are_two six gives history rest octets reply.pdu earlier station handle link in_it called.at is_open on reply.good in
       next_by step link.setup (past_fixing link.past) (lines_now step called link is_open held same) fixing_is going going_is
-      (pdu_in_answer heard_whole understood taken nth apart given are_two six history rest octets station handle count llid body earlier later link in_it called.at called.notes_are is_open
+      (pdu_in_answer words heard_whole understood taken nth apart given are_two six gives history rest octets station handle count llid body earlier later link in_it called.at called.notes_are is_open
       (keyed_of held) going fixing_is going_is)
       (numbered_is ∙ ap (λ (pdus : List Pdu). numbered pdus + 1) same.sent)
 
@@ -261,9 +263,9 @@ sending_leaves lines side link_of last (SentNote handle number llid body) none =
 sending_leaves lines side link_of last (UpNote packet) none = refl
 sending_leaves lines side link_of last note none = refl
 
-pub next_of_lines : IsHeardWhole → IsUnderstood → AreTaken → AreNth → AreApart → (given : Given) → IsOfTwo given → HaveFewLinks given → HaveAddresses given
-    → ((station : ℕ) → (setup_at given station).host_buffers ≡ 8) → AllNewPdusAreNext (journal_of (history_of (run_of given)))
-next_of_lines whole understood taken nth apart given are_two few_links six eight front rest side link count llid body is =
+pub next_of_lines : (words : Words) → IsHeardWhole → IsUnderstood → AreTaken → AreNth → AreApart → (given : Given) → IsOfTwo given → HaveFewLinks given → HaveAddresses given → GivesWords given words
+    → ((station : ℕ) → (setup_at given station).host_buffers ≡ 8) → AllNewPdusAreNext words (journal_of (history_of (run_of given)))
+next_of_lines words whole understood taken nth apart given are_two few_links six gives eight front rest side link count llid body is =
     let Q = IsBelongingSoFar given in
     let distinct = are_distinct given are_two in
     let known = known_of understood taken nth apart given are_two six in
@@ -277,7 +279,7 @@ next_of_lines whole understood taken nth apart given are_two few_links six eight
     let next : IsNextCall given base station step =
     each_at (OfCall given (IsNextCall given)) (history_of (run_of given)) base call.after (Called station step)
     (run_calls given (IsNextCall given) (IsDataAt given Q) (data_kept whole given Q known are_two few_links six distinct eight)
-    (have_next whole given Q known are_two six distinct) (first_data given).is)
+    (have_next whole given Q known are_two six distinct) (first_data given))
     call.called in
     let pdu : Pdu = record { llid = llid; body = body } in
     let notes = notes_after (setup_at given station) (facts_at given station base) step in
@@ -291,7 +293,7 @@ next_of_lines whole understood taken nth apart given are_two few_links six eight
       submitted = call_submits station step earlier base;
       sent = call_leaves (λ note. is_sending note ≡ false) (λ lines. lines.sent) sending_leaves station step earlier base found.none;
     } in
-    to_line given front line call (λ number entries one. IsNextPdu number entries one count pdu)
-    (subst (λ xs. IsNextPdu (number_at station handle xs) (journal_of xs) (side_of station) count pdu) (sym call.before_is)
-    (next_in whole understood taken nth apart given are_two few_links six distinct eight station base after earlier call.later handle count llid body found.is.in_it found.is.well
+    to_line given front line call (λ number entries one. IsNextPdu words number entries one count pdu)
+    (subst (λ xs. IsNextPdu words (number_at station handle xs) (journal_of xs) (side_of station) count pdu) (sym call.before_is)
+    (next_in words whole understood taken nth apart given are_two few_links six gives distinct eight station base after earlier call.later handle count llid body found.is.in_it found.is.well
     step called found.is.sent))

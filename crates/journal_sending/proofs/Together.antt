@@ -20,7 +20,7 @@ pub record IsKnownAt (given : Given) (Q : Place → List Event → Type 0) (plac
   pub lined : AreLinedAt given Q place history
 
 pub known_first : (given : Given) → IsKnownAt given (IsBelongingSoFar given) NoTurn []
-known_first given = record { data_is = (first_data given).is; lined = lines_first given }
+known_first given = record { data_is = first_data given; lined = lines_first given }
 
 module _ (whole : IsHeardWhole) (given : Given) (Q : Place → List Event → Type 0) (known : AreKnown given Q) (are_two : IsOfTwo given) (few_links : HaveFewLinks given)
     (six : HaveAddresses given) (distinct : AreDistinct given.stations) (eight : (station : ℕ) → (setup_at given station).host_buffers ≡ 8) where

@@ -51,9 +51,10 @@ use Rattle.journal_leaving.proofs.run_model.Stations.{among, is_in}
 use Rattle.journal_leaving.proofs.run_model.Walk.{Place, AtPackets, IsKept, IsStopped, IsWhole, ends_with, run_kept}
 use Rattle.journal_fixing.specs.NextPdu.{data_waits, data_waits_after, more_with_new, more_with_old}
 use Rattle.journal_fixing.specs.OnLines.{control_fixing}
-use Rattle.journal_leaving.proofs.link_model.Plain.{past_payload}
 use Rattle.journal_fixing.specs.PastFixing.{facts_fixing, past_fixing}
 use Rattle.journal_fixing.specs.journal_controls.LineSteps.{keyed_on}
+use Rattle.journal_fixing.specs.journal_controls.journal_ends.Asked.{Words}
+use Rattle.journal_fixing.specs.journal_controls.journal_ends.GivenWords.{GivesWords}
 use Rattle.journal_fixing.proofs.FixedPasts.{fixing_stays}
 use Rattle.journal_fixing.proofs.FixingLinks.{sends_uses}
 use Rattle.journal_fixing.proofs.RoomForPieces.{room_for_piece}
@@ -114,8 +115,8 @@ module _ (whole : IsHeardWhole) (given : Given) (Q : Place → List Event → Ty
 empty_data : (pdu : Pdu) → is_empty pdu ≡ true → data_in pdu ≡ []
 empty_data pdu empty = sym (append-nil (data_in pdu)) ∙ sym (data_nonempty (pdu ∷ [])) ∙ ap (λ b. data_of (cond (not b) (pdu ∷ []) [])) empty
 
-module _ (given : Given) (are_two : IsOfTwo given) (before rest : List Event) (station channel : ℕ) (octets : List ℕ) (at : history_of (run_of given) ≡ before ++ rest)
-    (fixes : AreFixing given before) (controls : AreControlled given before) (seen : IsOfLines given before station channel octets) where
+module _ (words : Words) (given : Given) (are_two : IsOfTwo given) (before rest : List Event) (station channel : ℕ) (octets : List ℕ) (at : history_of (run_of given) ≡ before ++ rest)
+    (fixes : AreFixing words given before) (controls : AreControlled words given before) (seen : IsOfLines given before station channel octets) where
   abbrev sending : IsOfSendersLink given before station channel octets
   sending = seen.sending
 
@@ -158,12 +159,12 @@ module _ (given : Given) (are_two : IsOfTwo given) (before rest : List Event) (s
       subst (λ (f : EndFacts). 1 ≤ (data_cut f).limit) held_is
       (room_for_piece link (ranges_in given before rest station sending.handle link (are_distinct given are_two) seen.in_it at sending.is_open))
 
-  fixing_is : control_fixing side number front ≡ Some (keyed_of held)
+  fixing_is : control_fixing words side number front ≡ Some (keyed_of held)
   fixing_is =
       fixes station seen.in_it sending.handle link sending.is_open (sends_uses sending.handle (facts_at given station before).turn.doing seen.on)
       ∙ ap (λ (f : EndFacts). Some (keyed_of f)) held_is
 
-  now_is : keyed_on side number front ≡ Some (keyed_of (facts_in link))
+  now_is : keyed_on words side number front ≡ Some (keyed_of (facts_in link))
   now_is = controls station seen.in_it sending.handle link sending.is_open
 
   -- what waits after a new PDU, and after one that is sent again
@@ -195,16 +196,15 @@ module _ (given : Given) (are_two : IsOfTwo given) (before rest : List Event) (s
       ap (has_payload_next (keyed_of held)) (waits_new acked ∙ ap (λ (octets : List Marked). nat_lt (length octets) (length left)) (empty_data (pdu_sent facts) empty))
       ∙ next.filled room acked empty
 
-  pub tells_what_waits : TellsWhatWaits front side channel octets
+  pub tells_what_waits : TellsWhatWaits words front side channel octets
   tells_what_waits =
       let is = seen.packet.number_is in
       let new_is = ap (λ n. is_next_new n front side) is ∙ seen.is_new in record {
         packet = seen.packet.packet;
-        clear = seen.packet.payload_is ∙ past_payload sending.link.setup sending.link.past ∙ ap (λ (pdu : Pdu). pdu.body) (sym seen.packet.pdu_is);
         fixing = keyed_of held;
-        fixing_is = ap (λ n. control_fixing side n front) is ∙ fixing_is;
+        fixing_is = ap (λ n. control_fixing words side n front) is ∙ fixing_is;
         now = keyed_of (facts_in link);
-        now_is = ap (λ n. keyed_on side n front) is ∙ now_is;
+        now_is = ap (λ n. keyed_on words side n front) is ∙ now_is;
         more = seen.packet.more_is ∙ tells_by (is_acked facts.acknowledgement) refl
             ∙ (λ i. tells_more (sym new_is i) (keyed_of held) (keyed_of (facts_in link)) (octets_wait (sym is i) (lines_at station before)));
         empty_last = λ new empty.
@@ -222,8 +222,8 @@ abbrev pub AreAired : Given → Type 0
 AreAired given = (front rest : List Entry) (side : Side) (channel : ℕ) (octets : List ℕ) (fate : Mark) (verdict : Verdict)
     → journal_of (history_of (run_of given)) ≡ front ++ Air side channel octets fate verdict ∷ rest → IsAired given front side channel octets fate verdict
 
-module _ (whole : IsHeardWhole) (understood : IsUnderstood) (taken : AreTaken) (nth : AreNth) (apart : AreApart) (given : Given) (are_two : IsOfTwo given) (few_links : HaveFewLinks given)
-    (six : HaveAddresses given) (eight : (station : ℕ) → (setup_at given station).host_buffers ≡ 8) where
+module _ (words : Words) (whole : IsHeardWhole) (understood : IsUnderstood) (taken : AreTaken) (nth : AreNth) (apart : AreApart) (given : Given) (are_two : IsOfTwo given) (few_links : HaveFewLinks given)
+    (six : HaveAddresses given) (gives : GivesWords given words) (eight : (station : ℕ) → (setup_at given station).host_buffers ≡ 8) where
   abbrev Q : Place → List Event → Type 0
   Q = IsBelongingSoFar given
 
@@ -244,37 +244,37 @@ module _ (whole : IsHeardWhole) (understood : IsUnderstood) (taken : AreTaken) (
         (still_unsent given whole Q known are_two few_links six distinct eight phases done left station history are has.told_is) off;
   }
 
-  pub waits_of_lines : AreAired given → AllTellWhatWaits (journal_of (history_of (run_of given)))
+  pub waits_of_lines : AreAired given → AllTellWhatWaits words (journal_of (history_of (run_of given)))
   waits_of_lines all front rest side channel octets fate verdict is off =
       let aired = all front rest side channel octets fate verdict is in
       let before = aired.before in
       let station = aired.station in
       let hearings = aired.hearing ∷ aired.others in
       let seen = seen_packet given (IsToldAt given Q) keeps (λ history. Unit {0}) (IsOfLinesIf given) sees (told_first given) before aired.after station channel octets hearings aired.is_at off in
-      subst (λ xs. TellsWhatWaits xs side channel octets) (sym aired.front_is)
-      (subst (λ s. TellsWhatWaits (journal_of before) s channel octets) (sym aired.side_is)
-      (tells_what_waits given are_two before (Transmitted station channel octets hearings ∷ aired.after) station channel octets aired.is_at
-      (fixing_before_packet whole understood taken nth apart given are_two six before aired.after station channel octets hearings aired.is_at)
-      (keyed_before_packet whole understood taken nth apart given are_two six before aired.after station channel octets hearings aired.is_at) seen))
+      subst (λ xs. TellsWhatWaits words xs side channel octets) (sym aired.front_is)
+      (subst (λ s. TellsWhatWaits words (journal_of before) s channel octets) (sym aired.side_is)
+      (tells_what_waits words given are_two before (Transmitted station channel octets hearings ∷ aired.after) station channel octets aired.is_at
+      (fixing_before_packet words whole understood taken nth apart given are_two six gives before aired.after station channel octets hearings aired.is_at)
+      (keyed_before_packet words whole understood taken nth apart given are_two six gives before aired.after station channel octets hearings aired.is_at) seen))
 
   -- ---- where damage stops it
 
-  begins_known : AreKnownAtBegins given
+  begins_known : AreKnownAtBegins words given
   begins_known before rest station slot on handle link at in_it is_open =
-      keyed_before_call whole understood taken nth apart given are_two six before rest station (TurnBegins slot on) at in_it handle link is_open
+      keyed_before_call words whole understood taken nth apart given are_two six gives before rest station (TurnBegins slot on) at in_it handle link is_open
 
-  fixing_at_end : AreFixing given (history_of (run_of given))
+  fixing_at_end : AreFixing words given (history_of (run_of given))
   fixing_at_end =
-      ends_with (run_of given) (IsWhole given (AreFixingAt given)) (IsStopped given (AreFixingAt given)) (AreFixing given)
-      (run_kept given (AreFixingAt given) (fixing_kept understood taken nth apart given are_two six begins_known) (fixing_first given))
+      ends_with (run_of given) (IsWhole given (AreFixingAt words given)) (IsStopped given (AreFixingAt words given)) (AreFixing words given)
+      (run_kept given (AreFixingAt words given) (fixing_kept words understood taken nth apart given are_two six gives begins_known) (fixing_first words given))
       (λ history wholly. wholly.is.fixing) (λ history stop stopped. stopped.kept.fixing)
 
   -- the packet that is to come there tells it too
   pub waits_at_stop : (history : List Event) (stop : Stop) → run_of given ≡ Stops history stop → is_advertising stop.channel ≡ false
-      → TellsWhatWaits (journal_of history) (side_of stop.sender) stop.channel stop.sent
+      → TellsWhatWaits words (journal_of history) (side_of stop.sender) stop.channel stop.sent
   waits_at_stop history stop stops off =
       let is_last = ap history_of stops in
       let seen = seen_stop given (IsToldAt given Q) keeps (λ history. Unit {0}) (IsOfLinesIf given) sees (told_first given) history stop stops off in
-      tells_what_waits given are_two history [] stop.sender stop.channel stop.sent (is_last ∙ sym (append-nil history))
-      (subst (AreFixing given) is_last fixing_at_end)
-      (subst (AreControlled given) is_last (keyed_at_end whole understood taken nth apart given are_two six)) seen
+      tells_what_waits words given are_two history [] stop.sender stop.channel stop.sent (is_last ∙ sym (append-nil history))
+      (subst (AreFixing words given) is_last fixing_at_end)
+      (subst (AreControlled words given) is_last (keyed_at_end words whole understood taken nth apart given are_two six gives)) seen

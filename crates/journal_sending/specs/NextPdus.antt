@@ -7,6 +7,7 @@ use Rattle.journal.specs.declared.entries.Entry.TheVariants.{Sent}
 use Rattle.journal_leaving.specs.journal_data.Delivered.{host_buffers}
 use Rattle.journal_leaving.specs.journal_data.Lines.{lines_of, pdus_on}
 use Rattle.journal_leaving.specs.link_model.Acknowledgement.{Pdu}
+use Rattle.journal_fixing.specs.journal_controls.journal_ends.Asked.{Words}
 use Rattle.journal_fixing.specs.NextPdu.{pdu_next, piece_limit}
 use Rattle.journal_fixing.specs.OnLines.{control_fixing, control_going}
 use Rattle.journal_fixing.specs.link_model.keyed_control.Keyed.{Keyed}
@@ -14,17 +15,17 @@ use Rattle.journal_sending.specs.Outgoing.{piece_by_lines}
 
 -- a new PDU that a side sends after these entries is the one that is next, and has the next number: by its end as the
 -- PDU was fixed, by its end as a control PDU leaves the queue, and by the next piece of data, cut at the effective length
--- with which the PDU was fixed
-pub record IsNextPdu (link : ℕ) (front : List Entry) (side : Side) (count : ℕ) (pdu : Pdu) : Type 0 where
+-- with which the PDU was fixed. `words` are those that a side would draw after any lines
+pub record IsNextPdu (words : Words) (link : ℕ) (front : List Entry) (side : Side) (count : ℕ) (pdu : Pdu) : Type 0 where
   pub fixing : Keyed
-  pub fixing_is : control_fixing side link front ≡ Some fixing
+  pub fixing_is : control_fixing words side link front ≡ Some fixing
   pub going : Keyed
-  pub going_is : control_going side link front ≡ Some going
+  pub going_is : control_going words side link front ≡ Some going
   pub next : pdu ≡ pdu_next fixing going (piece_by_lines side link front (piece_limit fixing))
   pub numbered : count ≡ length (pdus_on link (lines_of host_buffers side front).sent) + 1
 
 -- so is each in a journal
-abbrev pub AllNewPdusAreNext : List Entry → Type 0
-AllNewPdusAreNext journal = (front rest : List Entry) (side : Side) (link count llid : ℕ) (body : List ℕ)
+abbrev pub AllNewPdusAreNext : Words → List Entry → Type 0
+AllNewPdusAreNext words journal = (front rest : List Entry) (side : Side) (link count llid : ℕ) (body : List ℕ)
     → journal ≡ front ++ Sent side link count llid body ∷ rest
-    → IsNextPdu link front side count (record { llid = llid; body = body })
+    → IsNextPdu words link front side count (record { llid = llid; body = body })

@@ -3,14 +3,15 @@ use Rattle.std.specs.Prelude.{◌≡◌, ℕ, Bool, List, ◌∷◌, ◌++◌, O
 use Rattle.ble_base.specs.declared.roles.Side.{Side}
 use Rattle.journal.specs.declared.entries.Entry.{Entry}
 use Rattle.journal.specs.declared.entries.Entry.TheVariants.{Turn}
+use Rattle.journal_fixing.specs.journal_controls.journal_ends.Asked.{Words}
 use Rattle.journal_sending.specs.Announced.{announced_pdu}
 use Rattle.journal_sending.specs.Pending.{pending_pdu}
 
 -- the packet of each line of a new PDU was on the air, and each side took what reached it
-abbrev pub IsAtRest : List Entry → Type 0
-IsAtRest front = (side : Side) → (announced_pdu side front ≡ None) × (pending_pdu side front ≡ None)
+abbrev pub IsAtRest : Words → List Entry → Type 0
+IsAtRest words front = (side : Side) → (announced_pdu side front ≡ None) × (pending_pdu words side front ≡ None)
 
 -- before each turn
-abbrev pub AllAreAtRest : List Entry → Type 0
-AllAreAtRest journal = (front rest : List Entry) (slot : ℕ) (a_on : Bool) (b_on : Option Bool)
-    → journal ≡ front ++ Turn slot a_on b_on ∷ rest → IsAtRest front
+abbrev pub AllAreAtRest : Words → List Entry → Type 0
+AllAreAtRest words journal = (front rest : List Entry) (slot : ℕ) (a_on : Bool) (b_on : Option Bool)
+    → journal ≡ front ++ Turn slot a_on b_on ∷ rest → IsAtRest words front

@@ -14,6 +14,7 @@ use Rattle.journal_leaving.specs.link_model.Data.{is_empty}
 use Rattle.journal_leaving.specs.run_model.Links.{is_advertising}
 use Rattle.journal_fixing.specs.NextPdu.{lets_data_go, more_with_new, more_with_old}
 use Rattle.journal_fixing.specs.OnLines.{control_fixing}
+use Rattle.journal_fixing.specs.journal_controls.journal_ends.Asked.{Words}
 use Rattle.journal_fixing.specs.journal_controls.KeyedLines.{has_next}
 use Rattle.journal_fixing.specs.journal_controls.LineSteps.{keyed_on}
 use Rattle.journal_fixing.specs.link_model.keyed_control.Keyed.{Keyed}
@@ -34,14 +35,12 @@ has_payload_next fixing octets = has_next fixing || (lets_data_go fixing && octe
 
 -- MD in a packet that a side sends after these entries says whether more waits; and it carries an empty PDU as a new
 -- one only where nothing is to go
-pub record TellsWhatWaits (front : List Entry) (side : Side) (channel : ℕ) (octets : List ℕ) : Type 0 where
+pub record TellsWhatWaits (words : Words) (front : List Entry) (side : Side) (channel : ℕ) (octets : List ℕ) : Type 0 where
   pub packet : IsLinkPacket front side channel octets
-  -- it is not sealed
-  pub clear : packet.payload ≡ (carried_of packet.number front side).body
   pub fixing : Keyed
-  pub fixing_is : control_fixing side packet.number front ≡ Some fixing
+  pub fixing_is : control_fixing words side packet.number front ≡ Some fixing
   pub now : Keyed
-  pub now_is : keyed_on side packet.number front ≡ Some now
+  pub now_is : keyed_on words side packet.number front ≡ Some now
   pub more : packet.md
       ≡ tells_more (is_next_new packet.number front side) fixing now
       (octets_wait packet.number (lines_of host_buffers side front))
@@ -50,7 +49,7 @@ pub record TellsWhatWaits (front : List Entry) (side : Side) (channel : ℕ) (oc
       → has_payload_next fixing (octets_wait packet.number (lines_of host_buffers side front)) ≡ false
 
 -- so does each packet of a link in a journal
-abbrev pub AllTellWhatWaits : List Entry → Type 0
-AllTellWhatWaits journal = (front rest : List Entry) (side : Side) (channel : ℕ) (octets : List ℕ) (fate : Mark)
+abbrev pub AllTellWhatWaits : Words → List Entry → Type 0
+AllTellWhatWaits words journal = (front rest : List Entry) (side : Side) (channel : ℕ) (octets : List ℕ) (fate : Mark)
     (verdict : Verdict) → journal ≡ front ++ Air side channel octets fate verdict ∷ rest
-    → is_advertising channel ≡ false → TellsWhatWaits front side channel octets
+    → is_advertising channel ≡ false → TellsWhatWaits words front side channel octets

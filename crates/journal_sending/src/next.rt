@@ -1,6 +1,8 @@
 //! Which PDU each line of a new PDU says, by the lines before it. The body only calls the laws that
 //! it rests on: the contract is the law.
 ghost use Rattle.std.specs.Prelude.{◌≡◌, ◌≤◌, ◌∷◌, [], ℕ};
+ghost use Rattle.journal_fixing.specs.journal_controls.journal_ends.Asked.{Words};
+ghost use Rattle.journal_fixing.specs.journal_controls.journal_ends.GivenWords.{GivesWords};
 ghost use Rattle.journal_leaving.specs.run_model.Journal.{journal_of};
 ghost use Rattle.journal_leaving.specs.run_model.LinkEnds.{HaveAddresses};
 ghost use Rattle.journal_leaving.specs.run_model.Run.{Given, history_of, run_of, setup_at};
@@ -13,10 +15,11 @@ ghost use Rattle.journal_sending.specs.NextPdus.{AllNewPdusAreNext};
 /// (Core 5.2, volume 6 part B, sections 2.4, 4.5.9 and 4.5.10; the order, and when a PDU is fixed,
 /// are our choice).
 pub fn each_new_pdu_is_next_by_the_lines()
-    ensures { (given : Given) → given.stations ≡ 0 ∷ 1 ∷ [] → HaveAddresses given
+    ensures { (words : Words) (given : Given) → given.stations ≡ 0 ∷ 1 ∷ []
+        → HaveAddresses given → GivesWords given words
         → ((station : ℕ) → (setup_at given station).links ≤ 4096)
         → ((station : ℕ) → (setup_at given station).host_buffers ≡ 8)
-        → AllNewPdusAreNext (journal_of (history_of (run_of given))) }
+        → AllNewPdusAreNext words (journal_of (history_of (run_of given))) }
 {
     journal_leaving::a_pdu_is_understood();
     advertise::laws::connections_are_taken();

@@ -1,6 +1,8 @@
 //! What each packet of a link tells, and the line of the new PDU that it brings, by the lines
 //! before it. The bodies only call the laws that they rest on: the contracts are the laws.
 ghost use Rattle.std.specs.Prelude.{◌≡◌, ◌≤◌, ◌∷◌, [], ℕ, List, false};
+ghost use Rattle.journal_fixing.specs.journal_controls.journal_ends.Asked.{Words};
+ghost use Rattle.journal_fixing.specs.journal_controls.journal_ends.GivenWords.{GivesWords};
 ghost use Rattle.journal_leaving.specs.run_model.History.{Event};
 ghost use Rattle.journal_leaving.specs.run_model.Journal.{journal_of, side_of};
 ghost use Rattle.journal_leaving.specs.run_model.LinkEnds.{HaveAddresses};
@@ -17,16 +19,17 @@ ghost use Rattle.journal_sending.specs.WhatWaits.{AllTellWhatWaits, TellsWhatWai
 /// B, section 4.5.6; what counts, and when it is looked at, is our choice). So does the packet at
 /// which damage stops a run.
 pub fn each_packet_of_a_link_tells_what_waits()
-    ensures aired { (given : Given) → given.stations ≡ 0 ∷ 1 ∷ [] → HaveAddresses given
+    ensures aired { (words : Words) (given : Given) → given.stations ≡ 0 ∷ 1 ∷ []
+        → HaveAddresses given → GivesWords given words
         → ((station : ℕ) → (setup_at given station).links ≤ 4096)
         → ((station : ℕ) → (setup_at given station).host_buffers ≡ 8)
-        → AllTellWhatWaits (journal_of (history_of (run_of given))) }
-    ensures stopped { (given : Given) (history : List Event) (stop : Stop)
-        → given.stations ≡ 0 ∷ 1 ∷ [] → HaveAddresses given
+        → AllTellWhatWaits words (journal_of (history_of (run_of given))) }
+    ensures stopped { (words : Words) (given : Given) (history : List Event) (stop : Stop)
+        → given.stations ≡ 0 ∷ 1 ∷ [] → HaveAddresses given → GivesWords given words
         → ((station : ℕ) → (setup_at given station).links ≤ 4096)
         → ((station : ℕ) → (setup_at given station).host_buffers ≡ 8)
         → run_of given ≡ Stops history stop → is_advertising stop.channel ≡ false
-        → TellsWhatWaits (journal_of history) (side_of stop.sender) stop.channel stop.sent }
+        → TellsWhatWaits words (journal_of history) (side_of stop.sender) stop.channel stop.sent }
 {
     journal_leaving::a_pdu_is_understood();
     advertise::laws::connections_are_taken();

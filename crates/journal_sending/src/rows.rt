@@ -16,6 +16,7 @@ ghost use Rattle.journal_fixing.specs.NextPdu.{pdu_next};
 ghost use Rattle.journal_fixing.specs.OnLines.{control_fixing};
 ghost use Rattle.journal_fixing.specs.Rows.{end_sent, length_taken, link_ended, long_allowed};
 ghost use Rattle.journal_fixing.specs.Rows.{own_version, version_heard};
+ghost use Rattle.journal_fixing.specs.journal_controls.journal_ends.Rows.{some_words};
 ghost use Rattle.journal_sending.specs.Announced.{announced_pdu, new_pdu_in};
 ghost use Rattle.journal_sending.specs.Outgoing.{octets_wait, piece_after, piece_by_lines};
 ghost use Rattle.journal_sending.specs.Pending.{pending_pdu, taken_pdu};
@@ -60,7 +61,7 @@ pub fn worked_waiting()
 /// LL_VERSION_IND goes first, and MD is 1 for the data. Without data MD is 0 (Core 5.2, volume 6
 /// part B, section 4.5.6).
 pub fn worked_control_and_data()
-    ensures fixes { control_fixing A 1 data_too ≡ Some version_owed }
+    ensures fixes { control_fixing some_words A 1 data_too ≡ Some version_owed }
     ensures waits { octets_wait 1 (lines_of 8 A data_too) ≡ true }
     ensures control_first { pdu_next version_owed version_owed (piece_by_lines A 1 data_too 27)
         ≡ own_version }
@@ -107,16 +108,19 @@ pub fn worked_new_pdu()
 /// whose LL_TERMINATE_IND the packet acknowledges does not take its PDU (Core 5.2, volume 6 part B,
 /// section 5.1.6).
 pub fn worked_taking()
-    ensures heard { pending_pdu A data_heard
+    ensures heard { pending_pdu some_words A data_heard
         ≡ Some (record { link = 1; number = 1; pdu = data_pdu }) }
-    ensures taken { taken_pdu (Took A 1 1 data_pdu.llid data_pdu.body) ≡ pending_pdu A data_heard }
-    ensures done { pending_pdu A (data_heard ++ Done A 1 Version ∷ []) ≡ pending_pdu A data_heard }
-    ensures other_link { pending_pdu A (data_heard ++ Done A 2 Version ∷ []) ≡ None }
-    ensures taken_no_more { pending_pdu A data_taken ≡ None }
-    ensures lost { pending_pdu A (data_sent ++ Air B 25 data_packet WasLost Missed ∷ []) ≡ None }
-    ensures again { pending_pdu A (data_taken ++ Air B 25 data_packet Pass Good ∷ []) ≡ None }
-    ensures empty { pending_pdu A (one_event_journal ++ Air B 25 first_packet Pass Good ∷ [])
+    ensures taken { taken_pdu (Took A 1 1 data_pdu.llid data_pdu.body)
+        ≡ pending_pdu some_words A data_heard }
+    ensures done { pending_pdu some_words A (data_heard ++ Done A 1 Version ∷ [])
+        ≡ pending_pdu some_words A data_heard }
+    ensures other_link { pending_pdu some_words A (data_heard ++ Done A 2 Version ∷ []) ≡ None }
+    ensures taken_no_more { pending_pdu some_words A data_taken ≡ None }
+    ensures lost { pending_pdu some_words A (data_sent ++ Air B 25 data_packet WasLost Missed ∷ [])
         ≡ None }
-    ensures sender { pending_pdu B data_heard ≡ None }
-    ensures left { pending_pdu B terminate_answered ≡ None }
+    ensures again { pending_pdu some_words A (data_taken ++ Air B 25 data_packet Pass Good ∷ [])
+        ≡ None }
+    ensures empty { pending_pdu some_words A (one_event_journal ++ Air B 25 first_packet Pass Good ∷ []) ≡ None }
+    ensures sender { pending_pdu some_words B data_heard ≡ None }
+    ensures left { pending_pdu some_words B terminate_answered ≡ None }
 {}

@@ -6,6 +6,7 @@ use Rattle.std.proofs.lemmas.Bool.{eqb-true, false_from_ne_true, and_right}
 use Rattle.std.proofs.lemmas.Bool.Decides.{nat_tests}
 use Rattle.ble_base.specs.Side.{other_side}
 use Rattle.ble_base.specs.declared.roles.Side.{Side}
+use Rattle.ble_base.specs.declared.verdicts.Verdict.TheVariants.{Forged}
 use Rattle.air_frame.specs.declared.Heard.{Heard}
 use Rattle.air_frame.specs.declared.Heard.TheVariants.{NotOurs, Broken, Whole}
 use Rattle.air_frame.specs.Hearing.{heard_in}
@@ -15,7 +16,7 @@ use Rattle.data_pdu.specs.Header.{header_in, octets_of}
 use Rattle.journal.specs.declared.entries.Entry.{Entry}
 use Rattle.journal.specs.declared.entries.Entry.TheVariants.{Air}
 use Rattle.journal_acks.specs.link_model.Facts.{Facts as EndFacts}
-use Rattle.journal_acks.specs.link_model.Packets.{header_sent, more_sent, packet_sent, payload_sent}
+use Rattle.journal_acks.specs.link_model.Packets.{header_sent, more_sent, packet_sent, payload_sent, verdict_of}
 use Rattle.journal_acks.specs.link_model.Setup.{Setup as EndSetup}
 use Rattle.journal_acks.specs.link_model.Step.{PacketReceived, PacketSent}
 use Rattle.journal_acks.proofs.link_model.Hearing.{IsHeardWhole}
@@ -24,6 +25,7 @@ use Rattle.journal_acks.specs.open_links.OpenLinks.{OpenLink, facts_in, link_aft
 use Rattle.journal_acks.specs.controller_model.declared.doing.Turn.{Turn}
 use Rattle.journal_acks.specs.controller_model.Facts.{Facts, Sends}
 use Rattle.radio_replay.specs.declared.fates.Fate.{Fate}
+use Rattle.radio_replay.specs.Damage.{damaged_packet}
 use Rattle.journal_acks.specs.run_model.Feeding.{AreDistinct}
 use Rattle.journal_acks.specs.run_model.History.{Event, Hearing, Transmitted, has_received, is_good, packet_received, turns_begun}
 use Rattle.journal_acks.specs.run_model.Journal.{air_entries, entries_of, journal_of, mark_of, side_of}
@@ -32,7 +34,7 @@ use Rattle.journal_acks.specs.run_model.Links.{is_advertising, links_of}
 use Rattle.journal_acks.specs.run_model.Readers.{turns_of}
 use Rattle.journal_acks.specs.run_model.Run.{Given, facts_at, hearings_of, unseen_in, use_at}
 use Rattle.journal_acks.proofs.run_model.Fates.{turns_are}
-use Rattle.journal_acks.proofs.run_model.LinkEnds.{is_listener, received_own, received_packet}
+use Rattle.journal_acks.proofs.run_model.LinkEnds.{is_listener, received_own}
 use Rattle.journal_acks.proofs.run_model.Parts.{journal_event}
 use Rattle.journal_acks.proofs.run_model.Stations.{among, in_more_other, in_more_same, is_in, not_before}
 use Rattle.journal_acks.proofs.run_model.Unseen.{good_is}
@@ -41,14 +43,16 @@ use Rattle.journal_acks.proofs.run_laws.Hearings.{wanted_is}
 use Rattle.journal_acks.proofs.run_laws.TurnPlaces.{Within, at_stage}
 use Rattle.journal_acks.specs.journal_packets.Belonging.{link_of_packet}
 use Rattle.journal_acks.specs.journal_packets.Senders.{IsOfSendersLink}
-use Rattle.journal_acks.proofs.AirCounts.{heard_it, listening, one as same_link, one_number}
+use Rattle.journal_acks.proofs.AirCounts.{listening, one as same_link, one_number}
 use Rattle.journal_acks.proofs.Counting.{AreKnown, facts_event, taking_if}
 use Rattle.journal_acks.proofs.Exchanging.{number_at, number_sent}
+use Rattle.journal_acks.proofs.HandedOn.{forged_facts, heard_it, judged_link, with_handed}
 use Rattle.journal_acks.proofs.KeptCounts.{AreCountedAt}
 use Rattle.journal_acks.specs.link_calls.Ranges.{IsReadable}
 use Rattle.journal_acks.specs.link_calls.Uses.{listens_under, sends_under}
 use Rattle.journal_acks.proofs.link_calls.InRange.{sent_ranges}
 use Rattle.journal_acks.proofs.link_calls.Pieces.{sent_readable}
+use Rattle.journal_acks.proofs.run_laws.Payloads.{payload_short}
 use Rattle.journal_acks.proofs.Standing.{PhasedBy, listener_sends, other_listens, other_sends, phased_at, sends_on, sends_other}
 use Rattle.journal_acks.proofs.TwoStations.{IsOfTwo, hearing_of, one_hearing, other_is, other_of, same_number}
 use Rattle.journal_acks.proofs.link_calls.UnderHandles.{same_base}
@@ -72,7 +76,7 @@ whole_pdu channel access init octets pdu is = by (bytes_eq (take 4 octets) (acce
     by true false found same = absurd cc
     by false whole found same = absurd cc
 
-in_form : (count : ℕ) → count ≤ 251 → (nat_le 2 (suc (suc count)) && nat_le (suc (suc count)) 257 && (suc (suc count) == 2 + count)) ≡ true
+in_form : (count : ℕ) → count ≤ 255 → (nat_le 2 (suc (suc count)) && nat_le (suc (suc count)) 257 && (suc (suc count) == 2 + count)) ≡ true
 in_form count short = grind (arith, nat_tests)
 
 packet_says_more : IsHeardWhole → (setup : EndSetup) (facts : EndFacts) → IsReadable facts → has_more facts.event.channel (packet_sent setup facts) ≡ more_sent facts
@@ -81,7 +85,7 @@ packet_says_more whole setup facts form =
     let pdu = octets_of (header_sent facts) ++ payload_sent facts in
     ap (λ xs. (header_in xs).md)
     (whole_pdu facts.event.channel setup.link.fields.access setup.link.fields.crc_init (packet_sent setup facts) pdu
-    (whole facts.event.channel setup.link.fields.access setup.link.fields.crc_init pdu (in_form (length (payload_sent facts)) form.short)))
+    (whole facts.event.channel setup.link.fields.access setup.link.fields.crc_init pdu (in_form (length (payload_sent facts)) (payload_short facts form))))
     ∙ ap (λ (h : DataHeader). h.md) (has_header facts facts form.llid (payload_sent facts)).read
 
 -- ---- the line of the packet
@@ -160,6 +164,19 @@ is_taken unsent octets handle turn link number side journal on on_air =
     any_sending false unsent (Some octets) handle turn link number side journal (listener_sends handle turn.doing on)
     (subst (λ b. WasOnAir false turn.slot (taking_if b (Some octets) turn.slot link) number side journal) (sym on)
     (record { base = link_after (PacketReceived turn.slot octets false) link; is = refl; on_air = on_air }))
+
+-- one that is forged to it changes nothing
+forged_on_air : (unsent : Bool) (received : Option (List ℕ)) (octets : List ℕ) (handle : ℕ) (turn : Turn) (link : OpenLink) (number : ℕ) (side : Side) (journal : List Entry) → received ≡ None
+    → (listens_under handle turn.doing ≡ true → verdict_of link.setup (facts_in link) octets ≡ Forged) → IsEndOnAir unsent received handle turn link number side journal
+    → IsEndOnAir unsent (Some octets) handle turn link number side journal
+forged_on_air unsent received octets handle turn link number side journal none forged was = by (listens_under handle turn.doing) refl
+  where
+    by : (listens : Bool) → listens_under handle turn.doing ≡ listens → IsEndOnAir unsent (Some octets) handle turn link number side journal
+    by true on =
+        is_taken unsent octets handle turn link number side journal on
+        (subst (IsOnAir number side journal) (sym (ap (λ (f : EndFacts). f.event) (forged_facts turn.slot octets link (forged on) false)))
+        (plain unsent received handle turn link number side journal (and_right unsent (sends_under handle turn.doing) (listener_sends handle turn.doing on)) (λ listens. none) was))
+    by false off = any_taking unsent received (Some octets) handle turn link number side journal off was
 
 -- ---- a packet is on the air
 
@@ -336,7 +353,7 @@ module _ (whole : IsHeardWhole) (given : Given) (Q : Place → List Event → Ty
     other_aired true on differs seen silent handle link at = advertised on (has_received other hearings) refl handle link at
     other_aired false off differs seen silent handle link at =
         sent_then off differs seen silent (has_received other hearings)
-        (sym (heard_it whole given Q known are_two six distinct phases done left station channel octets fates history are wanted has.known has.holds has.counted off is_too differs seen silent))
+        (sym (heard_it given are_two fates station channel octets history in_it))
         handle link at
 
   -- ---- both
@@ -360,13 +377,26 @@ module _ (whole : IsHeardWhole) (given : Given) (Q : Place → List Event → Ty
 
   module _ (seen : unseen_in octets hearings ≡ None)
       (silent : (one : ℕ) → is_in one given.stations ≡ true → (one == station) ≡ false → packet_received one history ≡ None) where
+    -- with what it is handed
+    other_handed : is_in other given.stations ≡ true → (other == station) ≡ false → (handle : ℕ) (link : OpenLink) → link_at handle (facts other).links ≡ Some link
+        → IsEndOnAir (not (is_in other done)) (packet_received other after) handle (facts other).turn link (number_at other handle history) (side_of other) (journal_of after)
+    other_handed is_too differs handle link at =
+        let unsent = not (is_in other done) in
+        let number = number_at other handle history in
+        let left_of = damaged_packet hearing.fate octets in
+        with_handed given are_two fates station channel octets history in_it
+        (λ received. IsEndOnAir unsent received handle (facts other).turn link number (side_of other) (journal_of after)) seen
+        (other_aired is_too (is_advertising channel) refl differs seen silent handle link at)
+        (λ forged. forged_on_air unsent (packet_received other history) left_of handle (facts other).turn link number (side_of other) (journal_of after)
+        (silent other is_too differs) (λ on. sym (judged_link (facts other) handle link left_of on at) ∙ forged))
+
     other_then : is_in other given.stations ≡ true → (other == station) ≡ false → (handle : ℕ) (link : OpenLink) → link_at handle (facts other).links ≡ Some link → IsThen other handle link
     other_then is_too differs handle link at =
-        moved handle link (side_of other) (not (is_in other done)) (not (is_in other (done ++ station ∷ []))) (if has_received other hearings then Some octets else packet_received other history)
+        moved handle link (side_of other) (not (is_in other done)) (not (is_in other (done ++ station ∷ []))) (packet_received other after)
         (packet_received other after) (facts other).turn (facts_at given other after).turn (number_at other handle history) (number_at other handle after) (journal_of after) (journal_of after) []
-        (ap not (in_more_other other station done differs)) (received_packet given fates other station channel octets history seen) (ap (λ (f : Facts). f.turn) (same_facts other))
+        (ap not (in_more_other other station done differs)) refl (ap (λ (f : Facts). f.turn) (same_facts other))
         (number_sent other handle history station channel octets hearings) (sym (append-nil (journal_of after)))
-        (other_aired is_too (is_advertising channel) refl differs seen silent handle link at)
+        (other_handed is_too differs handle link at)
 
     pub packet_on_air : AreOnAirSo given after (λ one. not (is_in one (done ++ station ∷ []))) (λ one. packet_received one after)
     packet_on_air = λ one handle link in_one at. by one in_one (one == station) refl handle link (ap (λ (f : Facts). link_at handle f.links) (sym (same_facts one)) ∙ at)

@@ -16,7 +16,6 @@ use Rattle.run_model.specs.Entries.{IsAired}
 use Rattle.run_model.specs.History.{Event, Hearing, fates_used}
 use Rattle.run_model.specs.Journal.{mark_of}
 use Rattle.run_model.specs.Run.{Given, facts_at, fate_at, hearing_at, hearings_from, others_than, reaches, use_at, verdict_where}
-use Rattle.run_model.proofs.Handed.{reached_plain}
 use Rattle.journal_turns.specs.Judged.{IsJudged}
 
 -- ---- a lost packet reaches nobody
@@ -33,25 +32,22 @@ missed_where (Damage at pattern) channel listened facts octets is = absurd cc
 
 -- ---- a hearing
 
-pub record IsHeardSo (octets : List ℕ) (hearing : Hearing) : Type 0 where
-  pub lost : mark_of hearing.fate ≡ WasLost → hearing.verdict ≡ Missed
-  pub plain : hearing.verdict ≡ Forged → ⊥
+abbrev IsMissedWhereLost : Hearing → Type 0
+IsMissedWhereLost hearing = mark_of hearing.fate ≡ WasLost → hearing.verdict ≡ Missed
 
 heard_so : (given : Given) (fate : Fate) (channel : ℕ) (octets : List ℕ) (history : List Event) (listener : ℕ)
-    → IsHeardSo octets (hearing_at given fate channel octets history listener)
-heard_so given fate channel octets history listener = record {
-  lost = missed_where fate channel (channel_listened (use_at given listener history)) (facts_at given listener history) (damaged_packet fate octets);
-  plain = reached_plain (reaches fate channel (channel_listened (use_at given listener history))) (facts_at given listener history) (damaged_packet fate octets);
-}
+    → IsMissedWhereLost (hearing_at given fate channel octets history listener)
+heard_so given fate channel octets history listener =
+    missed_where fate channel (channel_listened (use_at given listener history)) (facts_at given listener history) (damaged_packet fate octets)
 
 -- the first of the hearings of a packet
 first_heard : (given : Given) (fates : List Fate) (number channel : ℕ) (octets : List ℕ) (history : List Event) (listeners : List ℕ)
     (hearing : Hearing) (others : List Hearing) → hearing ∷ others ≡ hearings_from given fates number channel octets history listeners
-    → IsHeardSo octets hearing
+    → IsMissedWhereLost hearing
 first_heard given fates number channel octets history [] hearing others is = absurd cc
 first_heard given fates number channel octets history (listener ∷ listeners) hearing others is =
     let same : hearing ≡ hearing_at given (fate_at fates number) channel octets history listener = cc in
-    subst (IsHeardSo octets) (sym same) (heard_so given (fate_at fates number) channel octets history listener)
+    subst IsMissedWhereLost (sym same) (heard_so given (fate_at fates number) channel octets history listener)
 
 pub is_judged : (given : Given) (front : List Entry) (side : Side) (channel : ℕ) (octets : List ℕ) (fate : Mark) (verdict : Verdict)
     → IsAired given front side channel octets fate verdict → IsJudged octets fate verdict
@@ -61,8 +57,7 @@ is_judged given front side channel octets fate verdict aired =
     record {
       done = aired.hearing.fate;
       fate_is = aired.fate_is;
-      lost = λ is. aired.verdict_is ∙ heard.lost (sym aired.fate_is ∙ is);
+      lost = λ is. aired.verdict_is ∙ heard (sym aired.fate_is ∙ is);
       unchanged = aired.unchanged;
-      forged = λ is gone. absurd (let h : Missed ≡ Forged = sym (aired.verdict_is ∙ heard.lost (sym aired.fate_is ∙ gone)) ∙ is in cc);
-      plain = λ is. heard.plain (sym aired.verdict_is ∙ is);
+      forged = λ is gone. absurd (let h : Missed ≡ Forged = sym (aired.verdict_is ∙ heard (sym aired.fate_is ∙ gone)) ∙ is in cc);
     }

@@ -21,8 +21,6 @@ pub record IsJudged (octets : List ℕ) (fate : Mark) (verdict : Verdict) : Type
   pub unchanged : verdict ≡ Good → damaged_packet done octets ≡ octets
   -- one that is judged forged was not lost
   pub forged : verdict ≡ Forged → fate ≢ Lost
-  -- no link is encrypted, so nothing is forged
-  pub plain : verdict ≢ Forged
 
 abbrev pub AllAreJudged : List Entry → Type 0
 AllAreJudged journal =

@@ -17,8 +17,8 @@ ghost use Rattle.journal_turns.specs.Stopped.{IsStoppedAt};
 /// - before each turn but the first, and at the end, each side was fed what the turns so far feed it
 ///   of its stream, in order;
 /// - the n-th packet of a turn has the n-th fate of that turn. A side whose radio is off sends
-///   nothing and misses all packets. A lost packet is missed, a packet that is judged good is heard
-///   as it was sent, and none is forged;
+///   nothing and misses all packets. A lost packet is missed, and a packet that is judged good is
+///   heard as it was sent;
 /// - the lines of a turn come in its order.
 pub fn each_journal_follows_its_schedule()
     ensures follows { (a b : List ℕ) (script : Script)

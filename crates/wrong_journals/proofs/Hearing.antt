@@ -34,7 +34,7 @@ or_true : (a : Bool) → a || true ≡ true
 or_true true = refl
 or_true false = refl
 
-any_there : (test : Entry → Bool) (before after : List Entry) (entry : Entry) → test entry ≡ true → list_any test (before ++ entry ∷ after) ≡ true
+pub any_there : (test : Entry → Bool) (before after : List Entry) (entry : Entry) → test entry ≡ true → list_any test (before ++ entry ∷ after) ≡ true
 any_there test [] after entry is = ap (λ (b : Bool). b || list_any test after) is
 any_there test (first ∷ before) after entry is = ap (λ (b : Bool). test first || b) (any_there test before after entry is) ∙ or_true (test first)
 

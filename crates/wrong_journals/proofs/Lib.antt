@@ -4,6 +4,7 @@ pub mod Packets
 pub mod Turning
 pub mod Shutting
 pub mod Hearing
+pub mod Failing
 pub mod InEvents
 pub mod Opening
 pub mod Unanswering

@@ -3,45 +3,47 @@ use Rattle.std.proofs.Common.{◌≡◌, ℕ, Bool, true, false, List, Some, sym
 use Rattle.ble_base.specs.declared.roles.Side.{Side}
 use Rattle.journal.specs.declared.entries.Entry.{Entry}
 use Rattle.air_frame.specs.Packet.{on_air}
+use Rattle.journal_pdus.specs.journal_controls.journal_ends.Asked.{Words}
 use Rattle.journal_pdus.specs.link_model.Acknowledgement.{Pdu}
 use Rattle.journal_pdus.specs.link_model.Data.{is_empty}
 use Rattle.journal_pdus.specs.link_model.keyed_control.Keyed.{Keyed}
 use Rattle.journal_pdus.specs.journal_links.Begun.{LinkBegun, link_numbered}
 use Rattle.journal_pdus.specs.journal_packets.Belonging.{link_of_packet}
-use Rattle.journal_pdus.specs.journal_acks.Carried.{air_pdu, bits_of, carried_of, channel_entered, pdu_octets}
+use Rattle.journal_pdus.specs.journal_acks.Carried.{air_pdu, bits_of, carried_of, channel_entered}
 use Rattle.journal_pdus.specs.journal_acks.Exchange.{exchange_of}
 use Rattle.journal_pdus.specs.journal_controls.LineSteps.{keyed_on}
 use Rattle.journal_pdus.specs.journal_data.Delivered.{host_buffers}
 use Rattle.journal_pdus.specs.journal_data.Lines.{lines_of}
+use Rattle.journal_pdus.specs.journal_sealing.SealedLines.{HasPayload, payload_carried}
 use Rattle.journal_pdus.specs.journal_sending.NextPdus.{IsNextPdu}
 use Rattle.journal_pdus.specs.journal_sending.Outgoing.{octets_wait, piece_by_lines}
 use Rattle.journal_pdus.specs.journal_sending.WhatWaits.{TellsWhatWaits, has_payload_next, is_next_new, tells_more}
 use Rattle.journal_pdus.specs.journal_sending.journal_fixing.NextPdu.{pdu_next, piece_limit}
 use Rattle.journal_pdus.specs.journal_sending.journal_fixing.OnLines.{control_fixing, control_going}
 
--- the octets of a packet of this link with this MD
-abbrev pub octets_with : ℕ → LinkBegun → List Entry → Side → ℕ → Bool → List ℕ
-octets_with number link front side channel md =
+-- the octets of a packet of this link with this MD, whatever its payload is
+abbrev pub octets_with : ℕ → LinkBegun → List Entry → Side → ℕ → Bool → List ℕ → List ℕ
+octets_with number link front side channel md payload =
     on_air channel link.fields.access link.fields.crc_init
-    (pdu_octets (bits_of (exchange_of number front side)) md (carried_of number front side))
+    (air_pdu (bits_of (exchange_of number front side)) (carried_of number front side).llid md payload)
 
 pub some_is : {X : Type 0} (one other : X) → Some one ≡ Some other → one ≡ other
 some_is one other same = cc
 
 -- a packet of this link has these octets, by its end as the PDU was fixed and as it is now
-pub octets_are : (front : List Entry) (side : Side) (channel : ℕ) (octets : List ℕ) (number : ℕ) (link : LinkBegun)
+pub octets_are : (words : Words) (front : List Entry) (side : Side) (channel : ℕ) (octets : List ℕ) (number : ℕ) (link : LinkBegun)
     (fixing now : Keyed) (md : Bool)
     → link_of_packet front side octets ≡ Some number → link_numbered number front ≡ Some link
-    → control_fixing side number front ≡ Some fixing → keyed_on side number front ≡ Some now
+    → control_fixing words side number front ≡ Some fixing → keyed_on words side number front ≡ Some now
     → tells_more (is_next_new number front side) fixing now (octets_wait number (lines_of host_buffers side front)) ≡ md
-    → TellsWhatWaits front side channel octets
-    → octets ≡ octets_with number link front side channel md
-octets_are front side channel octets number link fixing now md belongs numbered is_fixing is_now is_md tells =
+    → (tells : TellsWhatWaits words front side channel octets)
+    → octets ≡ octets_with number link front side channel md tells.packet.payload
+octets_are words front side channel octets number link fixing now md belongs numbered is_fixing is_now is_md tells =
     let packet = tells.packet in
     let same = some_is packet.number number (sym packet.belongs ∙ belongs) in
     let one = some_is packet.link link (sym packet.is_link ∙ ap (λ (n : ℕ). link_numbered n front) same ∙ numbered) in
-    let fixed = some_is tells.fixing fixing (sym tells.fixing_is ∙ ap (λ (n : ℕ). control_fixing side n front) same ∙ is_fixing) in
-    let current = some_is tells.now now (sym tells.now_is ∙ ap (λ (n : ℕ). keyed_on side n front) same ∙ is_now) in
+    let fixed = some_is tells.fixing fixing (sym tells.fixing_is ∙ ap (λ (n : ℕ). control_fixing words side n front) same ∙ is_fixing) in
+    let current = some_is tells.now now (sym tells.now_is ∙ ap (λ (n : ℕ). keyed_on words side n front) same ∙ is_now) in
     let waits : ℕ → Bool = λ n. octets_wait n (lines_of host_buffers side front) in
     let more =
     tells.more
@@ -50,33 +52,45 @@ octets_are front side channel octets number link fixing now md belongs numbered 
     ∙ ap (λ (k : Keyed). tells_more (is_next_new number front side) fixing k (waits number)) current
     ∙ is_md in
     packet.carries
-    ∙ ap (λ (payload : List ℕ). on_air channel packet.link.fields.access packet.link.fields.crc_init
-    (air_pdu (bits_of (exchange_of packet.number front side)) (carried_of packet.number front side).llid packet.md payload)) tells.clear
-    ∙ ap (λ (n : ℕ). octets_with n packet.link front side channel packet.md) same
-    ∙ ap (λ (l : LinkBegun). octets_with number l front side channel packet.md) one
-    ∙ ap (λ (b : Bool). octets_with number link front side channel b) more
+    ∙ ap (λ (n : ℕ). octets_with n packet.link front side channel packet.md packet.payload) same
+    ∙ ap (λ (l : LinkBegun). octets_with number l front side channel packet.md packet.payload) one
+    ∙ ap (λ (b : Bool). octets_with number link front side channel b packet.payload) more
+
+-- and the payload that the lines give
+pub payload_is : (words : Words) (front : List Entry) (side : Side) (channel : ℕ) (octets : List ℕ) (number : ℕ) (link : LinkBegun)
+    → link_of_packet front side octets ≡ Some number → link_numbered number front ≡ Some link
+    → (has : HasPayload words front side channel octets)
+    → octets ≡ octets_with number link front side channel has.packet.md (payload_carried words number front side)
+payload_is words front side channel octets number link belongs numbered has =
+    let packet = has.packet in
+    let same = some_is packet.number number (sym packet.belongs ∙ belongs) in
+    let one = some_is packet.link link (sym packet.is_link ∙ ap (λ (n : ℕ). link_numbered n front) same ∙ numbered) in
+    packet.carries
+    ∙ ap (octets_with packet.number packet.link front side channel packet.md) has.payload_is
+    ∙ ap (λ (n : ℕ). octets_with n packet.link front side channel packet.md (payload_carried words n front side)) same
+    ∙ ap (λ (l : LinkBegun). octets_with number l front side channel packet.md (payload_carried words number front side)) one
 
 -- and the channel of its event
-pub channel_is : (front : List Entry) (side : Side) (channel : ℕ) (octets : List ℕ) (number : ℕ)
+pub channel_is : (words : Words) (front : List Entry) (side : Side) (channel : ℕ) (octets : List ℕ) (number : ℕ)
     → link_of_packet front side octets ≡ Some number
-    → TellsWhatWaits front side channel octets
+    → TellsWhatWaits words front side channel octets
     → channel_entered number side front ≡ Some channel
-channel_is front side channel octets number belongs tells =
+channel_is words front side channel octets number belongs tells =
     let packet = tells.packet in
     let same = some_is packet.number number (sym packet.belongs ∙ belongs) in
     ap (λ (n : ℕ). channel_entered n side front) (sym same) ∙ packet.in_event
 
 -- where a packet of this link has an empty PDU as a new one, nothing is to go
-pub none_waits : (front : List Entry) (side : Side) (channel : ℕ) (octets : List ℕ) (number : ℕ) (fixing : Keyed)
-    → link_of_packet front side octets ≡ Some number → control_fixing side number front ≡ Some fixing
+pub none_waits : (words : Words) (front : List Entry) (side : Side) (channel : ℕ) (octets : List ℕ) (number : ℕ) (fixing : Keyed)
+    → link_of_packet front side octets ≡ Some number → control_fixing words side number front ≡ Some fixing
     → is_next_new number front side ≡ true → is_empty (carried_of number front side) ≡ true
-    → TellsWhatWaits front side channel octets
+    → TellsWhatWaits words front side channel octets
     → has_payload_next fixing (octets_wait number (lines_of host_buffers side front)) ≡ false
-none_waits front side channel octets number fixing belongs is_fixing new empty tells =
+none_waits words front side channel octets number fixing belongs is_fixing new empty tells =
     let packet = tells.packet in
     let same : number ≡ packet.number = some_is number packet.number (sym belongs ∙ packet.belongs) in
     let fixed : fixing ≡ tells.fixing =
-    some_is fixing tells.fixing (sym is_fixing ∙ ap (λ (n : ℕ). control_fixing side n front) same ∙ tells.fixing_is) in
+    some_is fixing tells.fixing (sym is_fixing ∙ ap (λ (n : ℕ). control_fixing words side n front) same ∙ tells.fixing_is) in
     ap (λ (k : Keyed). has_payload_next k (octets_wait number (lines_of host_buffers side front))) fixed
     ∙ ap (λ (n : ℕ). has_payload_next tells.fixing (octets_wait n (lines_of host_buffers side front))) same
     ∙ tells.empty_last
@@ -84,11 +98,11 @@ none_waits front side channel octets number fixing belongs is_fixing new empty t
     (subst (λ (n : ℕ). is_empty (carried_of n front side) ≡ true) same empty)
 
 -- a new PDU is the next one by its end as the PDU was fixed and as it went
-pub next_is : (link : ℕ) (front : List Entry) (side : Side) (count : ℕ) (pdu : Pdu) (fixing going : Keyed)
-    → control_fixing side link front ≡ Some fixing → control_going side link front ≡ Some going
-    → IsNextPdu link front side count pdu
+pub next_is : (words : Words) (link : ℕ) (front : List Entry) (side : Side) (count : ℕ) (pdu : Pdu) (fixing going : Keyed)
+    → control_fixing words side link front ≡ Some fixing → control_going words side link front ≡ Some going
+    → IsNextPdu words link front side count pdu
     → pdu ≡ pdu_next fixing going (piece_by_lines side link front (piece_limit fixing))
-next_is link front side count pdu fixing going is_fixing is_going next =
+next_is words link front side count pdu fixing going is_fixing is_going next =
     let fixed = some_is next.fixing fixing (sym next.fixing_is ∙ is_fixing) in
     let gone = some_is next.going going (sym next.going_is ∙ is_going) in
     next.next

@@ -7,6 +7,7 @@ use Rattle.journal.specs.declared.entries.Entry.{Entry}
 use Rattle.journal.specs.declared.entries.Entry.TheVariants.{Turn, Fed}
 use Rattle.run_model.specs.Order.{AreNotes, side_of_note}
 use Rattle.journal_pdus.specs.journal_acks.Shut.{CompletesReset}
+use Rattle.journal_pdus.specs.journal_controls.journal_ends.Asked.{Words}
 use Rattle.journal_pdus.specs.journal_leaving.Reasons.{IsShutAs, due_on, ending_on, leaving, overdue, packets_passed, reset}
 use Rattle.wrong_journals.proofs.Differing.{truths_differ}
 
@@ -46,11 +47,11 @@ no_octets_yet front side last resets =
 -- ---- no reason holds
 
 -- no host completed a Reset, no other code is due, and the end is not leaving
-pub no_reason : (front : List Entry) (side : Side) (number : ℕ) (reason : ErrCode) (due : Option ℕ)
-    → (reason.0 ≡ success → CompletesReset front side → ⊥) → due_on side number front ≡ due
-    → (packets_passed front ≡ false → due ≡ Some reason.0 → ⊥) → ending_on side number front ≡ None
-    → IsShutAs front side number reason → ⊥
-no_reason front side number reason due no_reset is not_due stays (reset code completes) = no_reset code completes
-no_reason front side number reason due no_reset is not_due stays (overdue before same) = not_due before (sym is ∙ same)
-no_reason front side number reason due no_reset is not_due stays (leaving same) =
+pub no_reason : (words : Words) (front : List Entry) (side : Side) (number : ℕ) (reason : ErrCode) (due : Option ℕ)
+    → (reason.0 ≡ success → CompletesReset front side → ⊥) → due_on words side number front ≡ due
+    → (packets_passed front ≡ false → due ≡ Some reason.0 → ⊥) → ending_on words side number front ≡ None
+    → IsShutAs words front side number reason → ⊥
+no_reason words front side number reason due no_reset is not_due stays (reset code completes) = no_reset code completes
+no_reason words front side number reason due no_reset is not_due stays (overdue before same) = not_due before (sym is ∙ same)
+no_reason words front side number reason due no_reset is not_due stays (leaving same) =
     let h : None ≡ Some reason = sym stays ∙ same in absurd cc

@@ -2,7 +2,7 @@
 use Rattle.std.specs.Prelude.{List, [], ◌∷◌, ◌++◌}
 use Rattle.ble_base.specs.declared.roles.Role.TheVariants.{Peripheral}
 use Rattle.ble_base.specs.declared.roles.Side.TheVariants.{A, B}
-use Rattle.ble_base.specs.declared.verdicts.Verdict.TheVariants.{Good, Missed}
+use Rattle.ble_base.specs.declared.verdicts.Verdict.TheVariants.{Broken, Good, Missed}
 use Rattle.journal.specs.declared.entries.Entry.{Entry}
 use Rattle.journal.specs.declared.entries.Entry.TheVariants.{Air, Enter, Opened}
 use Rattle.journal.specs.declared.entries.Mark.TheVariants.{Pass}
@@ -19,6 +19,10 @@ before_answer = turns_before_first ++ Enter A 1 0 25 ∷ Enter B 1 0 25 ∷ Air 
 -- the answer passes, and the central misses it
 abbrev pub answer_missed : List Entry
 answer_missed = before_answer ++ Air A 25 first_reply Pass Missed ∷ []
+
+-- it is short, and is judged broken all the same
+abbrev pub answer_broken : List Entry
+answer_broken = before_answer ++ Air A 25 first_reply Pass Broken ∷ []
 
 -- ---- a CONNECT_IND
 

@@ -2,6 +2,7 @@
 pub mod Alike
 pub mod Answers
 pub mod Commanded
+pub mod Encrypting
 pub mod Events
 pub mod Exchanges
 pub mod Hearings

@@ -2,12 +2,14 @@
 ghost use Rattle.journal_pdus.specs.Answered.{AllAnswersAreHeard};
 ghost use Rattle.journal_pdus.specs.OpenedLinks.{AllAreOpenedByThen, AreOpened};
 ghost use Rattle.run_model.specs.Rows.{one_connection_journal};
-ghost use Rattle.wrong_journals.specs.Answers.{answer_missed, never_opened};
+ghost use Rattle.wrong_journals.specs.Answers.{answer_broken, answer_missed, never_opened};
 ghost use Rattle.wrong_journals.specs.Answers.{never_opened_by_central, opened_by_other};
 
-/// A central does not miss the answer to its packet where that passes.
+/// A central does not miss the answer to its packet where that passes, and does not find it broken
+/// where it has room for its payload.
 pub fn missed_answers_are_refused()
-    ensures { AllAnswersAreHeard answer_missed → ⊥ }
+    ensures missed { AllAnswersAreHeard answer_missed → ⊥ }
+    ensures broken { AllAnswersAreHeard answer_broken → ⊥ }
 {}
 
 /// A CONNECT_IND opens its link at the side that sent it, before the next turn and by the end of a

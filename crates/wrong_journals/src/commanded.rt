@@ -1,4 +1,5 @@
 //! PDUs that are sent or taken against the rules on a link whose host gives commands.
+ghost use Rattle.journal_pdus.specs.journal_controls.journal_ends.Asked.{Words};
 ghost use Rattle.journal_pdus.specs.journal_sending.NextPdus.{AllNewPdusAreNext};
 ghost use Rattle.journal_pdus.specs.journal_sending.Pending.{AllAreTakenAtOnce};
 ghost use Rattle.journal_pdus.specs.journal_sending.WhatWaits.{AllTellWhatWaits};
@@ -14,29 +15,29 @@ ghost use Rattle.wrong_journals.specs.Commanded.{update_too_near, update_unasked
 /// LL_CONNECTION_UPDATE_IND has the values of an accepted command, and the Instant of its event
 /// (Core 5.2, volume 6 part B, sections 4.5.9, 4.5.10, 5.1.1 and 5.1.6).
 pub fn wrong_pdus_are_refused()
-    ensures longer { AllNewPdusAreNext piece_too_long → ⊥ }
-    ensures shorter { AllNewPdusAreNext piece_too_short → ⊥ }
-    ensures data_first { AllNewPdusAreNext data_before_control → ⊥ }
-    ensures ended { AllNewPdusAreNext data_after_disconnect → ⊥ }
-    ensures values { AllNewPdusAreNext update_otherwise → ⊥ }
-    ensures instant { AllNewPdusAreNext update_too_near → ⊥ }
-    ensures unasked { AllNewPdusAreNext update_unasked → ⊥ }
+    ensures longer { (words : Words) → AllNewPdusAreNext words piece_too_long → ⊥ }
+    ensures shorter { (words : Words) → AllNewPdusAreNext words piece_too_short → ⊥ }
+    ensures data_first { (words : Words) → AllNewPdusAreNext words data_before_control → ⊥ }
+    ensures ended { (words : Words) → AllNewPdusAreNext words data_after_disconnect → ⊥ }
+    ensures values { (words : Words) → AllNewPdusAreNext words update_otherwise → ⊥ }
+    ensures instant { (words : Words) → AllNewPdusAreNext words update_too_near → ⊥ }
+    ensures unasked { (words : Words) → AllNewPdusAreNext words update_unasked → ⊥ }
 {}
 
 /// MD of a packet counts a control PDU that waited as its PDU was fixed, and MD of a reply does not
 /// count the answer that the PDU just taken has queued. No new empty PDU goes where a control PDU
 /// waits (Core 5.2, volume 6 part B, section 4.5.6).
 pub fn wrong_more_bits_are_refused()
-    ensures untold { AllTellWhatWaits version_untold → ⊥ }
-    ensures empty { AllTellWhatWaits empty_before_control → ⊥ }
-    ensures counted { AllTellWhatWaits answer_counted → ⊥ }
+    ensures untold { (words : Words) → AllTellWhatWaits words version_untold → ⊥ }
+    ensures empty { (words : Words) → AllTellWhatWaits words empty_before_control → ⊥ }
+    ensures counted { (words : Words) → AllTellWhatWaits words answer_counted → ⊥ }
 {}
 
 /// No line comes between a packet and the line that its PDU is taken, but for that of a procedure
 /// that is done on the same link. A central whose LL_TERMINATE_IND is acknowledged takes nothing
 /// more (Core 5.2, volume 6 part B, sections 4.5.9 and 5.1.6).
 pub fn late_taking_is_refused()
-    ensures event { AllAreTakenAtOnce taken_after_event → ⊥ }
-    ensures other_link { AllAreTakenAtOnce taken_after_done → ⊥ }
-    ensures terminated { AllAreTakenAtOnce taken_after_terminate → ⊥ }
+    ensures event { (words : Words) → AllAreTakenAtOnce words taken_after_event → ⊥ }
+    ensures other_link { (words : Words) → AllAreTakenAtOnce words taken_after_done → ⊥ }
+    ensures terminated { (words : Words) → AllAreTakenAtOnce words taken_after_terminate → ⊥ }
 {}

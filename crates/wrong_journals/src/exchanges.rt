@@ -1,5 +1,7 @@
 //! PDUs that are sent or taken against the rules, and packets that carry what they must not.
 ghost use Rattle.journal_pdus.specs.Exchanged.{AllAreNew};
+ghost use Rattle.journal_pdus.specs.journal_controls.journal_ends.Asked.{Words};
+ghost use Rattle.journal_pdus.specs.journal_sealing.SealedLines.{AllPayloadsAreOfLines};
 ghost use Rattle.journal_pdus.specs.journal_sending.Announced.{AllGoOutAtOnce};
 ghost use Rattle.journal_pdus.specs.journal_sending.NextPdus.{AllNewPdusAreNext};
 ghost use Rattle.journal_pdus.specs.journal_sending.Pending.{AllAreTakenAtOnce};
@@ -17,20 +19,20 @@ ghost use Rattle.wrong_journals.specs.Exchanges.{taken_otherwise, taken_though_l
 
 /// A side takes each PDU once, as the first good packet brings it, with its octets.
 pub fn wrong_taking_is_refused()
-    ensures twice { AllAreTakenAtOnce taken_twice → ⊥ }
-    ensures from_nothing { AllAreTakenAtOnce taken_from_nothing → ⊥ }
-    ensures never { AllAreTakenAtOnce never_taken → ⊥ }
-    ensures lost { AllAreTakenAtOnce taken_though_lost → ⊥ }
-    ensures otherwise { AllAreTakenAtOnce taken_otherwise → ⊥ }
+    ensures twice { (words : Words) → AllAreTakenAtOnce words taken_twice → ⊥ }
+    ensures from_nothing { (words : Words) → AllAreTakenAtOnce words taken_from_nothing → ⊥ }
+    ensures never { (words : Words) → AllAreTakenAtOnce words never_taken → ⊥ }
+    ensures lost { (words : Words) → AllAreTakenAtOnce words taken_though_lost → ⊥ }
+    ensures otherwise { (words : Words) → AllAreTakenAtOnce words taken_otherwise → ⊥ }
 {}
 
 /// A `sent` line is of the next piece of what the host submitted, with the next number, once all
 /// before it is acknowledged, and its packet is the next line of its side.
 pub fn wrong_sending_is_refused()
-    ensures otherwise { AllNewPdusAreNext sent_otherwise → ⊥ }
-    ensures misnumbered { AllNewPdusAreNext sent_misnumbered → ⊥ }
-    ensures continuation { AllNewPdusAreNext sent_as_continuation → ⊥ }
-    ensures from_nothing { AllNewPdusAreNext sent_from_nothing → ⊥ }
+    ensures otherwise { (words : Words) → AllNewPdusAreNext words sent_otherwise → ⊥ }
+    ensures misnumbered { (words : Words) → AllNewPdusAreNext words sent_misnumbered → ⊥ }
+    ensures continuation { (words : Words) → AllNewPdusAreNext words sent_as_continuation → ⊥ }
+    ensures from_nothing { (words : Words) → AllNewPdusAreNext words sent_from_nothing → ⊥ }
     ensures too_early { AllAreNew sent_too_early → ⊥ }
     ensures no_packet { AllGoOutAtOnce sent_without_packet → ⊥ }
 {}
@@ -38,18 +40,18 @@ pub fn wrong_sending_is_refused()
 /// A packet has the channel of its event, the SN and NESN that the lines before it give, the PDU of
 /// the last `sent` line of its side, and MD where more waits; and no empty PDU while data waits.
 pub fn wrong_packets_are_refused()
-    ensures empty { AllTellWhatWaits empty_while_data_waits → ⊥ }
-    ensures number { AllTellWhatWaits number_stays → ⊥ }
-    ensures no_line { AllTellWhatWaits packet_without_line → ⊥ }
-    ensures otherwise { AllTellWhatWaits packet_otherwise → ⊥ }
-    ensures more { AllTellWhatWaits more_than_waits → ⊥ }
-    ensures less { AllTellWhatWaits less_than_waits → ⊥ }
-    ensures channel { AllTellWhatWaits another_channel → ⊥ }
+    ensures empty { (words : Words) → AllTellWhatWaits words empty_while_data_waits → ⊥ }
+    ensures number { (words : Words) → AllTellWhatWaits words number_stays → ⊥ }
+    ensures no_line { (words : Words) → AllTellWhatWaits words packet_without_line → ⊥ }
+    ensures otherwise { (words : Words) → AllPayloadsAreOfLines words packet_otherwise → ⊥ }
+    ensures more { (words : Words) → AllTellWhatWaits words more_than_waits → ⊥ }
+    ensures less { (words : Words) → AllTellWhatWaits words less_than_waits → ⊥ }
+    ensures channel { (words : Words) → AllTellWhatWaits words another_channel → ⊥ }
 {}
 
 /// The packet of a `sent` line is in the turn of that line, and a side takes a PDU in the turn of its
 /// packet.
 pub fn wrong_turns_of_exchanges_are_refused()
-    ensures sent { AllAreAtRest sent_in_another_turn → ⊥ }
-    ensures taken { AllAreAtRest taken_in_another_turn → ⊥ }
+    ensures sent { (words : Words) → AllAreAtRest words sent_in_another_turn → ⊥ }
+    ensures taken { (words : Words) → AllAreAtRest words taken_in_another_turn → ⊥ }
 {}

@@ -1,5 +1,7 @@
 //! Data and credits that a host must not receive, or does not receive.
+ghost use Rattle.journal_pdus.specs.journal_controls.journal_ends.Asked.{Words};
 ghost use Rattle.journal_pdus.specs.journal_data.Delivered.{AllDataArrives};
+ghost use Rattle.journal_pdus.specs.journal_sealing.Mixed.{is_mixed};
 ghost use Rattle.journal_pdus.specs.AtOnce.{AllAreCreditedAtOnce};
 ghost use Rattle.journal_pdus.specs.Exchanged.{AllAreSettled, AllAreSettledAsShut};
 ghost use Rattle.wrong_journals.specs.Hosts.{credit_after_packet, credit_from_nothing};
@@ -10,9 +12,9 @@ ghost use Rattle.wrong_journals.specs.Hosts.{up_as_continuation, up_from_nothing
 /// A host receives what its side took, once and with the starts of messages, before the next turn,
 /// and before the link is shut after the packets of a turn.
 pub fn wrong_data_is_refused()
-    ensures from_nothing { AllDataArrives up_from_nothing → ⊥ }
-    ensures twice { AllDataArrives up_twice → ⊥ }
-    ensures continuation { AllDataArrives up_as_continuation → ⊥ }
+    ensures from_nothing { (words : Words) → AllDataArrives (is_mixed words) up_from_nothing → ⊥ }
+    ensures twice { (words : Words) → AllDataArrives (is_mixed words) up_twice → ⊥ }
+    ensures continuation { (words : Words) → AllDataArrives (is_mixed words) up_as_continuation → ⊥ }
     ensures never { AllAreSettled never_up → ⊥ }
     ensures shut { AllAreSettledAsShut shut_before_up → ⊥ }
 {}
@@ -20,8 +22,8 @@ pub fn wrong_data_is_refused()
 /// A packet is credited once, after its acknowledgement and before the next turn; one without octets
 /// before the packets of its turn.
 pub fn wrong_credits_are_refused()
-    ensures from_nothing { AllDataArrives credit_from_nothing → ⊥ }
-    ensures twice { AllDataArrives credit_twice → ⊥ }
+    ensures from_nothing { (words : Words) → AllDataArrives (is_mixed words) credit_from_nothing → ⊥ }
+    ensures twice { (words : Words) → AllDataArrives (is_mixed words) credit_twice → ⊥ }
     ensures too_early { AllAreSettled credit_too_early → ⊥ }
     ensures never { AllAreSettled never_credited → ⊥ }
     ensures after_packet { AllAreCreditedAtOnce credit_after_packet → ⊥ }

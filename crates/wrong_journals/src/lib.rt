@@ -5,6 +5,7 @@
 mod alike;
 mod answers;
 mod commanded;
+mod encrypting;
 mod events;
 mod exchanges;
 mod hearings;
@@ -24,6 +25,7 @@ pub use crate::answers::{missed_answers_are_refused, unopened_links_are_refused}
 pub use crate::commanded::{
     late_taking_is_refused, wrong_more_bits_are_refused, wrong_pdus_are_refused,
 };
+pub use crate::encrypting::{failures_without_forgeries_are_refused, wrong_starts_are_refused};
 pub use crate::events::{wrong_links_are_refused, wrong_orders_of_events_are_refused};
 pub use crate::exchanges::{
     wrong_packets_are_refused, wrong_sending_is_refused, wrong_taking_is_refused,

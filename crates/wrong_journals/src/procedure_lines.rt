@@ -6,6 +6,7 @@ ghost use Rattle.ble_base.specs.declared.roles.Side.TheVariants.{A, B};
 ghost use Rattle.journal.specs.declared.entries.Entry.TheVariants.{Began, Done, Enter, Took};
 ghost use Rattle.journal_pdus.specs.journal_controls.LinesDue.{applied_with, due_saying};
 ghost use Rattle.journal_pdus.specs.journal_controls.Rows.{version_asked, version_pdu};
+ghost use Rattle.journal_pdus.specs.journal_controls.journal_ends.Asked.{Words};
 ghost use Rattle.journal_pdus.specs.journal_due.ProcedureLines.{AllIndicationsAreDue};
 ghost use Rattle.journal_pdus.specs.journal_due.ProcedureLines.{AllProceduresAreDue, NoneIsLeftOut};
 ghost use Rattle.journal_pdus.specs.journal_due.ProcedureLines.{first_of, procedure_line};
@@ -21,16 +22,16 @@ ghost use Rattle.wrong_journals.specs.ProcedureLines.{refused_untaken, version_r
 /// taken. An indication comes into force in the event of its Instant, and not before; that event is
 /// entered (Core 5.2, volume 6 part B, sections 5.1 and 5.5).
 pub fn wrong_lines_of_procedures_are_refused()
-    ensures unasked { AllProceduresAreDue begun_unasked → ⊥ }
-    ensures no_event { AllProceduresAreDue begun_before_events → ⊥ }
-    ensures done { AllProceduresAreDue done_untaken → ⊥ }
-    ensures refused { AllProceduresAreDue refused_untaken → ⊥ }
-    ensures at_once { NoneIsLeftOut applied_at_once → ⊥ }
-    ensures untaken { NoneIsLeftOut applied_before_events → ⊥ }
-    ensures early { AllIndicationsAreDue applied_early → ⊥ }
-    ensures misnumbered { AllIndicationsAreDue applied_misnumbered → ⊥ }
-    ensures never { AllIndicationsAreDue applied_never → ⊥ }
-    ensures unentered { NoneIsLeftOut applied_unentered → ⊥ }
+    ensures unasked { (words : Words) → AllProceduresAreDue words begun_unasked → ⊥ }
+    ensures no_event { (words : Words) → AllProceduresAreDue words begun_before_events → ⊥ }
+    ensures done { (words : Words) → AllProceduresAreDue words done_untaken → ⊥ }
+    ensures refused { (words : Words) → AllProceduresAreDue words refused_untaken → ⊥ }
+    ensures at_once { (words : Words) → NoneIsLeftOut words applied_at_once → ⊥ }
+    ensures untaken { (words : Words) → NoneIsLeftOut words applied_before_events → ⊥ }
+    ensures early { (words : Words) → AllIndicationsAreDue words applied_early → ⊥ }
+    ensures misnumbered { (words : Words) → AllIndicationsAreDue words applied_misnumbered → ⊥ }
+    ensures never { (words : Words) → AllIndicationsAreDue words applied_never → ⊥ }
+    ensures unentered { (words : Words) → NoneIsLeftOut words applied_unentered → ⊥ }
 {}
 
 /// At an end of which a procedure runs: another one does not begin; an exchange

@@ -3,7 +3,7 @@ ghost use Rattle.std.specs.Prelude.{ℕ, List, [], ◌∷◌};
 ghost use Rattle.ble_base.specs.declared.Config.{Config};
 ghost use Rattle.ble_base.specs.declared.roles.Side.TheVariants.{A};
 ghost use Rattle.ble_base.specs.declared.verdicts.Verdict.TheVariants.{Broken, Forged, Good};
-ghost use Rattle.journal.specs.declared.entries.Mark.TheVariants.{Damage, Lost, Pass};
+ghost use Rattle.journal.specs.declared.entries.Mark.TheVariants.{Damage, Lost};
 ghost use Rattle.journal_pdus.specs.journal_turns.Judged.{IsJudged};
 ghost use Rattle.journal_pdus.specs.journal_turns.Radios.{AllAreOnRadio};
 ghost use Rattle.journal_pdus.specs.journal_turns.Scheduled.{AllHaveNextFate, AreAllTurns, AreFirstTurns};
@@ -49,12 +49,13 @@ pub fn wrong_radios_are_refused()
     ensures hears { (a b : Config) → AllAreOnRadio (without_b a b) heard_without_radio → ⊥ }
 {}
 
-/// A lost packet is missed, a packet that is judged good is heard as it was sent, and none is forged.
+/// A lost packet is missed, and so it is not judged forged, and a packet that is judged good is heard
+/// as it was sent.
 pub fn wrong_verdicts_are_refused()
     ensures lost_good { (octets : List ℕ) → IsJudged octets Lost Good → ⊥ }
     ensures lost_broken { (octets : List ℕ) → IsJudged octets Lost Broken → ⊥ }
     ensures changed { (octets : List ℕ) → IsJudged (0x00 ∷ octets) (Damage 0 (0x01 ∷ [])) Good → ⊥ }
-    ensures forged { (octets : List ℕ) → IsJudged octets Pass Forged → ⊥ }
+    ensures forged { (octets : List ℕ) → IsJudged octets Lost Forged → ⊥ }
 {}
 
 /// A run may stop in turn 0 at the first packet, whose first octet is changed. It does not stop in

@@ -9,6 +9,7 @@ use Rattle.link_changes.specs.Worked.{update_octets}
 use Rattle.link_changes.specs.data_pdu.Layouts.{makers}
 use Rattle.link_changes.specs.data_pdu.Reading.{ctrl_of}
 use Rattle.link_changes.proofs.Notes.{event_more}
+use Rattle.journal_data.specs.Followed.{none_mixed}
 use Rattle.journal_data.specs.journal_links.Changes.{notes_said}
 use Rattle.journal_data.specs.journal_links.Rows.{one_link, update_sent}
 use Rattle.link_indications.specs.InTime.{IsTakenInTime}
@@ -23,11 +24,15 @@ returns c =
     record {
       read = record { earlier = []; is = refl };
       in_time = All-cons IsTakenInTime _ [] (omega arith) (All-nil IsTakenInTime);
-      another = λ front is_link all. read_wrong front update_sent (Applied A 1 1 7 ∷ []) 0 7
+      another = λ front is_link all. read_wrong none_mixed front update_sent (Applied A 1 1 7 ∷ []) 0 7 refl
           (ap event_noted (said_more A 1 front update_sent) ∙ event_more (notes_said A 1 front) (notes_said A 1 update_sent))
           (sent_more 1 one_link front update_sent)
           refl (omega arith) (λ is. let h : 6 ≡ 7 = is in absurd cc) is_link all;
-      ahead = λ front is_link all. read_wrong front ahead [] 65536 6
+      unmixed = λ front mixed is_link unmixed all. read_wrong mixed front update_sent (Applied A 1 1 7 ∷ []) 0 7 unmixed
+          (ap event_noted (said_more A 1 front update_sent) ∙ event_more (notes_said A 1 front) (notes_said A 1 update_sent))
+          (sent_more 1 one_link front update_sent)
+          refl (omega arith) (λ is. let h : 6 ≡ 7 = is in absurd cc) is_link all;
+      ahead = λ front is_link all. read_wrong none_mixed front ahead [] 65536 6 refl
           (ap event_noted (said_more A 1 front ahead) ∙ event_more (notes_said A 1 front) (notes_said A 1 ahead))
           (sent_more 1 one_link front ahead)
           refl (omega arith) (λ is. let h : 6 ≡ 65542 = is in absurd cc) is_link all;

@@ -1,5 +1,6 @@
 -- The proof of the law `rejected_procedures_are_refused`.
 use Rattle.std.proofs.Common.{◌≡◌, [], ◌∷◌, refl}
+use Rattle.journal_endings.specs.journal_indications.journal_data.Followed.{Follows, Mixed}
 use Rattle.journal_endings.specs.journal_indications.journal_data.run_model.Journal.{journal_of}
 use Rattle.journal_endings.specs.journal_indications.journal_data.run_model.LinkEnds.{HaveAddresses}
 use Rattle.journal_endings.specs.journal_indications.journal_data.run_model.Pair.{given_of}
@@ -11,10 +12,11 @@ use Rattle.journal_collisions.proofs.laws.rejected_procedures_are_refused.Goals 
 
 pub returns : goal.returns
 returns c =
-    let of_two : (given : Given) → given.stations ≡ 0 ∷ 1 ∷ [] → HaveAddresses given → AllAreRefused (journal_of (history_of (run_of given))) =
-    λ given are six. all_refused c.packet_tells_its_pdu.ensures.heard c.a_pdu_is_understood.ensures.says c.connections_are_taken.ensures.taken
-    c.searches_give_each_valid_address.ensures.valid c.searches_give_each_valid_address.ensures.distinct given are six
+    let of_two : (given : Given) (mixed : Mixed) → given.stations ≡ 0 ∷ 1 ∷ [] → HaveAddresses given → Follows given mixed
+    → AllAreRefused mixed (journal_of (history_of (run_of given))) =
+    λ given mixed are six follows. all_refused c.packet_tells_its_pdu.ensures.heard c.a_pdu_is_understood.ensures.says c.connections_are_taken.ensures.taken
+    c.searches_give_each_valid_address.ensures.valid c.searches_give_each_valid_address.ensures.distinct given are six mixed follows
     c.rejected_procedures_are_refused_in_each_run.ensures in record {
       two_stations = of_two;
-      pair = λ a b script six six_too. of_two (given_of a b script) refl (pair_addresses a b script six six_too);
+      pair = λ a b script mixed six six_too. of_two (given_of a b script) mixed refl (pair_addresses a b script six six_too);
     }

@@ -1,5 +1,5 @@
 -- Proof of `rows::wrong_collisions_are_refused`: another PDU comes next, or another line.
-use Rattle.std.proofs.Common.{◌≡◌, ◌⊎◌, inl, inr, ℕ, List, [], ◌∷◌, Option, Some, refl, sym, ap, ◌∙◌}
+use Rattle.std.proofs.Common.{◌≡◌, ◌⊎◌, inl, inr, ℕ, true, false, List, [], ◌∷◌, Option, Some, refl, sym, ap, ◌∙◌}
 use Rattle.ble_base.specs.ChannelMap.{data_channels, used_channels}
 use Rattle.ble_base.specs.declared.procedure_kinds.Kind.TheVariants.{Map, Request}
 use Rattle.ble_base.specs.declared.roles.Side.TheVariants.{A, B}
@@ -36,34 +36,38 @@ pub returns-clause-error : goal.returns-clause-error
 unfolding ctrl_of makers length_of
 returns-clause-error c lawful =
     neither (rejection 0x0F 0x23) (RejectExtInd 0x0F 0x23) refl (λ same. absurd cc) (λ code same. absurd cc)
-    (lawful both_begun [] [] one_link 1 1 3 request_octets 1 3 (rejection 0x0F 0x23) Map Request refl it_collides refl)
+    (lawful both_begun [] [] one_link 1 1 3 request_octets 1 3 (rejection 0x0F 0x23) Map Request refl refl it_collides refl)
 
 pub returns-clause-opcode : goal.returns-clause-opcode
 unfolding ctrl_of makers length_of
 returns-clause-opcode c lawful =
     neither (rejection 0x10 0x2A) (RejectExtInd 0x10 0x2A) refl (λ same. absurd cc) (λ code same. absurd cc)
-    (lawful both_begun [] [] one_link 1 1 3 request_octets 1 3 (rejection 0x10 0x2A) Map Request refl it_collides refl)
+    (lawful both_begun [] [] one_link 1 1 3 request_octets 1 3 (rejection 0x10 0x2A) Map Request refl refl it_collides refl)
 
 pub returns-clause-second : goal.returns-clause-second
 unfolding ctrl_of makers length_of data_channels used_channels
 returns-clause-second c lawful =
     neither map_octets (ChannelMapInd 0x0FFFFFFFFF 6) refl (λ same. absurd cc) (λ code same. absurd cc)
-    (lawful both_begun [] (Sent B 1 2 3 (rejection 0x0F 0x2A) ∷ []) one_link 1 1 3 request_octets 1 3 map_octets Map Request refl it_collides refl)
+    (lawful both_begun [] (Sent B 1 2 3 (rejection 0x0F 0x2A) ∷ []) one_link 1 1 3 request_octets 1 3 map_octets Map Request refl refl it_collides refl)
 
 pub returns-clause-indication : goal.returns-clause-indication
 unfolding ctrl_of makers length_of data_channels used_channels
 returns-clause-indication c lawful =
     neither map_octets (ChannelMapInd 0x0FFFFFFFFF 6) refl (λ same. absurd cc) (λ code same. absurd cc)
-    (lawful both_begun [] [] one_link 1 1 3 request_octets 1 3 map_octets Map Request refl it_collides refl)
+    (lawful both_begun [] [] one_link 1 1 3 request_octets 1 3 map_octets Map Request refl refl it_collides refl)
 
 pub returns-clause-refused : goal.returns-clause-refused
 unfolding ctrl_of makers length_of
 returns-clause-refused c lawful =
-    let follows = lawful both_begun [] [] (Refused A 1 Request (record { 0 = 0x23 }) ∷ []) one_link 1 1 3 request_octets 1 3 (rejection 0x0F 0x2A) Map Request refl it_collides refl refl in
+    let follows = lawful both_begun [] [] (Refused A 1 Request (record { 0 = 0x23 }) ∷ []) one_link 1 1 3 request_octets 1 3 (rejection 0x0F 0x2A) Map Request refl refl it_collides refl refl in
     errors_differ (ap error_in follows)
 
 pub returns-clause-done : goal.returns-clause-done
 unfolding ctrl_of makers length_of
 returns-clause-done c lawful =
-    let follows = lawful both_begun [] [] (Done A 1 Request ∷ []) one_link 1 1 3 request_octets 1 3 (rejection 0x0F 0x2A) Map Request refl it_collides refl refl in
+    let follows = lawful both_begun [] [] (Done A 1 Request ∷ []) one_link 1 1 3 request_octets 1 3 (rejection 0x0F 0x2A) Map Request refl refl it_collides refl refl in
     absurd cc
+
+pub returns-clause-mixed : goal.returns-clause-mixed
+returns-clause-mixed c = λ front between later rest link number count llid body next_count next_llid next p q is unmixed.
+    absurd (let h : true ≡ false = unmixed in absurd cc)

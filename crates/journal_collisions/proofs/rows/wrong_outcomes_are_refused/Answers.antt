@@ -20,10 +20,10 @@ pub returns-clause-update : goal.returns-clause-update
 unfolding little_endian ctrl_of makers length_of
 returns-clause-update c lawful =
     neither
-    (lawful both_begun (Sent B 1 1 3 (rejection 0x0F 0x2A) ∷ []) [] one_link 1 1 3 request_octets 2 3 update_octets Map Request Update refl it_collides refl)
+    (lawful both_begun (Sent B 1 1 3 (rejection 0x0F 0x2A) ∷ []) [] one_link 1 1 3 request_octets 2 3 update_octets Map Request Update refl refl it_collides refl)
 
 pub returns-clause-map : goal.returns-clause-map
 unfolding little_endian ctrl_of makers length_of data_channels used_channels
 returns-clause-map c lawful =
     neither
-    (lawful both_begun (Sent B 1 1 3 (rejection 0x0F 0x2A) ∷ Done B 1 Map ∷ []) [] one_link 1 1 3 request_octets 2 3 map_octets Map Request Map refl it_collides refl)
+    (lawful both_begun (Sent B 1 1 3 (rejection 0x0F 0x2A) ∷ Done B 1 Map ∷ []) [] one_link 1 1 3 request_octets 2 3 map_octets Map Request Map refl refl it_collides refl)

@@ -5,7 +5,7 @@ use Rattle.journal_controls.proofs.calls.a_call_moves_the_control_part_by_its_li
 
 pub returns : goal.returns
 returns c = record {
-  turn = λ given side number station call history more k no_octet.
-      call_moves given side number station call history more k (turn_answers given side station call history no_octet);
-  asked = call_asks;
+  turn = λ words given side number station call history more k kept none.
+      call_moves words given side number station call history more k kept (turn_answers given side station call history none);
+  asked = λ words given side number station call history asked k. call_asks words given side number station call history asked k;
 }

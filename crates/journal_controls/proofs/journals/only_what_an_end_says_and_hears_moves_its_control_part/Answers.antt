@@ -8,9 +8,9 @@ use Rattle.journal_controls.proofs.journals.only_what_an_end_says_and_hears_move
 pub returns : goal.returns
 unfolding control_on
 returns c = record {
-  begins = λ side number handle role journal link is.
-      keyed_more side number journal (Opened side number handle role) ∙ opened_line side number handle role journal (keyed_on side number journal) link is;
-  stays = λ side number journal line none unanswered.
-      keyed_more side number journal line ∙ quiet_line side number journal (keyed_on side number journal) line none unanswered;
-  part = λ side number journal. refl;
+  begins = λ words side number handle role journal link is.
+      keyed_more words side number journal (Opened side number handle role) ∙ opened_line words side number handle role journal (keyed_on words side number journal) link is;
+  stays = λ words side number journal line none unanswered.
+      keyed_more words side number journal line ∙ quiet_line words side number journal (keyed_on words side number journal) line none unanswered;
+  part = λ words side number journal. refl;
 }

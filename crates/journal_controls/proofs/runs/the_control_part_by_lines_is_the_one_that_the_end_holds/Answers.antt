@@ -1,22 +1,22 @@
 -- Proof of `runs::the_control_part_by_lines_is_the_one_that_the_end_holds`.
-use Rattle.journal_ends.proofs.run_model.Stations.{contains_in}
-use Rattle.journal_controls.proofs.RunControls.{control_at_end, control_before_call, control_before_packet, control_before_turn}
+use Rattle.std.proofs.Common.{ap}
+use Rattle.std.specs.Option.{option_map}
+use Rattle.journal_ends.specs.link_model.keyed_control.Keyed.{Keyed}
+use Rattle.journal_controls.specs.LineSteps.{control_on}
 use Rattle.journal_controls.proofs.runs.the_control_part_by_lines_is_the_one_that_the_end_holds.Goals as goal
 
+-- it is that part of the keys
 pub returns : goal.returns
+unfolding control_on
 returns c =
-    let whole = c.packet_tells_its_pdu.ensures.heard in
-    let understood = c.a_pdu_is_understood.ensures.says in
-    let taken = c.connections_are_taken.ensures.taken in
-    let nth = c.searches_give_each_valid_address.ensures.valid in
-    let apart = c.searches_give_each_valid_address.ensures.distinct in record {
-      before_a_call = λ given before rest step station handle link are six contains at is_open.
-          control_before_call whole understood taken nth apart given are six before rest station step at (contains_in given.stations station contains) handle link is_open;
-      before_a_packet = λ given before rest sender channel octets hearings station handle link are six contains at is_open.
-          control_before_packet whole understood taken nth apart given are six before rest sender channel octets hearings at station (contains_in given.stations station contains) handle link
-          is_open;
-      before_a_turn = λ given before rest slot radios station handle link are six contains at is_open.
-          control_before_turn whole understood taken nth apart given are six before rest slot radios at station (contains_in given.stations station contains) handle link is_open;
-      at_the_end = λ given station handle link are six contains is_open.
-          control_at_end whole understood taken nth apart given are six station (contains_in given.stations station contains) handle link is_open;
+    let keys = c.the_keys_by_lines_are_those_that_the_end_holds.ensures in record {
+      before_a_call = λ words given before rest step station handle link are six gives contains at is_open.
+          ap (option_map (λ (k : Keyed). k.phased.control)) (keys.before_a_call words given before rest step station handle link are six gives contains at is_open);
+      before_a_packet = λ words given before rest sender channel octets hearings station handle link are six gives contains at is_open.
+          ap (option_map (λ (k : Keyed). k.phased.control))
+          (keys.before_a_packet words given before rest sender channel octets hearings station handle link are six gives contains at is_open);
+      before_a_turn = λ words given before rest slot radios station handle link are six gives contains at is_open.
+          ap (option_map (λ (k : Keyed). k.phased.control)) (keys.before_a_turn words given before rest slot radios station handle link are six gives contains at is_open);
+      at_the_end = λ words given station handle link are six gives contains is_open.
+          ap (option_map (λ (k : Keyed). k.phased.control)) (keys.at_the_end words given station handle link are six gives contains is_open);
     }

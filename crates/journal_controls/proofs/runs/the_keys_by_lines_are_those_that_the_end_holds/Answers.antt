@@ -10,13 +10,13 @@ returns c =
     let taken = c.connections_are_taken.ensures.taken in
     let nth = c.searches_give_each_valid_address.ensures.valid in
     let apart = c.searches_give_each_valid_address.ensures.distinct in record {
-      before_a_call = λ given before rest step station handle link are six contains at is_open.
-          keyed_before_call whole understood taken nth apart given are six before rest station step at (contains_in given.stations station contains) handle link is_open;
-      before_a_packet = λ given before rest sender channel octets hearings station handle link are six contains at is_open.
-          keyed_before_packet whole understood taken nth apart given are six before rest sender channel octets hearings at station (contains_in given.stations station contains) handle link
+      before_a_call = λ words given before rest step station handle link are six gives contains at is_open.
+          keyed_before_call words whole understood taken nth apart given are six gives before rest station step at (contains_in given.stations station contains) handle link is_open;
+      before_a_packet = λ words given before rest sender channel octets hearings station handle link are six gives contains at is_open.
+          keyed_before_packet words whole understood taken nth apart given are six gives before rest sender channel octets hearings at station (contains_in given.stations station contains) handle link
           is_open;
-      before_a_turn = λ given before rest slot radios station handle link are six contains at is_open.
-          keyed_before_turn whole understood taken nth apart given are six before rest slot radios at station (contains_in given.stations station contains) handle link is_open;
-      at_the_end = λ given station handle link are six contains is_open.
-          keyed_at_end whole understood taken nth apart given are six station (contains_in given.stations station contains) handle link is_open;
+      before_a_turn = λ words given before rest slot radios station handle link are six gives contains at is_open.
+          keyed_before_turn words whole understood taken nth apart given are six gives before rest slot radios at station (contains_in given.stations station contains) handle link is_open;
+      at_the_end = λ words given station handle link are six gives contains is_open.
+          keyed_at_end words whole understood taken nth apart given are six gives station (contains_in given.stations station contains) handle link is_open;
     }

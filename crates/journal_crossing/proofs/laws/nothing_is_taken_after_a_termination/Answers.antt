@@ -1,5 +1,6 @@
 -- The proof of the law `nothing_is_taken_after_a_termination`.
 use Rattle.std.proofs.Common.{◌≡◌, [], ◌∷◌, refl}
+use Rattle.journal_collisions.specs.journal_data.Followed.{Follows, Mixed}
 use Rattle.journal_collisions.specs.journal_data.run_model.Journal.{journal_of}
 use Rattle.journal_collisions.specs.journal_data.run_model.LinkEnds.{HaveAddresses}
 use Rattle.journal_collisions.specs.journal_data.run_model.Pair.{given_of}
@@ -11,15 +12,17 @@ use Rattle.journal_crossing.proofs.laws.nothing_is_taken_after_a_termination.Goa
 
 pub returns : goal.returns
 returns c =
-    let of_two : (given : Given) → given.stations ≡ 0 ∷ 1 ∷ [] → HaveAddresses given → NoneIsTakenAfterTermination (journal_of (history_of (run_of given))) =
-    λ given are six. none_after c.packet_tells_its_pdu.ensures.heard c.a_pdu_is_understood.ensures.says c.connections_are_taken.ensures.taken
-    c.searches_give_each_valid_address.ensures.valid c.searches_give_each_valid_address.ensures.distinct given are six
+    let of_two : (given : Given) (mixed : Mixed) → given.stations ≡ 0 ∷ 1 ∷ [] → HaveAddresses given → Follows given mixed
+    → NoneIsTakenAfterTermination mixed (journal_of (history_of (run_of given))) =
+    λ given mixed are six follows. none_after c.packet_tells_its_pdu.ensures.heard c.a_pdu_is_understood.ensures.says c.connections_are_taken.ensures.taken
+    c.searches_give_each_valid_address.ensures.valid c.searches_give_each_valid_address.ensures.distinct given are six mixed follows
     (record {
       central = c.control_pdus_do_not_cross_in_each_run.ensures.central;
       peripheral = c.control_pdus_do_not_cross_in_each_run.ensures.peripheral;
       lasts = c.control_pdus_do_not_cross_in_each_run.ensures.lasts;
+      agree = c.ends_that_last_are_sound.ensures.agreement;
     })
     c.an_end_that_took_a_termination_is_over.ensures in record {
       two_stations = of_two;
-      pair = λ a b script six six_too. of_two (given_of a b script) refl (pair_addresses a b script six six_too);
+      pair = λ a b script mixed six six_too. of_two (given_of a b script) mixed refl (pair_addresses a b script six six_too);
     }

@@ -13,5 +13,5 @@ returns c = record {
   request_taken = refl;
   rejection_sent = refl;
   rejection_taken = refl;
-  plain = record { ctrl = RejectExtInd 0x0F 0x2A; is = refl; plain = refl };
+  known = record { ctrl = RejectExtInd 0x0F 0x2A; is = refl };
 }

@@ -4,6 +4,6 @@ use Rattle.journal_due.proofs.ends.an_end_says_nothing_of_procedures_in_other_st
 
 pub returns : goal.returns
 returns c = record {
-  each = λ side number setup facts step journal none rests. (other_step_told side number setup facts step journal none rests).each;
-  left = λ side number setup facts step journal none rests. (other_step_told side number setup facts step journal none rests).left;
+  each = λ words side number setup facts step journal none rests. (other_step_told words side number setup facts step journal none rests).each;
+  left = λ words side number setup facts step journal none rests. (other_step_told words side number setup facts step journal none rests).left;
 }

@@ -5,8 +5,8 @@ use Rattle.journal_due.proofs.ends.an_end_that_enters_an_event_says_what_is_due.
 
 pub returns : goal.returns
 returns c = record {
-  each = λ side number setup past journal is rests.
-      (entering_told side number setup (facts_of setup past) journal is rests).each;
-  left = λ side number setup past journal is rests.
-      (entering_told side number setup (facts_of setup past) journal is rests).left;
+  each = λ words side number setup past journal is rests.
+      (entering_told words side number setup (facts_of setup past) journal is rests).each;
+  left = λ words side number setup past journal is rests.
+      (entering_told words side number setup (facts_of setup past) journal is rests).left;
 }

@@ -7,8 +7,8 @@ use Rattle.journal_due.proofs.ends.an_end_that_takes_a_packet_says_what_is_due.G
 
 pub returns : goal.returns
 returns c = record {
-  each = λ side number setup past octets pdu room journal good is on.
-      (receiving_told side number journal setup (facts_of setup past) octets pdu room (turn_now journal) refl good is on).each;
-  left = λ side number setup past octets pdu room journal good is on.
-      (receiving_told side number journal setup (facts_of setup past) octets pdu room (turn_now journal) refl good is on).left;
+  each = λ words side number setup past octets pdu room journal good is on.
+      (receiving_told words side number journal setup (facts_of setup past) octets pdu room (turn_now journal) refl good is on).each;
+  left = λ words side number setup past octets pdu room journal good is on.
+      (receiving_told words side number journal setup (facts_of setup past) octets pdu room (turn_now journal) refl good is on).left;
 }

@@ -18,4 +18,9 @@ use Rattle.journal_due.proofs.rows.worked_due_lines.Goals as goal
 
 pub returns : goal.returns
 unfolding keyed_on lines_due applied_last exchange_of sent_line_of link_of_packet is_answer links_begun pdu_heard heard_in read_of kept_bits crc crc_octets crc_of_bits remainder mask_of next_mask whitening_bit whitening_of little_endian
-returns c = record { event = refl; began = λ is. absurd cc; no_indication = refl; indication = λ is. absurd cc }
+returns c = record {
+  event = λ words. refl;
+  began = λ words is. absurd cc;
+  no_indication = λ words. refl;
+  indication = λ words is. absurd cc;
+}

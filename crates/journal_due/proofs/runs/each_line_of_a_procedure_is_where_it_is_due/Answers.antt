@@ -10,10 +10,10 @@ returns c =
     let taken = c.connections_are_taken.ensures.taken in
     let nth = c.searches_give_each_valid_address.ensures.valid in
     let apart = c.searches_give_each_valid_address.ensures.distinct in record {
-      procedures = λ given are six. procedures_due whole understood taken nth apart given are six (controls_known whole understood taken nth apart given are six);
-      indications = λ given are six. indications_due whole understood taken nth apart given are six (controls_known whole understood taken nth apart given are six);
-      none_left_out = λ given are six. none_left_out whole understood taken nth apart given are six (controls_known whole understood taken nth apart given are six);
-      before_a_turn = λ given before rest slot radios are six at.
-          none_before_turns whole understood taken nth apart given are six (controls_known whole understood taken nth apart given are six) before rest slot radios at;
-      at_the_end = λ given are six. none_at_end whole understood taken nth apart given are six (controls_known whole understood taken nth apart given are six);
+      procedures = λ words given are six gives. procedures_due words whole understood taken nth apart given are six gives (controls_known words whole understood taken nth apart given are six gives);
+      indications = λ words given are six gives. indications_due words whole understood taken nth apart given are six gives (controls_known words whole understood taken nth apart given are six gives);
+      none_left_out = λ words given are six gives. none_left_out words whole understood taken nth apart given are six gives (controls_known words whole understood taken nth apart given are six gives);
+      before_a_turn = λ words given before rest slot radios are six gives at.
+          none_before_turns words whole understood taken nth apart given are six gives (controls_known words whole understood taken nth apart given are six gives) before rest slot radios at;
+      at_the_end = λ words given are six gives. none_at_end words whole understood taken nth apart given are six gives (controls_known words whole understood taken nth apart given are six gives);
     }

@@ -1,5 +1,6 @@
 -- The proof of the law `no_link_ends_by_a_protocol_error`.
 use Rattle.std.proofs.Common.{◌≡◌, [], ◌∷◌, refl}
+use Rattle.journal_indications.specs.journal_data.Followed.{Follows, Mixed}
 use Rattle.journal_indications.specs.journal_data.run_model.Journal.{journal_of}
 use Rattle.journal_indications.specs.journal_data.run_model.LinkEnds.{HaveAddresses}
 use Rattle.journal_indications.specs.journal_data.run_model.Pair.{given_of}
@@ -11,10 +12,11 @@ use Rattle.journal_endings.proofs.laws.no_link_ends_by_a_protocol_error.Goals as
 
 pub returns : goal.returns
 returns c =
-    let of_two : (given : Given) → given.stations ≡ 0 ∷ 1 ∷ [] → HaveAddresses given → NoneEndsByProtocolError (journal_of (history_of (run_of given))) =
-    λ given are six. none_ends c.packet_tells_its_pdu.ensures.heard c.a_pdu_is_understood.ensures.says c.connections_are_taken.ensures.taken
-    c.searches_give_each_valid_address.ensures.valid c.searches_give_each_valid_address.ensures.distinct given are six
-    (c.no_procedure_ends_a_link_but_a_late_one.ensures.procedures given) in record {
+    let of_two : (given : Given) (mixed : Mixed) → given.stations ≡ 0 ∷ 1 ∷ [] → HaveAddresses given → Follows given mixed
+    → NoneEndsByProtocolError mixed (journal_of (history_of (run_of given))) =
+    λ given mixed are six follows. none_ends c.packet_tells_its_pdu.ensures.heard c.a_pdu_is_understood.ensures.says c.connections_are_taken.ensures.taken
+    c.searches_give_each_valid_address.ensures.valid c.searches_give_each_valid_address.ensures.distinct given are six mixed follows
+    (c.no_procedure_ends_a_link_but_a_late_one.ensures.procedures given) (c.packets_of_a_link_are_read_as_sent.ensures given) in record {
       two_stations = of_two;
-      pair = λ a b script six six_too. of_two (given_of a b script) refl (pair_addresses a b script six six_too);
+      pair = λ a b script mixed six six_too. of_two (given_of a b script) mixed refl (pair_addresses a b script six six_too);
     }

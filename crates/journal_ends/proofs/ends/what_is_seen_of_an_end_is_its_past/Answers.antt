@@ -9,12 +9,12 @@ returns c =
     let taken = c.connections_are_taken.ensures.taken in
     let nth = c.searches_give_each_valid_address.ensures.valid in
     let apart = c.searches_give_each_valid_address.ensures.distinct in record {
-      before_a_call = λ given before rest step station handle link are six contains at is_open.
-          seen_before_call understood taken nth apart given are six before rest station step at (contains_in given.stations station contains) handle link is_open;
-      before_a_packet = λ given before rest sender channel octets hearings station handle link are six contains at is_open.
-          seen_before_packet understood taken nth apart given are six before rest sender channel octets hearings at station (contains_in given.stations station contains) handle link is_open;
-      before_a_turn = λ given before rest slot radios station handle link are six contains at is_open.
-          seen_before_turn understood taken nth apart given are six before rest slot radios at station (contains_in given.stations station contains) handle link is_open;
-      at_the_end = λ given station handle link are six contains is_open.
-          seen_at_end understood taken nth apart given are six station (contains_in given.stations station contains) handle link is_open;
+      before_a_call = λ words given before rest step station handle link are six gives contains at is_open.
+          seen_before_call words understood taken nth apart given are six gives before rest station step at (contains_in given.stations station contains) handle link is_open;
+      before_a_packet = λ words given before rest sender channel octets hearings station handle link are six gives contains at is_open.
+          seen_before_packet words understood taken nth apart given are six gives before rest sender channel octets hearings at station (contains_in given.stations station contains) handle link is_open;
+      before_a_turn = λ words given before rest slot radios station handle link are six gives contains at is_open.
+          seen_before_turn words understood taken nth apart given are six gives before rest slot radios at station (contains_in given.stations station contains) handle link is_open;
+      at_the_end = λ words given station handle link are six gives contains is_open.
+          seen_at_end words understood taken nth apart given are six gives station (contains_in given.stations station contains) handle link is_open;
     }

@@ -14,6 +14,6 @@ slot_in (Some good) = refl
 
 pub returns : goal.returns
 returns c = record {
-  by_lines = λ side number journal. sym (last_is side number journal);
+  by_lines = λ words side number journal. sym (last_is words side number journal);
   by_past = λ side number setup past. sym (past_slot side number setup past) ∙ slot_in (facts_of setup past).last_good;
 }

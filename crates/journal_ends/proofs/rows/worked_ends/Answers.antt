@@ -16,4 +16,4 @@ use Rattle.journal_ends.proofs.rows.worked_ends.Goals as goal
 
 pub returns : goal.returns
 unfolding seen_on link_of_packet is_answer links_begun pdu_heard heard_in read_of kept_bits crc crc_octets crc_of_bits remainder mask_of next_mask whitening_bit whitening_of little_endian frames command_of layout_of layouts
-returns c = record { central = refl; peripheral = refl; other_link = refl; last = refl }
+returns c = record { central = refl; peripheral = refl; other_link = refl; last = refl; forged = refl; last_before = refl }

@@ -4,9 +4,9 @@ use Rattle.journal_fixing.proofs.histories.a_packet_keeps_the_control_part_that_
 
 pub returns : goal.returns
 returns c = record {
-  fixed = λ side number station channel octets hearing history. packet_fixed side number history station channel octets hearing;
-  fixing = λ side number station channel octets hearing history. packet_fixing side number history station channel octets hearing;
-  unheard = λ side number station channel octets hearing history none. packet_unheard side number history station channel octets hearing none;
-  heard = λ side number station channel slot octets heard hearing history control none is was.
-      packet_heard side number history station channel octets hearing slot heard control none is was;
+  fixed = λ words side number station channel octets hearing history. packet_fixed words side number history station channel octets hearing;
+  fixing = λ words side number station channel octets hearing history. packet_fixing words side number history station channel octets hearing;
+  unheard = λ words side number station channel octets hearing history none. packet_unheard words side number history station channel octets hearing none;
+  heard = λ words side number station channel slot octets heard hearing history control none is was.
+      packet_heard words side number history station channel octets hearing slot heard control none is was;
 }

@@ -4,9 +4,9 @@ use Rattle.journal_fixing.proofs.histories.calls_keep_the_control_part_that_fixe
 
 pub returns : goal.returns
 returns c = record {
-  fixed = λ given side number station call history is. call_fixing side number history given station call is;
-  fixes = λ given side number station call history more control turn lines opens none was.
-      call_fixes side number history given station call turn more control lines opens none was;
-  heard = λ given side number station call history is. call_going side number history given station call is;
-  unheard = λ given side number station call history none. call_goes side number history given station call none;
+  fixed = λ words given side number station call history is. call_fixing words side number history given station call is;
+  fixes = λ words given side number station call history more control turn lines opens untaken none was.
+      call_fixes words side number history given station call turn more control lines opens untaken none was;
+  heard = λ words given side number station call history is. call_going words side number history given station call is;
+  unheard = λ words given side number station call history none. call_goes words side number history given station call none;
 }

@@ -4,11 +4,11 @@ use Rattle.journal_fixing.proofs.journals.the_control_part_is_kept_as_a_packet_i
 
 pub returns : goal.returns
 returns c = record {
-  begins = λ side number slot a_on b_on journal. going_begins side number journal slot a_on b_on;
-  unheard = λ side number slot a_on b_on journal. unheard_begins side number journal slot a_on b_on;
-  now = going_now;
-  heard = heard_is;
-  hears = going_answers;
-  stays = going_stays;
-  quiet = going_quiet;
+  begins = λ words side number slot a_on b_on journal. going_begins words side number journal slot a_on b_on;
+  unheard = λ words side number slot a_on b_on journal. unheard_begins words side number journal slot a_on b_on;
+  now = λ words. going_now words;
+  heard = λ words. heard_is words;
+  hears = λ words. going_answers words;
+  stays = λ words. going_stays words;
+  quiet = λ words. going_quiet words;
 }

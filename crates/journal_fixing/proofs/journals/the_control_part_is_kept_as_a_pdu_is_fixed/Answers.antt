@@ -4,10 +4,10 @@ use Rattle.journal_fixing.proofs.journals.the_control_part_is_kept_as_a_pdu_is_f
 
 pub returns : goal.returns
 returns c = record {
-  begins = λ side number slot a_on b_on journal. fixing_begins side number journal slot a_on b_on;
-  unfixed = λ side number slot a_on b_on journal. unfixed_begins side number journal slot a_on b_on;
-  now = fixing_now;
-  fixed = fixed_is;
-  stays = fixing_stays;
-  quiet = fixing_quiet;
+  begins = λ words side number slot a_on b_on journal. fixing_begins words side number journal slot a_on b_on;
+  unfixed = λ words side number slot a_on b_on journal. unfixed_begins words side number journal slot a_on b_on;
+  now = λ words. fixing_now words;
+  fixed = λ words. fixed_is words;
+  stays = λ words. fixing_stays words;
+  quiet = λ words. fixing_quiet words;
 }

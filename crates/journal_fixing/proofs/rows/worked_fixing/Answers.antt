@@ -19,4 +19,10 @@ use Rattle.journal_fixing.proofs.rows.worked_fixing.Goals as goal
 
 pub returns : goal.returns
 unfolding fixing_kept going_kept keyed_on ctrl_of length_of makers exchange_of sent_line_of link_of_packet is_answer links_begun pdu_heard heard_in read_of kept_bits crc crc_octets crc_of_bits remainder mask_of next_mask whitening_bit whitening_of little_endian
-returns c = record { fixes = refl; later = refl; fixed = refl; goes = refl; taken = refl }
+returns c = record {
+  fixes = λ words. refl;
+  later = λ words. refl;
+  fixed = λ words. refl;
+  goes = λ words. refl;
+  taken = λ words. refl;
+}

@@ -10,9 +10,9 @@ returns c =
     let taken = c.connections_are_taken.ensures.taken in
     let nth = c.searches_give_each_valid_address.ensures.valid in
     let apart = c.searches_give_each_valid_address.ensures.distinct in record {
-      before_a_packet = λ given before rest sender channel octets hearings station handle link are six contains at is_open uses.
-          fixing_before_packet whole understood taken nth apart given are six before rest sender channel octets hearings at station (contains_in given.stations station contains)
+      before_a_packet = λ words given before rest sender channel octets hearings station handle link are six gives contains at is_open uses.
+          fixing_before_packet words whole understood taken nth apart given are six gives before rest sender channel octets hearings at station (contains_in given.stations station contains)
           handle link is_open uses;
-      before_a_phase = λ given before rest called received station handle link are six contains at is_open uses.
-          fixing_before_phase whole understood taken nth apart given are six before rest called received at station (contains_in given.stations station contains) handle link is_open uses;
+      before_a_phase = λ words given before rest called received station handle link are six gives contains at is_open uses.
+          fixing_before_phase words whole understood taken nth apart given are six gives before rest called received at station (contains_in given.stations station contains) handle link is_open uses;
     }

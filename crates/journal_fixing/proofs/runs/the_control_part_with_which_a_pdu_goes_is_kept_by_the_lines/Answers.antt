@@ -10,8 +10,8 @@ returns c =
     let taken = c.connections_are_taken.ensures.taken in
     let nth = c.searches_give_each_valid_address.ensures.valid in
     let apart = c.searches_give_each_valid_address.ensures.distinct in record {
-      heard = λ given before rest octets pdu notes station handle link are six contains at is_open on good.
-          going_in_call whole understood taken nth apart given are six before rest octets pdu notes station handle link (contains_in given.stations station contains) at is_open on good;
-      begins = λ given before rest slot on notes station number side are six at.
-          silent_in_call whole understood taken nth apart given are six before rest slot on notes station side number at;
+      heard = λ words given before rest octets pdu notes station handle link are six gives contains at is_open on good.
+          going_in_call words whole understood taken nth apart given are six gives before rest octets pdu notes station handle link (contains_in given.stations station contains) at is_open on good;
+      begins = λ words given before rest slot on notes station number side are six gives at.
+          silent_in_call words whole understood taken nth apart given are six gives before rest slot on notes station side number at;
     }

@@ -10,9 +10,9 @@ returns c =
     let taken = c.connections_are_taken.ensures.taken in
     let nth = c.searches_give_each_valid_address.ensures.valid in
     let apart = c.searches_give_each_valid_address.ensures.distinct in record {
-      fixing = λ given before rest octets station handle count llid body earlier later link are six contains at notes is_open.
-          fixing_in_answer whole understood taken nth apart given are six before rest octets station handle count llid body earlier later link (contains_in given.stations station contains) at notes is_open;
-      pdu = λ given before rest octets station handle count llid body earlier later link fixing going are six contains at notes is_open fixes goes.
-          pdu_in_answer whole understood taken nth apart given are six before rest octets station handle count llid body earlier later link (contains_in given.stations station contains) at notes is_open
+      fixing = λ words given before rest octets station handle count llid body earlier later link are six gives contains at notes is_open.
+          fixing_in_answer words whole understood taken nth apart given are six gives before rest octets station handle count llid body earlier later link (contains_in given.stations station contains) at notes is_open;
+      pdu = λ words given before rest octets station handle count llid body earlier later link fixing going are six gives contains at notes is_open fixes goes.
+          pdu_in_answer words whole understood taken nth apart given are six gives before rest octets station handle count llid body earlier later link (contains_in given.stations station contains) at notes is_open
           fixing going fixes goes;
     }

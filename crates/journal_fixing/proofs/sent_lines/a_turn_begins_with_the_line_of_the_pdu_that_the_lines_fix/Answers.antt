@@ -10,11 +10,11 @@ returns c =
     let taken = c.connections_are_taken.ensures.taken in
     let nth = c.searches_give_each_valid_address.ensures.valid in
     let apart = c.searches_give_each_valid_address.ensures.distinct in record {
-      fixing = λ given before rest station slot handle count llid on body earlier later link are six contains at notes is_open.
-          fixing_in_begin whole understood taken nth apart given are six before rest station slot on handle count llid body earlier later link (contains_in given.stations station contains) at notes is_open;
-      going = λ given before rest station slot handle count llid on body earlier later link are six contains at notes is_open.
-          going_in_begin whole understood taken nth apart given are six before rest station slot on handle count llid body earlier later link (contains_in given.stations station contains) at notes is_open;
-      pdu = λ given before rest station slot handle count llid on body earlier later link fixing going are six contains at notes is_open fixes goes.
-          pdu_in_begin whole understood taken nth apart given are six before rest station slot on handle count llid body earlier later link (contains_in given.stations station contains) at notes is_open
+      fixing = λ words given before rest station slot handle count llid on body earlier later link are six gives contains at notes is_open.
+          fixing_in_begin words whole understood taken nth apart given are six gives before rest station slot on handle count llid body earlier later link (contains_in given.stations station contains) at notes is_open;
+      going = λ words given before rest station slot handle count llid on body earlier later link are six gives contains at notes is_open.
+          going_in_begin words whole understood taken nth apart given are six gives before rest station slot on handle count llid body earlier later link (contains_in given.stations station contains) at notes is_open;
+      pdu = λ words given before rest station slot handle count llid on body earlier later link fixing going are six gives contains at notes is_open fixes goes.
+          pdu_in_begin words whole understood taken nth apart given are six gives before rest station slot on handle count llid body earlier later link (contains_in given.stations station contains) at notes is_open
           fixing going fixes goes;
     }

@@ -10,13 +10,13 @@ returns c =
     let taken = c.connections_are_taken.ensures.taken in
     let nth = c.searches_give_each_valid_address.ensures.valid in
     let apart = c.searches_give_each_valid_address.ensures.distinct in record {
-      pdu = λ given before rest sender channel octets hearings station handle link fixing are six contains at is_open on role fixes acked.
-          sent_by_lines whole understood taken nth apart given are six before rest sender channel octets hearings station handle link (contains_in given.stations station contains) at is_open on role
+      pdu = λ words given before rest sender channel octets hearings station handle link fixing are six gives contains at is_open on role fixes acked.
+          sent_by_lines words whole understood taken nth apart given are six gives before rest sender channel octets hearings station handle link (contains_in given.stations station contains) at is_open on role
           fixing fixes acked;
-      more = λ given before rest sender channel octets hearings station handle link fixing are six contains at is_open on role fixes acked.
-          sent_more_by_lines whole understood taken nth apart given are six before rest sender channel octets hearings station handle link (contains_in given.stations station contains) at is_open on role
+      more = λ words given before rest sender channel octets hearings station handle link fixing are six gives contains at is_open on role fixes acked.
+          sent_more_by_lines words whole understood taken nth apart given are six gives before rest sender channel octets hearings station handle link (contains_in given.stations station contains) at is_open on role
           fixing fixes acked;
-      again = λ given before rest sender channel octets hearings station handle link fixing are six contains at is_open on role fixes unacked.
-          sent_again_by_lines whole understood taken nth apart given are six before rest sender channel octets hearings station handle link (contains_in given.stations station contains) at is_open on role
+      again = λ words given before rest sender channel octets hearings station handle link fixing are six gives contains at is_open on role fixes unacked.
+          sent_again_by_lines words whole understood taken nth apart given are six gives before rest sender channel octets hearings station handle link (contains_in given.stations station contains) at is_open on role
           fixing fixes unacked;
     }

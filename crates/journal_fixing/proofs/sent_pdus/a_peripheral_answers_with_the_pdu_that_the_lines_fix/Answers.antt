@@ -10,13 +10,13 @@ returns c =
     let taken = c.connections_are_taken.ensures.taken in
     let nth = c.searches_give_each_valid_address.ensures.valid in
     let apart = c.searches_give_each_valid_address.ensures.distinct in record {
-      pdu = λ given before rest octets pdu notes station handle link fixing going slot room are six contains at is_open on role good fixes goes acked.
-          answer_by_lines whole understood taken nth apart given are six before rest octets pdu notes station handle link (contains_in given.stations station contains) at is_open on role good
+      pdu = λ words given before rest octets pdu notes station handle link fixing going slot room are six gives contains at is_open on role good fixes goes acked.
+          answer_by_lines words whole understood taken nth apart given are six gives before rest octets pdu notes station handle link (contains_in given.stations station contains) at is_open on role good
           fixing fixes slot room going goes acked;
-      more = λ given before rest octets pdu notes station handle link fixing slot room are six contains at is_open on role good fixes acked.
-          answer_more_by_lines whole understood taken nth apart given are six before rest octets pdu notes station handle link (contains_in given.stations station contains) at is_open on role good
+      more = λ words given before rest octets pdu notes station handle link fixing slot room are six gives contains at is_open on role good fixes acked.
+          answer_more_by_lines words whole understood taken nth apart given are six gives before rest octets pdu notes station handle link (contains_in given.stations station contains) at is_open on role good
           fixing fixes slot room acked;
-      again = λ given before rest octets pdu notes station handle link fixing slot room are six contains at is_open on role good fixes unacked.
-          answer_again_by_lines whole understood taken nth apart given are six before rest octets pdu notes station handle link (contains_in given.stations station contains) at is_open on role good
+      again = λ words given before rest octets pdu notes station handle link fixing slot room are six gives contains at is_open on role good fixes unacked.
+          answer_again_by_lines words whole understood taken nth apart given are six gives before rest octets pdu notes station handle link (contains_in given.stations station contains) at is_open on role good
           fixing fixes slot room unacked;
     }

@@ -10,8 +10,8 @@ returns c =
     let taken = c.connections_are_taken.ensures.taken in
     let nth = c.searches_give_each_valid_address.ensures.valid in
     let apart = c.searches_give_each_valid_address.ensures.distinct in record {
-      new = λ given before rest station channel octets hearings sent fixing are six contains at fixes acked.
-          new_tells whole understood taken nth apart given are six before rest station channel octets hearings (contains_in given.stations station contains) at sent fixing fixes acked;
-      again = λ given before rest station channel octets hearings sent fixing now are six contains at fixes now_is unacked.
-          again_tells whole understood taken nth apart given are six before rest station channel octets hearings (contains_in given.stations station contains) at sent fixing fixes now now_is unacked;
+      new = λ words given before rest station channel octets hearings sent fixing are six gives contains at fixes acked.
+          new_tells words whole understood taken nth apart given are six gives before rest station channel octets hearings (contains_in given.stations station contains) at sent fixing fixes acked;
+      again = λ words given before rest station channel octets hearings sent fixing now are six gives contains at fixes now_is unacked.
+          again_tells words whole understood taken nth apart given are six gives before rest station channel octets hearings (contains_in given.stations station contains) at sent fixing fixes now now_is unacked;
     }

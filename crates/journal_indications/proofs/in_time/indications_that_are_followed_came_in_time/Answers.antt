@@ -1,7 +1,7 @@
 -- Proof of `in_time::indications_that_are_followed_came_in_time`.
 use Rattle.std.proofs.Common.{refl}
-use Rattle.journal_data.specs.run_model.Pair.{given_of}
-use Rattle.journal_data.proofs.run_model.LinkEnds.{pair_addresses}
+use Rattle.journal_agreement.specs.journal_data.run_model.Pair.{given_of}
+use Rattle.journal_agreement.proofs.journal_data.run_model.LinkEnds.{pair_addresses}
 use Rattle.journal_indications.proofs.InTime.{came_in_time, taken_in_time}
 use Rattle.journal_indications.proofs.in_time.indications_that_are_followed_came_in_time.Goals as goal
 

@@ -6,7 +6,8 @@ use Rattle.journal_leaving.proofs.calls.a_call_moves_how_an_end_leaves_by_its_li
 
 pub returns : goal.returns
 returns c = record {
-  turn = λ given side number station call history more k leaving none lines opens was left.
-      call_moves given side number station call history more k leaving (turn_answers given side station call history none) lines opens was left;
-  asked = λ given side number station call history asked leaving seen was. call_asks given side number station call history asked leaving seen was;
+  turn = λ words given side number station call history more k leaving kept none lines opens was left.
+      call_moves words given side number station call history more k leaving kept (turn_answers given side station call history none) lines opens was left;
+  asked = λ words given side number station call history asked k leaving seen answers keyed was.
+      call_asks words given side number station call history asked k leaving seen answers keyed was;
 }

@@ -4,4 +4,4 @@ use Rattle.journal_leaving.proofs.EndLeaving.{packet_leaves}
 use Rattle.journal_leaving.proofs.ends.a_packet_moves_how_an_end_leaves_by_its_lines.Goals as goal
 
 pub returns : goal.returns
-returns c = λ side number slot withheld room setup past octets. packet_leaves side number withheld slot room setup (facts_of setup past) octets
+returns c = λ side number slot room setup past octets. packet_leaves side number slot room setup (facts_of setup past) octets

@@ -4,6 +4,6 @@ use Rattle.journal_leaving.proofs.events.turns_and_hosts_leave_an_end_as_it_is.G
 
 pub returns : goal.returns
 returns c = record {
-  turn = λ side number slot radios history. turn_still number side history slot radios;
-  host = λ side number station octets history. feed_still number side history station octets;
+  turn = λ words side number slot radios history. turn_still words number side history slot radios;
+  host = λ words side number station octets history. feed_still words number side history station octets;
 }

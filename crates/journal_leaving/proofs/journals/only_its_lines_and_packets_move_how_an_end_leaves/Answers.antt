@@ -7,8 +7,9 @@ use Rattle.journal_leaving.proofs.journals.only_its_lines_and_packets_move_how_a
 
 pub returns : goal.returns
 returns c = record {
-  begins = λ side number handle role journal.
-      leaving_more side number journal (Opened side number handle role) ∙ opened_line side number handle role journal (leaving_on side number journal);
-  ends = λ side number reason journal. leaving_more side number journal (Shut side number reason) ∙ shut_line side number reason journal (leaving_on side number journal);
-  stays = λ side number journal line none own. leaving_more side number journal line ∙ quiet_line side number journal (leaving_on side number journal) line none own;
+  begins = λ words side number handle role journal.
+      leaving_more words side number journal (Opened side number handle role) ∙ opened_line words side number handle role journal (leaving_on words side number journal);
+  ends = λ words side number reason journal. leaving_more words side number journal (Shut side number reason) ∙ shut_line words side number reason journal (leaving_on words side number journal);
+  stays = λ words side number journal line none unanswered own.
+      leaving_more words side number journal line ∙ quiet_line words side number journal (leaving_on words side number journal) line none unanswered own;
 }

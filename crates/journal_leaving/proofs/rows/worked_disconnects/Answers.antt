@@ -19,4 +19,4 @@ use Rattle.journal_leaving.proofs.rows.worked_disconnects.Goals as goal
 
 pub returns : goal.returns
 unfolding leaving_on keyed_on exchange_of sent_line_of link_of_packet is_answer links_begun pdu_heard heard_in read_of kept_bits crc crc_octets crc_of_bits remainder mask_of next_mask whitening_bit whitening_of little_endian frames command_of layout_of layouts
-returns c = record { ended = refl; asked = refl; peripheral = refl }
+returns c = record { ended = λ words. refl; asked = λ words. refl; peripheral = λ words. refl }

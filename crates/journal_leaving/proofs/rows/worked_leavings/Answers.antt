@@ -19,4 +19,11 @@ use Rattle.journal_leaving.proofs.rows.worked_leavings.Goals as goal
 
 pub returns : goal.returns
 unfolding leaving_on keyed_on exchange_of sent_line_of link_of_packet is_answer links_begun pdu_heard heard_in read_of kept_bits crc crc_octets crc_of_bits remainder mask_of next_mask whitening_bit whitening_of little_endian ctrl_of makers
-returns c = record { peripheral_stays = refl; takes = refl; answers = refl; central_stays = refl; acknowledged = refl; other = refl }
+returns c = record {
+  peripheral_stays = λ words. refl;
+  takes = λ words. refl;
+  answers = λ words. refl;
+  central_stays = λ words. refl;
+  acknowledged = λ words. refl;
+  other = λ words. refl;
+}

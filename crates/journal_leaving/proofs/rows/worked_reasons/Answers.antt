@@ -26,13 +26,13 @@ use Rattle.journal_leaving.proofs.rows.worked_reasons.Goals as goal
 pub returns : goal.returns
 unfolding packets_passed ending_on due_on due_begun leaving_on control_on keyed_on last_heard exchange_of sent_line_of link_of_packet is_answer links_begun pdu_heard heard_in read_of kept_bits crc crc_octets crc_of_bits remainder mask_of next_mask whitening_bit whitening_of little_endian ctrl_of makers
 returns c = record {
-  by_peer = leaving refl;
-  by_host = leaving refl;
-  not_answered = not_shut terminate_taken A 1 (record { 0 = 0x13 }) (λ code. omega (arith, code)) refl refl;
-  not_acknowledged = not_shut terminate_taken B 1 (record { 0 = 0x16 }) (λ code. omega (arith, code)) refl refl;
-  no_instant = not_shut central_says_more A 1 (record { 0 = 0x28 }) (λ code. omega (arith, code)) refl refl;
-  stays = record { not_overdue = refl; not_leaving = refl };
-  too_long = λ all. absurd (let h = (all A 1 _ refl).not_leaving in absurd cc);
+  by_peer = λ words. leaving refl;
+  by_host = λ words. leaving refl;
+  not_answered = λ words. not_shut words terminate_taken A 1 (record { 0 = 0x13 }) (λ code. omega (arith, code)) refl refl;
+  not_acknowledged = λ words. not_shut words terminate_taken B 1 (record { 0 = 0x16 }) (λ code. omega (arith, code)) refl refl;
+  no_instant = λ words. not_shut words central_says_more A 1 (record { 0 = 0x28 }) (λ code. omega (arith, code)) refl refl;
+  stays = λ words. record { not_overdue = refl; not_leaving = refl };
+  too_long = λ words all. absurd (let h = (all A 1 _ refl).not_leaving in absurd cc);
   unanswered = refl;
   early = refl;
 }

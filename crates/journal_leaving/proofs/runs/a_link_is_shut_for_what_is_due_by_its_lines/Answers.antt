@@ -9,5 +9,5 @@ returns c =
     let understood = c.a_pdu_is_understood.ensures.says in
     let taken = c.connections_are_taken.ensures.taken in
     let nth = c.searches_give_each_valid_address.ensures.valid in
-    let apart = c.searches_give_each_valid_address.ensures.distinct in λ given before rest step station handle reason are six contains at noted.
-    shut_in_call whole understood taken nth apart given are six before rest station (contains_in given.stations station contains) handle reason step at noted
+    let apart = c.searches_give_each_valid_address.ensures.distinct in λ words given before rest step station handle reason are six gives contains at noted.
+    shut_in_call words whole understood taken nth apart given are six gives before rest station (contains_in given.stations station contains) handle reason step at noted

@@ -10,8 +10,8 @@ returns c =
     let taken = c.connections_are_taken.ensures.taken in
     let nth = c.searches_give_each_valid_address.ensures.valid in
     let apart = c.searches_give_each_valid_address.ensures.distinct in record {
-      begins = λ given before rest slot on station handle link are six contains at is_open.
-          due_before_call whole understood taken nth apart given are six before rest station slot on at (contains_in given.stations station contains) handle link is_open;
-      ends = λ given before rest station handle link are six contains at is_open.
-          ending_before_call whole understood taken nth apart given are six before rest station at (contains_in given.stations station contains) handle link is_open;
+      begins = λ words given before rest slot on station handle link are six gives contains at is_open.
+          due_before_call words whole understood taken nth apart given are six gives before rest station slot on at (contains_in given.stations station contains) handle link is_open;
+      ends = λ words given before rest station handle link are six gives contains at is_open.
+          ending_before_call words whole understood taken nth apart given are six gives before rest station at (contains_in given.stations station contains) handle link is_open;
     }

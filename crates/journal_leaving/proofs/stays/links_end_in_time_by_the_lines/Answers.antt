@@ -9,6 +9,6 @@ returns c =
     let taken = c.connections_are_taken.ensures.taken in
     let nth = c.searches_give_each_valid_address.ensures.valid in
     let apart = c.searches_give_each_valid_address.ensures.distinct in record {
-      in_time = λ given are six. end_in_time whole understood taken nth apart given are six;
-      at_the_end = λ given history are six goes. stay_open_at_end whole understood taken nth apart given are six history goes;
+      in_time = λ words given are six gives. end_in_time words whole understood taken nth apart given are six gives;
+      at_the_end = λ words given history are six gives goes. stay_open_at_end words whole understood taken nth apart given are six gives history goes;
     }

@@ -34,11 +34,11 @@ returns-clause-unanswered c lawful =
 
 pub returns-clause-untaken : goal.returns-clause-untaken
 returns-clause-untaken c lawful =
-    let again = lawful both_begun (done ∷ []) begun (taken ∷ []) [] one_link 1 1 3 request_octets Map Request refl it_collides refl in absurd cc
+    let again = lawful both_begun (done ∷ []) begun (taken ∷ []) [] one_link 1 1 3 request_octets Map Request refl refl it_collides refl refl in absurd cc
 
 pub returns-clause-rejected : goal.returns-clause-rejected
 returns-clause-rejected c lawful =
     let sent = Sent B 1 1 3 (rejection 0x0F 0x2A) in
     let refused = Took A 1 1 3 (rejection 0x0F 0x2A) in
-    let again = lawful both_begun (sent ∷ refused ∷ done ∷ []) begun (taken ∷ sent ∷ refused ∷ []) [] one_link 1 1 3 request_octets Map Request refl it_collides refl in
+    let again = lawful both_begun (sent ∷ refused ∷ done ∷ []) begun (taken ∷ sent ∷ refused ∷ []) [] one_link 1 1 3 request_octets Map Request refl refl it_collides refl refl in
     absurd cc

@@ -4,6 +4,6 @@ use Rattle.journal_sealing.proofs.lines.a_payload_by_lines_is_of_the_pdu_that_is
 
 pub returns : goal.returns
 returns c = record {
-  lines = λ number journal side. forgets number side journal;
-  payload = λ number journal side. carries_payload number side journal;
+  lines = λ words number journal side. forgets words number side journal;
+  payload = λ words number journal side. carries_payload words number side journal;
 }

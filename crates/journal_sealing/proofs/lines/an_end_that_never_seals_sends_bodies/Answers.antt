@@ -3,4 +3,4 @@ use Rattle.journal_sealing.proofs.SealedLines.{carries_body}
 use Rattle.journal_sealing.proofs.lines.an_end_that_never_seals_sends_bodies.Goals as goal
 
 pub returns : goal.returns
-returns c = λ number journal side never. carries_body number side journal never
+returns c = λ words number journal side. carries_body words number side journal

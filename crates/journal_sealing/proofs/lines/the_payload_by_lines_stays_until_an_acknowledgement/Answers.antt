@@ -4,7 +4,7 @@ use Rattle.journal_sealing.proofs.lines.the_payload_by_lines_stays_until_an_ackn
 
 pub returns : goal.returns
 returns c = record {
-  lines = λ number front more side. same_payload number side front more;
+  lines = λ words number front more side. same_payload words number side front more;
   packets = packet_again;
   again = one_payload;
 }

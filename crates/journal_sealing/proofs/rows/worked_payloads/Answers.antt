@@ -19,4 +19,4 @@ use Rattle.journal_sealing.proofs.rows.worked_payloads.Goals as goal
 
 pub returns : goal.returns
 unfolding sealed_line_of sent_line_of keyed_on exchange_of link_of_packet is_answer links_begun pdu_heard heard_in read_of kept_bits crc crc_octets crc_of_bits remainder mask_of next_mask whitening_bit whitening_of little_endian frames command_of layout_of layouts
-returns c = record { first = refl; again = refl; acknowledged = refl; other = refl }
+returns c = record { first = λ words. refl; again = λ words. refl; acknowledged = λ words. refl; other = λ words. refl }

@@ -7,7 +7,7 @@ use Rattle.adv_pdu.specs.Header.{kept_bits}
 use Rattle.adv_pdu.specs.Reading.{read_of}
 use Rattle.air_frame.specs.Hearing.{heard_in}
 use Rattle.data_pdu.specs.Layouts.{makers}
-use Rattle.data_pdu.specs.Reading.{ctrl_of}
+use Rattle.data_pdu.specs.Reading.{ctrl_of, length_of}
 use Rattle.frame_bits.specs.Crc.{crc, crc_octets, crc_of_bits, remainder}
 use Rattle.frame_bits.specs.Whitening.{mask_of, next_mask, whitening_bit, whitening_of}
 use Rattle.instants.specs.declared.indications.Indication.{Indication}
@@ -16,8 +16,13 @@ use Rattle.instants.specs.declared.indications.Params.{Params}
 use Rattle.instants.specs.declared.track.Change.{Change}
 use Rattle.journal.specs.declared.entries.Entry.TheVariants.{Applied, Enter}
 use Rattle.journal_pdus.specs.controller_model.Packets.{pdu_heard}
+use Rattle.journal_pdus.specs.journal_acks.Carried.{sent_line_of}
+use Rattle.journal_pdus.specs.journal_acks.Exchange.{exchange_of}
+use Rattle.journal_pdus.specs.journal_controls.LineSteps.{keyed_on}
 use Rattle.journal_pdus.specs.journal_links.Begun.{links_begun}
 use Rattle.journal_pdus.specs.journal_links.Rows.{one_link}
+use Rattle.journal_pdus.specs.journal_packets.Belonging.{is_answer, link_of_packet}
+use Rattle.journal_pdus.specs.journal_sealing.Mixed.{is_mixed}
 use Rattle.run_model.specs.Rows.{turn_entry}
 use Rattle.wire_fields.specs.Field.{little_endian}
 use Rattle.wrong_journals.specs.Alike.{map_mistaken}
@@ -31,29 +36,29 @@ map_in (Map map instant) = map
 map_in (Update win_offset interval latency timeout instant) = 0
 
 pub returns-clause-channels : goal.returns-clause-channels
-unfolding links_begun pdu_heard heard_in read_of kept_bits crc crc_octets crc_of_bits remainder mask_of next_mask whitening_bit whitening_of little_endian ctrl_of makers data_channels used_channels
-returns-clause-channels c lawful =
+unfolding is_mixed keyed_on exchange_of sent_line_of link_of_packet is_answer length_of links_begun pdu_heard heard_in read_of kept_bits crc crc_octets crc_of_bits remainder mask_of next_mask whitening_bit whitening_of little_endian ctrl_of makers data_channels used_channels
+returns-clause-channels c words lawful =
     numbers_differ 25 26 refl
-    (lawful turns_before_first (Enter B 1 0 26 ∷ []) (turns_before_first ++ Enter A 1 0 25 ∷ []) [] A B 1 0 25 26 one_link refl refl refl refl).one_channel
+    (lawful turns_before_first (Enter B 1 0 26 ∷ []) (turns_before_first ++ Enter A 1 0 25 ∷ []) [] A B 1 0 25 26 one_link refl refl refl refl refl refl).one_channel
 
 pub returns-clause-turns : goal.returns-clause-turns
-unfolding links_begun pdu_heard heard_in read_of kept_bits crc crc_octets crc_of_bits remainder mask_of next_mask whitening_bit whitening_of little_endian ctrl_of makers data_channels used_channels
-returns-clause-turns c lawful =
+unfolding is_mixed keyed_on exchange_of sent_line_of link_of_packet is_answer length_of links_begun pdu_heard heard_in read_of kept_bits crc crc_octets crc_of_bits remainder mask_of next_mask whitening_bit whitening_of little_endian ctrl_of makers data_channels used_channels
+returns-clause-turns c words lawful =
     numbers_differ 3 4 refl
-    (lawful turns_before_first (turn_entry 3 ∷ Enter B 1 0 25 ∷ []) (turns_before_first ++ Enter A 1 0 25 ∷ turn_entry 3 ∷ []) [] A B 1 0 25 25 one_link refl refl refl refl).turn
+    (lawful turns_before_first (turn_entry 3 ∷ Enter B 1 0 25 ∷ []) (turns_before_first ++ Enter A 1 0 25 ∷ turn_entry 3 ∷ []) [] A B 1 0 25 25 one_link refl refl refl refl refl refl).turn
 
 pub returns-clause-maps : goal.returns-clause-maps
-unfolding links_begun pdu_heard heard_in read_of kept_bits crc crc_octets crc_of_bits remainder mask_of next_mask whitening_bit whitening_of little_endian ctrl_of makers data_channels used_channels
-returns-clause-maps c lawful =
+unfolding is_mixed keyed_on exchange_of sent_line_of link_of_packet is_answer length_of links_begun pdu_heard heard_in read_of kept_bits crc crc_octets crc_of_bits remainder mask_of next_mask whitening_bit whitening_of little_endian ctrl_of makers data_channels used_channels
+returns-clause-maps c words lawful =
     let one = map_mistaken ++ Applied A 1 1 6 ∷ [] in
     let other = one ++ Enter A 1 6 23 ∷ Applied B 1 1 6 ∷ [] in
     numbers_differ 0x07FFFFFFFF 0x0FFFFFFFFF refl
     (ap (λ (params : Params). params.map)
-    (lawful one (Applied B 1 1 6 ∷ Enter B 1 6 23 ∷ []) other [] A B 1 6 23 23 one_link refl refl refl refl).params)
+    (lawful one (Applied B 1 1 6 ∷ Enter B 1 6 23 ∷ []) other [] A B 1 6 23 23 one_link refl refl refl refl refl refl).params)
 
 pub returns-clause-another : goal.returns-clause-another
-unfolding links_begun pdu_heard heard_in read_of kept_bits crc crc_octets crc_of_bits remainder mask_of next_mask whitening_bit whitening_of little_endian ctrl_of makers data_channels used_channels
-returns-clause-another c lawful =
+unfolding is_mixed keyed_on exchange_of sent_line_of link_of_packet is_answer length_of links_begun pdu_heard heard_in read_of kept_bits crc crc_octets crc_of_bits remainder mask_of next_mask whitening_bit whitening_of little_endian ctrl_of makers data_channels used_channels
+returns-clause-another c words lawful =
     numbers_differ 0x07FFFFFFFF 0x0FFFFFFFFF refl
     (ap (sum_by (λ (change : Change). map_in change.indication))
-    (lawful (map_mistaken ++ Applied A 1 1 6 ∷ []) [] A 1 6 23 one_link refl refl))
+    (lawful (map_mistaken ++ Applied A 1 1 6 ∷ []) [] A 1 6 23 one_link refl refl refl))

@@ -29,18 +29,18 @@ use Rattle.wrong_journals.proofs.commanded.late_taking_is_refused.Goals as goal
 
 pub returns-clause-event : goal.returns-clause-event
 unfolding pending_pdu leaving_on keyed_on ctrl_of length_of makers command_of layout_of layouts lines_of frames exchange_of sent_line_of link_of_packet is_answer links_begun pdu_heard heard_in read_of kept_bits crc crc_octets crc_of_bits remainder mask_of next_mask whitening_bit whitening_of little_endian
-returns-clause-event c lawful =
+returns-clause-event c words lawful =
     truths_differ (sym (ap (λ (o : Option PduLine). is_some o)
     (lawful data_heard (Took A 1 1 2 (0xAA ∷ []) ∷ []) (Up A (0x04 ∷ 0x10 ∷ 0x01 ∷ 0x00 ∷ [])) A refl refl refl)))
 
 pub returns-clause-other_link : goal.returns-clause-other_link
 unfolding pending_pdu leaving_on keyed_on ctrl_of length_of makers command_of layout_of layouts lines_of frames exchange_of sent_line_of link_of_packet is_answer links_begun pdu_heard heard_in read_of kept_bits crc crc_octets crc_of_bits remainder mask_of next_mask whitening_bit whitening_of little_endian
-returns-clause-other_link c lawful =
+returns-clause-other_link c words lawful =
     truths_differ (sym (ap (λ (o : Option PduLine). is_some o)
     (lawful data_heard (Took A 1 1 2 (0xAA ∷ []) ∷ []) (Done A 2 Version) A refl refl refl)))
 
 pub returns-clause-terminated : goal.returns-clause-terminated
 unfolding pending_pdu leaving_on keyed_on ctrl_of length_of makers command_of layout_of layouts lines_of frames exchange_of sent_line_of link_of_packet is_answer links_begun pdu_heard heard_in read_of kept_bits crc crc_octets crc_of_bits remainder mask_of next_mask whitening_bit whitening_of little_endian
-returns-clause-terminated c lawful =
+returns-clause-terminated c words lawful =
     truths_differ (ap (λ (o : Option PduLine). is_some o)
     (lawful terminate_done [] (Took B 1 1 2 (0xAA ∷ [])) B refl refl refl))

@@ -35,24 +35,24 @@ use Rattle.wrong_journals.proofs.commanded.wrong_more_bits_are_refused.Goals as 
 
 pub returns-clause-counted : goal.returns-clause-counted
 unfolding fixing_kept keyed_on ctrl_of length_of makers command_of layout_of layouts lines_of frames exchange_of sent_line_of link_of_packet is_answer links_begun pdu_heard heard_in read_of kept_bits crc crc_octets crc_of_bits remainder mask_of next_mask whitening_bit whitening_of little_endian data_channels used_channels
-returns-clause-counted c lawful =
+returns-clause-counted c words lawful =
     numbers_differ 0x48 0x58 refl
     (ap (λ (octets : List ℕ). get_or octets 4 0)
-    (octets_are version_to_answer A 25 reply_with_more 1 one_link peripheral_entered version_queued false refl refl refl refl refl
+    (octets_are words version_to_answer A 25 reply_with_more 1 one_link peripheral_entered version_queued false refl refl refl refl refl
     (lawful version_to_answer [] A 25 reply_with_more Pass Good refl refl)))
 
 pub returns-clause-untold : goal.returns-clause-untold
 unfolding fixing_kept keyed_on ctrl_of length_of makers command_of layout_of layouts lines_of frames exchange_of sent_line_of link_of_packet is_answer links_begun pdu_heard heard_in read_of kept_bits crc crc_octets crc_of_bits remainder mask_of next_mask whitening_bit whitening_of little_endian data_channels used_channels
-returns-clause-untold c lawful =
+returns-clause-untold c words lawful =
     let front = event_after (version_asked []) (Began B 1 Version ∷ []) in
     numbers_differ 0x50 0x40 refl
     (ap (λ (octets : List ℕ). get_or octets 4 0)
-    (octets_are front B 25 first_packet 1 one_link version_begun version_begun true refl refl refl refl refl
+    (octets_are words front B 25 first_packet 1 one_link version_begun version_begun true refl refl refl refl refl
     (lawful front [] B 25 first_packet Pass Good refl refl)))
 
 pub returns-clause-empty : goal.returns-clause-empty
 unfolding fixing_kept keyed_on ctrl_of length_of makers command_of layout_of layouts lines_of frames exchange_of sent_line_of link_of_packet is_answer links_begun pdu_heard heard_in read_of kept_bits crc crc_octets crc_of_bits remainder mask_of next_mask whitening_bit whitening_of little_endian data_channels used_channels
-returns-clause-empty c lawful =
+returns-clause-empty c words lawful =
     truths_differ
-    (none_waits (version_with []) B 25 next_packet 1 version_begun refl refl refl refl
+    (none_waits words (version_with []) B 25 next_packet 1 version_begun refl refl refl refl
     (lawful (version_with []) [] B 25 next_packet Pass Good refl refl))

@@ -33,31 +33,31 @@ use Rattle.wrong_journals.proofs.exchanges.wrong_sending_is_refused.Goals as goa
 
 pub returns-clause-otherwise : goal.returns-clause-otherwise
 unfolding announced_pdu fixing_kept going_kept keyed_on ctrl_of length_of makers channel_entered lines_of frames exchange_of sent_line_of link_of_packet is_answer links_begun pdu_heard heard_in read_of kept_bits crc crc_octets crc_of_bits remainder mask_of next_mask whitening_bit whitening_of little_endian data_channels used_channels reversed_octet perm mam stage prn channel_of
-returns-clause-otherwise c lawful =
+returns-clause-otherwise c words lawful =
     numbers_differ 0xAB 0xAA refl
     (ap (λ (p : Pdu). get_or p.body 0 0)
-    (next_is 1 second_slot B 1 (record { llid = 2; body = 0xAB ∷ [] }) central_entered central_entered refl refl
+    (next_is words 1 second_slot B 1 (record { llid = 2; body = 0xAB ∷ [] }) central_entered central_entered refl refl
     (lawful second_slot [] B 1 1 2 (0xAB ∷ []) refl)))
 
 pub returns-clause-misnumbered : goal.returns-clause-misnumbered
 unfolding announced_pdu fixing_kept going_kept keyed_on ctrl_of length_of makers channel_entered lines_of frames exchange_of sent_line_of link_of_packet is_answer links_begun pdu_heard heard_in read_of kept_bits crc crc_octets crc_of_bits remainder mask_of next_mask whitening_bit whitening_of little_endian data_channels used_channels reversed_octet perm mam stage prn channel_of
-returns-clause-misnumbered c lawful =
+returns-clause-misnumbered c words lawful =
     numbers_differ 2 1 refl (lawful second_slot [] B 1 2 2 (0xAA ∷ []) refl).numbered
 
 pub returns-clause-continuation : goal.returns-clause-continuation
 unfolding announced_pdu fixing_kept going_kept keyed_on ctrl_of length_of makers channel_entered lines_of frames exchange_of sent_line_of link_of_packet is_answer links_begun pdu_heard heard_in read_of kept_bits crc crc_octets crc_of_bits remainder mask_of next_mask whitening_bit whitening_of little_endian data_channels used_channels reversed_octet perm mam stage prn channel_of
-returns-clause-continuation c lawful =
+returns-clause-continuation c words lawful =
     numbers_differ 1 2 refl
     (ap (λ (p : Pdu). p.llid)
-    (next_is 1 second_slot B 1 (record { llid = 1; body = 0xAA ∷ [] }) central_entered central_entered refl refl
+    (next_is words 1 second_slot B 1 (record { llid = 1; body = 0xAA ∷ [] }) central_entered central_entered refl refl
     (lawful second_slot [] B 1 1 1 (0xAA ∷ []) refl)))
 
 pub returns-clause-from_nothing : goal.returns-clause-from_nothing
 unfolding announced_pdu fixing_kept going_kept keyed_on ctrl_of length_of makers channel_entered lines_of frames exchange_of sent_line_of link_of_packet is_answer links_begun pdu_heard heard_in read_of kept_bits crc crc_octets crc_of_bits remainder mask_of next_mask whitening_bit whitening_of little_endian data_channels used_channels reversed_octet perm mam stage prn channel_of
-returns-clause-from_nothing c lawful =
+returns-clause-from_nothing c words lawful =
     numbers_differ 1 0 refl
     (ap (λ (p : Pdu). length p.body)
-    (next_is 1 (one_event_journal ++ turn_entry 3 ∷ []) B 1 (record { llid = 2; body = 0xAA ∷ [] }) central_entered central_entered refl refl
+    (next_is words 1 (one_event_journal ++ turn_entry 3 ∷ []) B 1 (record { llid = 2; body = 0xAA ∷ [] }) central_entered central_entered refl refl
     (lawful (one_event_journal ++ turn_entry 3 ∷ []) [] B 1 1 2 (0xAA ∷ []) refl)))
 
 pub returns-clause-too_early : goal.returns-clause-too_early

@@ -17,6 +17,10 @@ use Rattle.journal_pdus.specs.journal_packets.Belonging.{is_answer, link_of_pack
 use Rattle.journal_pdus.specs.journal_acks.Carried.{channel_entered, sent_line_of}
 use Rattle.journal_pdus.specs.journal_acks.Exchange.{exchange_of}
 use Rattle.journal_pdus.specs.journal_data.Lines.{lines_of}
+use Rattle.data_pdu.specs.Layouts.{makers}
+use Rattle.data_pdu.specs.Reading.{ctrl_of, length_of}
+use Rattle.journal_pdus.specs.journal_controls.LineSteps.{keyed_on}
+use Rattle.journal_pdus.specs.journal_sealing.Mixed.{is_mixed}
 use Rattle.ble_base.specs.declared.verdicts.Verdict.TheVariants.{Good}
 use Rattle.journal.specs.declared.entries.Mark.TheVariants.{Pass}
 use Rattle.run_model.specs.Rows.{first_packet, one_event_journal}
@@ -26,14 +30,14 @@ use Rattle.wrong_journals.proofs.Differing.{numbers_differ}
 use Rattle.wrong_journals.proofs.hosts.wrong_credits_are_refused.Goals as goal
 
 pub returns-clause-from_nothing : goal.returns-clause-from_nothing
-unfolding channel_entered lines_of frames exchange_of sent_line_of link_of_packet is_answer links_begun pdu_heard heard_in read_of kept_bits crc crc_octets crc_of_bits remainder mask_of next_mask whitening_bit whitening_of little_endian data_channels used_channels reversed_octet perm mam stage prn channel_of
-returns-clause-from_nothing c lawful =
-    let few : 1 ≤ 0 = (lawful (one_event_journal ++ credit ∷ []) [] refl B 1).delivered.credited in omega arith
+unfolding is_mixed keyed_on ctrl_of length_of makers channel_entered lines_of frames exchange_of sent_line_of link_of_packet is_answer links_begun pdu_heard heard_in read_of kept_bits crc crc_octets crc_of_bits remainder mask_of next_mask whitening_bit whitening_of little_endian data_channels used_channels reversed_octet perm mam stage prn channel_of
+returns-clause-from_nothing c words lawful =
+    let few : 1 ≤ 0 = (lawful (one_event_journal ++ credit ∷ []) [] refl B 1 refl).delivered.credited in omega arith
 
 pub returns-clause-twice : goal.returns-clause-twice
-unfolding channel_entered lines_of frames exchange_of sent_line_of link_of_packet is_answer links_begun pdu_heard heard_in read_of kept_bits crc crc_octets crc_of_bits remainder mask_of next_mask whitening_bit whitening_of little_endian data_channels used_channels reversed_octet perm mam stage prn channel_of
-returns-clause-twice c lawful =
-    let few : 2 ≤ 1 = (lawful credit_twice [] refl B 1).delivered.credited in omega arith
+unfolding is_mixed keyed_on ctrl_of length_of makers channel_entered lines_of frames exchange_of sent_line_of link_of_packet is_answer links_begun pdu_heard heard_in read_of kept_bits crc crc_octets crc_of_bits remainder mask_of next_mask whitening_bit whitening_of little_endian data_channels used_channels reversed_octet perm mam stage prn channel_of
+returns-clause-twice c words lawful =
+    let few : 2 ≤ 1 = (lawful credit_twice [] refl B 1 refl).delivered.credited in omega arith
 
 pub returns-clause-too_early : goal.returns-clause-too_early
 unfolding channel_entered lines_of frames exchange_of sent_line_of link_of_packet is_answer links_begun pdu_heard heard_in read_of kept_bits crc crc_octets crc_of_bits remainder mask_of next_mask whitening_bit whitening_of little_endian data_channels used_channels reversed_octet perm mam stage prn channel_of

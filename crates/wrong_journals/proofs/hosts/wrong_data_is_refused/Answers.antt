@@ -19,6 +19,10 @@ use Rattle.journal_pdus.specs.journal_packets.Belonging.{is_answer, link_of_pack
 use Rattle.journal_pdus.specs.journal_acks.Carried.{channel_entered, sent_line_of}
 use Rattle.journal_pdus.specs.journal_acks.Exchange.{exchange_of}
 use Rattle.journal_pdus.specs.journal_data.Lines.{lines_of}
+use Rattle.data_pdu.specs.Layouts.{makers}
+use Rattle.data_pdu.specs.Reading.{ctrl_of, length_of}
+use Rattle.journal_pdus.specs.journal_controls.LineSteps.{keyed_on}
+use Rattle.journal_pdus.specs.journal_sealing.Mixed.{is_mixed}
 use Rattle.journal_pdus.specs.journal_leaving.Reasons.{packets_passed}
 use Rattle.run_model.specs.Rows.{one_event_journal}
 use Rattle.journal_pdus.specs.journal_acks.Rows.{data_acknowledged}
@@ -27,22 +31,22 @@ use Rattle.wrong_journals.proofs.Differing.{numbers_differ, truths_differ}
 use Rattle.wrong_journals.proofs.hosts.wrong_data_is_refused.Goals as goal
 
 pub returns-clause-from_nothing : goal.returns-clause-from_nothing
-unfolding channel_entered lines_of frames exchange_of sent_line_of link_of_packet is_answer links_begun pdu_heard heard_in read_of kept_bits crc crc_octets crc_of_bits remainder mask_of next_mask whitening_bit whitening_of little_endian data_channels used_channels reversed_octet perm mam stage prn channel_of
-returns-clause-from_nothing c lawful =
+unfolding is_mixed keyed_on ctrl_of length_of makers channel_entered lines_of frames exchange_of sent_line_of link_of_packet is_answer links_begun pdu_heard heard_in read_of kept_bits crc crc_octets crc_of_bits remainder mask_of next_mask whitening_bit whitening_of little_endian data_channels used_channels reversed_octet perm mam stage prn channel_of
+returns-clause-from_nothing c words lawful =
     numbers_differ 1 0 refl
-    (ap (λ (xs : List Marked). length xs) (lawful (one_event_journal ++ data_up ∷ []) [] refl B 1).delivered.received)
+    (ap (λ (xs : List Marked). length xs) (lawful (one_event_journal ++ data_up ∷ []) [] refl B 1 refl).delivered.received)
 
 pub returns-clause-twice : goal.returns-clause-twice
-unfolding channel_entered lines_of frames exchange_of sent_line_of link_of_packet is_answer links_begun pdu_heard heard_in read_of kept_bits crc crc_octets crc_of_bits remainder mask_of next_mask whitening_bit whitening_of little_endian data_channels used_channels reversed_octet perm mam stage prn channel_of
-returns-clause-twice c lawful =
+unfolding is_mixed keyed_on ctrl_of length_of makers channel_entered lines_of frames exchange_of sent_line_of link_of_packet is_answer links_begun pdu_heard heard_in read_of kept_bits crc crc_octets crc_of_bits remainder mask_of next_mask whitening_bit whitening_of little_endian data_channels used_channels reversed_octet perm mam stage prn channel_of
+returns-clause-twice c words lawful =
     numbers_differ 2 1 refl
-    (ap (λ (xs : List Marked). length xs) (lawful (data_acknowledged ++ data_up ∷ data_up ∷ []) [] refl B 1).delivered.received)
+    (ap (λ (xs : List Marked). length xs) (lawful (data_acknowledged ++ data_up ∷ data_up ∷ []) [] refl B 1 refl).delivered.received)
 
 pub returns-clause-continuation : goal.returns-clause-continuation
-unfolding channel_entered lines_of frames exchange_of sent_line_of link_of_packet is_answer links_begun pdu_heard heard_in read_of kept_bits crc crc_octets crc_of_bits remainder mask_of next_mask whitening_bit whitening_of little_endian data_channels used_channels reversed_octet perm mam stage prn channel_of
-returns-clause-continuation c lawful =
+unfolding is_mixed keyed_on ctrl_of length_of makers channel_entered lines_of frames exchange_of sent_line_of link_of_packet is_answer links_begun pdu_heard heard_in read_of kept_bits crc crc_octets crc_of_bits remainder mask_of next_mask whitening_bit whitening_of little_endian data_channels used_channels reversed_octet perm mam stage prn channel_of
+returns-clause-continuation c words lawful =
     truths_differ (sym (ap starts
-    (lawful (data_acknowledged ++ Up A (0x02 ∷ 0x00 ∷ 0x10 ∷ 0x01 ∷ 0x00 ∷ 0xAA ∷ []) ∷ []) [] refl B 1).delivered.received))
+    (lawful (data_acknowledged ++ Up A (0x02 ∷ 0x00 ∷ 0x10 ∷ 0x01 ∷ 0x00 ∷ 0xAA ∷ []) ∷ []) [] refl B 1 refl).delivered.received))
   where
     starts : List Marked → Bool
     starts [] = false

@@ -28,22 +28,22 @@ use Rattle.wrong_journals.proofs.shuts.links_that_stay_open_are_refused.Goals as
 
 pub returns-clause-may_fail : goal.returns-clause-may_fail
 unfolding packets_passed ending_on due_on leaving_on control_on keyed_on last_heard exchange_of sent_line_of link_of_packet is_answer links_begun pdu_heard heard_in read_of kept_bits crc crc_octets crc_of_bits remainder mask_of next_mask whitening_bit whitening_of little_endian ctrl_of makers data_channels used_channels
-returns-clause-may_fail c =
-    record { not_overdue = due_more A 1 (one_connection_journal ++ turn_entries 1 142) (turn_entry 143); not_leaving = refl }
+returns-clause-may_fail c words =
+    record { not_overdue = due_more words A 1 (one_connection_journal ++ turn_entries 1 142) (turn_entry 143); not_leaving = refl }
 
 pub returns-clause-may_time_out : goal.returns-clause-may_time_out
 unfolding packets_passed ending_on due_on leaving_on control_on keyed_on last_heard exchange_of sent_line_of link_of_packet is_answer links_begun pdu_heard heard_in read_of kept_bits crc crc_octets crc_of_bits remainder mask_of next_mask whitening_bit whitening_of little_endian ctrl_of makers data_channels used_channels
-returns-clause-may_time_out c =
-    record { not_overdue = due_more A 1 (one_event_journal ++ turn_entries 3 574) (turn_entry 577); not_leaving = refl }
+returns-clause-may_time_out c words =
+    record { not_overdue = due_more words A 1 (one_event_journal ++ turn_entries 3 574) (turn_entry 577); not_leaving = refl }
 
 pub returns-clause-failed : goal.returns-clause-failed
 unfolding packets_passed ending_on due_on leaving_on control_on keyed_on last_heard exchange_of sent_line_of link_of_packet is_answer links_begun pdu_heard heard_in read_of kept_bits crc crc_octets crc_of_bits remainder mask_of next_mask whitening_bit whitening_of little_endian ctrl_of makers data_channels used_channels
-returns-clause-failed c all =
-    some_is_none 0x3E (due_begun A 1 failing) None (due_more A 1 (one_connection_journal ++ turn_entries 1 143) (turn_entry 144)) refl
+returns-clause-failed c words all =
+    some_is_none 0x3E (due_begun words A 1 failing) None (due_more words A 1 (one_connection_journal ++ turn_entries 1 143) (turn_entry 144)) refl
     (all A 1 _ refl).not_overdue
 
 pub returns-clause-timed_out : goal.returns-clause-timed_out
 unfolding packets_passed ending_on due_on leaving_on control_on keyed_on last_heard exchange_of sent_line_of link_of_packet is_answer links_begun pdu_heard heard_in read_of kept_bits crc crc_octets crc_of_bits remainder mask_of next_mask whitening_bit whitening_of little_endian ctrl_of makers data_channels used_channels
-returns-clause-timed_out c all =
-    some_is_none 0x08 (due_begun A 1 silent) None (due_more A 1 (one_event_journal ++ turn_entries 3 575) (turn_entry 578)) refl
+returns-clause-timed_out c words all =
+    some_is_none 0x08 (due_begun words A 1 silent) None (due_more words A 1 (one_event_journal ++ turn_entries 3 575) (turn_entry 578)) refl
     (all A 1 _ refl).not_overdue

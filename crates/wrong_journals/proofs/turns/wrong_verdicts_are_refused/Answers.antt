@@ -14,4 +14,4 @@ pub returns-clause-changed : goal.returns-clause-changed
 returns-clause-changed c octets judged = is_changed judged.done octets judged.fate_is (judged.unchanged refl)
 
 pub returns-clause-forged : goal.returns-clause-forged
-returns-clause-forged c octets judged = judged.plain refl
+returns-clause-forged c octets judged = judged.forged refl refl

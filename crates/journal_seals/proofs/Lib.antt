@@ -1,0 +1,5 @@
+-- The lemmas of this crate.
+pub mod SealedSo
+pub mod OnAirEnds
+pub mod PacketEnds
+pub mod SealedPackets
