@@ -5,11 +5,12 @@ use Rattle.std.specs.Result.{IsErrAnd}
 use Rattle.journal.specs.declared.entries.Entry.{Entry}
 use Rattle.journal.specs.Text.{text}
 use Rattle.pair_world.specs.journal_pdus.Lawful.{IsLawful, IsWhole}
-use Rattle.pair_world.specs.Faults.{IsDueAtFault, IsLawfulSoFar, IsRunFault}
+use Rattle.pair_world.specs.Faults.{IsDueAtFault, IsLawfulSoFar}
+use Rattle.pair_world.specs.simulated_pair.Faults.{IsRunFault}
 use Rattle.pair_world.specs.run_model.Pair.{given_of, IsRun}
 use Rattle.pair_world.specs.run_model.Run.{Given}
-use Rattle.pair_world.specs.declared.run.RunFault.{RunFault}
-use Rattle.pair_world.specs.declared.run.RunFault.TheVariants.{Unseen as EndedUnseen, Memory as NoRoomForRun}
+use Rattle.pair_world.specs.simulated_pair.declared.run.RunFault.{RunFault}
+use Rattle.pair_world.specs.simulated_pair.declared.run.RunFault.TheVariants.{Unseen as EndedUnseen, Memory as NoRoomForRun}
 use Rattle.radio_replay.specs.declared.faults.ScheduleFault.{ScheduleFault}
 use Rattle.radio_replay.specs.declared.faults.ScheduleFault.TheVariants.{BadLine as OutsideGrammar, TooLong as PastTurns, Memory as NoRoomForTurns}
 use Rattle.radio_replay.specs.Schedule.{Right, Wrong, TooMany, schedule_of, IsFault}

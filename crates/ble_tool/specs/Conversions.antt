@@ -10,8 +10,8 @@ use Rattle.radio_replay.specs.declared.faults.ScheduleFault.TheVariants.{BadLine
 use Rattle.radio_replay.specs.declared.faults.ScheduleFault.TheVariants.{TooLong as PastTurns}
 use Rattle.radio_replay.specs.declared.faults.ScheduleFault.TheVariants.{Memory as NoRoomForTurns}
 use Rattle.journal.specs.declared.entries.Entry.{Entry}
-use Rattle.pair_world.specs.declared.run.RunFault.{RunFault}
-use Rattle.pair_world.specs.declared.run.RunFault.TheVariants.{Unseen as EndedUnseen, Memory as NoRoomForRun}
+use Rattle.pair_world.specs.simulated_pair.declared.run.RunFault.{RunFault}
+use Rattle.pair_world.specs.simulated_pair.declared.run.RunFault.TheVariants.{Unseen as EndedUnseen, Memory as NoRoomForRun}
 use Rattle.ble_tool.specs.declared.faults.Fault.{Fault}
 use Rattle.ble_tool.specs.declared.faults.Fault.TheVariants.{CannotRead, BadLine, CannotWrite, NoMemory, Unseen}
 use Rattle.ble_tool.specs.declared.faults.Fault.TheVariants.{TooLong, TooManyTurns}

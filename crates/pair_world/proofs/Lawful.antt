@@ -8,9 +8,10 @@ use Rattle.journal_pdus.specs.run_model.History.{Event}
 use Rattle.journal_pdus.specs.run_model.Journal.{journal_of}
 use Rattle.journal_pdus.specs.run_model.Pair.{IsRun}
 use Rattle.journal_pdus.specs.run_model.Run.{Given, GoesOn, Stop, Stops, history_of, run_of}
-use Rattle.pair_world.specs.Faults.{IsDueAtFault, IsLawfulSoFar, IsRunFault}
-use Rattle.pair_world.specs.declared.run.RunFault.{RunFault}
-use Rattle.pair_world.specs.declared.run.RunFault.TheVariants.{Unseen, Memory}
+use Rattle.pair_world.specs.Faults.{IsDueAtFault, IsLawfulSoFar}
+use Rattle.simulated_pair.specs.Faults.{IsRunFault}
+use Rattle.simulated_pair.specs.declared.run.RunFault.{RunFault}
+use Rattle.simulated_pair.specs.declared.run.RunFault.TheVariants.{Unseen, Memory}
 
 pub all_lawful : (a b : List ℕ) (script : Script) (given : Given) (journal : List Entry) → IsLawful a b script (journal_of (history_of (run_of given))) → IsRun given journal
     → IsLawful a b script journal
