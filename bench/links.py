@@ -18,12 +18,17 @@ def write(folder, load):
             file.write(content)
 
 
-def instructions(program, folder, load):
-    """The instructions of a whole run, as valgrind counts them."""
-    write(folder, load)
-    words = ["valgrind", "--tool=callgrind", "--callgrind-out-file=/dev/null", program, "pair", "a", "b", "s"]
+def counted(words, folder):
+    """The instructions of a program with its words, as valgrind counts them."""
+    words = ["valgrind", "--tool=callgrind", "--callgrind-out-file=/dev/null", *words]
     ended = subprocess.run(words, cwd=folder, stdout=subprocess.DEVNULL, stderr=subprocess.PIPE, text=True, check=True)
     return int(re.search(r"Collected : (\d+)", ended.stderr).group(1))
+
+
+def instructions(program, folder, load):
+    """The instructions of a whole run."""
+    write(folder, load)
+    return counted([program, "pair", "a", "b", "s"], folder)
 
 
 def per_turn(program, folder, make):

@@ -1,6 +1,6 @@
 #!/usr/bin/env bash
 # Measures parts on their own, those that the program does not call yet among them, at the whole load and at half of it.
-# Needs the toolchain and python3. The program that it measures is parts.txt, built in a folder of its own.
+# Needs the toolchain and python3. With words, the first is another script that is to measure them. The program that it measures is parts.txt, built in a folder of its own.
 set -e
 cd "$(dirname "$0")/.."
 # The crates that parts.txt calls, and those that they depend on.
@@ -22,4 +22,5 @@ echo "parts_bench: $called arrayvec" >>"$folder/crates.txt"
   echo "the program did not build" >&2
   exit 1
 }
-python3 bench/parts.py "$folder/crates/parts_bench/out/parts_bench"
+script=${1:-bench/parts.py}
+python3 "$script" "$folder/crates/parts_bench/out/parts_bench" "${@:2}"

@@ -12,8 +12,9 @@ JOURNAL is a file with a journal; without one, those of all examples are looked 
 - each side enters the events 0, 1, 2, .. of a link, each once;
 - a link is shut with 3E six intervals after its CONNECT_IND, where its side heard nothing good on it; with 08 as the
   supervision timeout has passed since the last good packet; with 00 where its host completes a Reset; with 16 where its
-  side sent LL_TERMINATE_IND; with 28 where it took an indication whose Instant has passed; and with the code of an
-  LL_TERMINATE_IND that it took, once it has sent a packet after that. None that is overdue is open after that turn;
+  side sent LL_TERMINATE_IND; with 28 where it took an indication whose Instant has passed; with 3D where it judged a packet
+  forged; and with the code of an LL_TERMINATE_IND that it took, once it has sent a packet after that. None that is overdue
+  is open after that turn;
 - a side runs one control procedure of its own at a time, and what is done or refused is the one that it began, or a
   version exchange that it has not begun;
 - an indication comes into force just before the event of its Instant, or the one after that at a peripheral that took it
@@ -92,6 +93,7 @@ class Side:
         self.terminates = set()
         self.peer_code = {}
         self.passed = set()
+        self.forged = set()
         self.fed = b""
         self.since = 0
 
@@ -142,13 +144,19 @@ class Reader:
             found = connect_ind(int(channel), packet)
             if found:
                 self.links.append((*found, self.slot))
-        elif verdict == "good":
+        elif verdict in ("good", "forged"):
             for link, (address, _, _, _) in enumerate(self.links, 1):
                 if address == packet_address(packet):
-                    self.sides[OTHER[side]].heard[link] = self.slot
+                    self.heard(self.sides[OTHER[side]], link, verdict)
         for link in list(self.sides[side].peer_code):
             if int(channel) < 37 and self.links[link - 1][0] == packet_address(packet):
                 self.sides[side].ends[link] = self.sides[side].peer_code[link]
+
+    def heard(self, side, link, verdict):
+        if verdict == "good":
+            side.heard[link] = self.slot
+        else:
+            side.forged.add(link)
 
     def open(self, side, link, handle, _role):
         side = self.sides[side]
@@ -223,6 +231,7 @@ class Reader:
             "00": completes_reset(side.fed, side.since),
             "16": link in side.terminates,
             "28": link in side.passed,
+            "3d": link in side.forged,
         }
         if not due.get(reason, False) and side.ends.get(link) != reason:
             raise Fault("a link that is shut without this reason")

@@ -8,7 +8,8 @@ NAME is an example; without a name all are looked at. It shows, by a plain readi
 - the turns are those of the schedule, in order from slot 0, with their radios, and all of them where the status is 0;
 - before each next turn, and at the end, each side was fed what the turns so far feed it of its stream;
 - the n-th packet of a turn has the n-th fate of that turn, and packets past the fates pass;
-- a side whose radio is off sends nothing, and misses all packets; a lost packet is missed, and none is forged.
+- a side whose radio is off sends nothing, and misses all packets; a lost packet is missed; and on an advertising channel
+  none is forged.
 
 These are the clauses of a lawful journal about turns (docs/lawful-journals.md). It shares no code with the program. The
 last line is `as scheduled`; otherwise the first line of a journal that is not as it must be is named, and the status is 1.
@@ -19,6 +20,8 @@ from typing import NamedTuple
 
 HERE = os.path.dirname(os.path.abspath(__file__))
 SIDES = "ab"
+# The advertising channels are this one and those after it.
+ADVERTISING = 37
 
 
 class Fault(Exception):
@@ -102,7 +105,7 @@ class Reader:
             raise Fault("a side is fed after a packet of the turn")
         self.fed[side] += bytes.fromhex(octets)
 
-    def packet(self, side, _channel, _octets, fate, verdict):
+    def packet(self, side, channel, _octets, fate, verdict):
         turn = self.now()
         fates = turn.fates[self.packets :]
         self.packets += 1
@@ -113,8 +116,8 @@ class Reader:
             raise Fault("a packet from a side whose radio is off")
         if (turn.radios[SIDES.index(other)] != "+" or fate == "x") and verdict != "missed":
             raise Fault("a packet that cannot be heard is not missed")
-        if verdict == "forged":
-            raise Fault("a forged packet on a link that is not encrypted")
+        if verdict == "forged" and int(channel) >= ADVERTISING:
+            raise Fault("a forged packet on an advertising channel")
 
     def line(self, text):
         kind, *words = text.split(" ")

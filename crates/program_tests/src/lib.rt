@@ -12,6 +12,8 @@ mod colliding;
 #[cfg(test)]
 mod data;
 #[cfg(test)]
+mod encrypting;
+#[cfg(test)]
 mod lengths;
 #[cfg(test)]
 mod lines;
