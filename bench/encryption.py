@@ -5,9 +5,9 @@ import os
 import sys
 import tempfile
 
-from data import LENGTH, LENGTH_EVENTS, LONG_EVENTS, LONG_TURNS, check_taken, data, packet
+from data import LENGTH, LENGTH_EVENTS, LONG_EVENTS, LONG_TURNS, data, packet
 from links import counted, instructions
-from runs import CREATE, INTERVAL, ON, Load, link, run
+from runs import CREATE, INTERVAL, ON, Load, run
 
 EVENTS = 2_000
 BLOCKS = 10_000
@@ -16,7 +16,7 @@ ENABLE = bytes.fromhex("0119201c" "0000" "0000000000000000" "0000") + KEY
 REPLY = bytes.fromhex("011a2012" "0000") + KEY
 # LE events let through.
 MASK = bytes.fromhex("01010c08ffffffffff1f0020")
-# An encryption takes four events, of which one has a second exchange.
+# An encryption takes four events, of which one has a second exchange; or five, where payloads may be longer.
 START_EVENTS = 4
 # The most instructions that CCM should take for a block of the cipher, beyond those of the cipher.
 MOST_OF_A_BLOCK = 1_250
@@ -35,13 +35,14 @@ def encrypted(events, size=27):
     a += ENABLE
     b += REPLY
     turns += b"t ++ a%d\nrun %d\n" % (len(ENABLE), INTERVAL - 1)
-    turns += b"t ++ b%d\nrun %d\n" % (len(REPLY), (START_EVENTS - 1) * INTERVAL - 1)
+    starts = START_EVENTS + (1 if size > 27 else 0)
+    turns += b"t ++ b%d\nrun %d\n" % (len(REPLY), (starts - 1) * INTERVAL - 1)
     for number in range(events):
         a += packet(number, size)
         b += packet(number + 128, size)
         turns += b"t ++ a%d b%d\nrun %d\n" % (5 + size, 5 + size, INTERVAL - 1)
-    entered = events + 1 + START_EVENTS + (LENGTH_EVENTS if size > 27 else 0)
-    return Load(a, b, turns, 2 + INTERVAL * entered, 2 + 2 * entered + 2)
+    entered = events + 1 + starts + (LENGTH_EVENTS if size > 27 else 0)
+    return Load(a, b, turns, 2 + INTERVAL * entered, 2 + 2 * entered + (0 if size > 27 else 2))
 
 
 def blocks(size):
@@ -62,18 +63,27 @@ def per_event(program, folder, make):
     return (whole - instructions(program, folder, make(EVENTS))) / EVENTS
 
 
-def check_encrypted(folder):
+def check_encrypted(folder, events, size):
+    """Encryption starts, and each host receives a packet in each event."""
     with open(os.path.join(folder, "journal"), "rb") as journal:
-        lines = journal.read().split(b"\n")
-    for line in (b"done a 1 encrypt", b"up a 04080400000001", b"up b 04080400000001"):
-        if lines.count(line) != 1:
-            sys.exit(f"no line {line.decode()}")
+        lines = journal.readlines()
+    head = packet(0, size)[3:5].hex()
+    for begin, expected in (
+        ("done a 1 encrypt", 1),
+        ("up a 04080400000001", 1),
+        ("up b 04080400000001", 1),
+        (f"up a 020020{head}", events),
+        (f"up b 020020{head}", events),
+    ):
+        count = sum(line.startswith(begin.encode()) for line in lines)
+        if count != expected:
+            sys.exit(f"{count} lines begin with {begin}, and not {expected}")
 
 
 def print_size(program, folder, size, block):
     _, clear_memory, _ = run(program, folder, data(EVENTS, size))
     _, memory, text = run(program, folder, encrypted(EVENTS, size))
-    check_encrypted(folder)
+    check_encrypted(folder, EVENTS, size)
     clear = per_event(program, folder, lambda events: data(events, size))
     sealed = per_event(program, folder, lambda events: encrypted(events, size))
     # Each of both packets is sealed once and opened once.
@@ -98,8 +108,6 @@ def main():
     block = block_alone(parts)
     print(f"A block of the cipher alone: {block:,.0f} instructions")
     with tempfile.TemporaryDirectory() as folder:
-        run(program, folder, encrypted(EVENTS // 10))
-        check_taken(folder, EVENTS // 10)
         for size in (27, 251):
             print_size(program, folder, size, block)
         print_rates(program, folder)
