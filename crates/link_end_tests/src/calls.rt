@@ -11,9 +11,29 @@ use test_words::{Call, hex_number, octets_of, put_answer, put_number, put_value,
 /// The most octets of data in one packet.
 const MOST: [u8; 251] = [7; 251];
 
+/// The long term key of the sample data of Core 5.2, volume 6 part C, section 1, and another one.
+pub(crate) const LTK: [u8; 16] = [
+    0x4C, 0x68, 0x38, 0x41, 0x39, 0xF5, 0x74, 0xD8, 0x36, 0xBC, 0xF3, 0x4E, 0x9D, 0xFB, 0x01, 0xBF,
+];
+
+const OTHER: [u8; 16] = [0x22; 16];
+
+/// An encryption with this long term key, and with the other values of the sample data.
+fn encryption(ltk: [u8; 16]) -> Ask
+    ensures { IsAsk result }
+{
+    Ask::Encrypt {
+        rand: 0xABCD_EF12_3456_7890,
+        ediv: 0x2474,
+        ltk,
+        skd_m: 0xACBD_CEDF_E0F1_0213,
+        iv_m: 0xBADC_AB24,
+    }
+}
+
 /// What a host asks: an update to a timeout of 1 s, a request for 40 ms, a map of the channels 0 to
-/// 32, at most 251 octets, a PHY update, the features of the peer, an encryption, or the version of
-/// the peer.
+/// 32, at most 251 octets, a PHY update, the features of the peer, an encryption, one with another
+/// key, or the version of the peer.
 pub(crate) fn ask_named(name: &str) -> Ask
     ensures { IsAsk result }
 {
@@ -33,13 +53,8 @@ pub(crate) fn ask_named(name: &str) -> Ask
         "length" => Ask::Length { tx: 251 },
         "phy" => Ask::Phy,
         "features" => Ask::Features,
-        "encrypt" => Ask::Encrypt {
-            rand: 0,
-            ediv: 0,
-            ltk: [0; 16],
-            skd_m: 2,
-            iv_m: 3,
-        },
+        "encrypt" => encryption(LTK),
+        "other" => encryption(OTHER),
         _ => Ask::Version,
     }
 }
@@ -57,7 +72,8 @@ pub(crate) fn take(end: &mut End, call: Call<'_>, told: &mut String) -> Result<(
         "grant" => end.answer(Ok(ask_named("update"))),
         "refuse" => end.answer(Err(code_of(told, first))),
         "end" => end.finish(code_of(told, first), slot(second)),
-        "key" => end.key(Some([0; 16]), slot(first)),
+        "key" => end.key(Some(LTK), slot(first)),
+        "other_key" => end.key(Some(OTHER), slot(first)),
         "no_key" => end.key(None, slot(first)),
         _ => return look(end, call, told),
     }

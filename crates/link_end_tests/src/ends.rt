@@ -30,6 +30,12 @@ const HANDLE: u16 = 0;
 /// The slot of the anchor of event 0.
 const FIRST_ANCHOR: u64 = 2;
 
+/// The halves of the session key diversifier and of the initialization vector with which a
+/// peripheral answers LL_ENC_REQ (the sample data of Core 5.2, volume 6 part C, section 1).
+const SKD_S: u64 = 0x0213_2435_4657_6879;
+
+const IV_S: u32 = 0xDEAF_BABE;
+
 /// One end of a link, its buffers, and the first slot in which it may take octets.
 #[derive(Drop)]
 pub(crate) struct End {
@@ -197,6 +203,7 @@ impl End {
         }
         make_room(&mut self.out);
         self.tx.credited(self.link.setup().handle);
+        self.link.enc_words(SKD_S, IV_S);
         let (tx, rx) = (&mut self.tx, &mut self.rx);
         let step = self.link.heard(octets, SlotNo(slot), tx, rx, &mut self.out);
         self.next = slot + 1;
@@ -208,6 +215,14 @@ impl End {
         match self.step {
             None => Effect::Nothing,
             Some(step) => step.effect,
+        }
+    }
+
+    /// What it does with a PDU that it kept, and which it looks at now.
+    pub(crate) fn kept_effect(&self) -> Effect {
+        match self.step {
+            None => Effect::Nothing,
+            Some(step) => step.kept_effect,
         }
     }
 

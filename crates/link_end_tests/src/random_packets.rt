@@ -68,7 +68,7 @@ fn payload(llid: u8, state: &mut u32) -> ArrayVec<u8, PAYLOAD_OCTETS> {
 }
 
 /// The packet of a PDU on this channel.
-fn packet(
+pub(crate) fn packet(
     channel: u8,
     header: DataHeader,
     body: &ArrayVec<u8, PAYLOAD_OCTETS>,
