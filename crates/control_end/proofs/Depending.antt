@@ -4,13 +4,13 @@ use Rattle.ble_base.specs.declared.error_codes.ErrCode.{ErrCode}
 use Rattle.ble_base.specs.declared.roles.Role.{Role}
 use Rattle.ble_base.specs.declared.roles.Role.TheVariants.{Central, Peripheral}
 use Rattle.instants.specs.declared.indications.Indication.{Indication}
-use Rattle.procedures.specs.procedure_values.Drafts.{is_out}
-use Rattle.procedures.specs.procedure_stages.Closing.{is_open}
-use Rattle.procedures.specs.procedure_stages.InProgress.{is_host_asked}
-use Rattle.procedures.specs.procedure_stages.Kinds.{role_of}
-use Rattle.procedures.specs.Going.{is_answer}
-use Rattle.procedures.specs.Table.{TableFacts}
-use Rattle.procedures.specs.Taking.{took_step}
+use Rattle.control_model.specs.procedures.procedure_values.Drafts.{is_out}
+use Rattle.control_model.specs.procedures.procedure_stages.Closing.{is_open}
+use Rattle.control_model.specs.procedures.procedure_stages.InProgress.{is_host_asked}
+use Rattle.control_model.specs.procedures.procedure_stages.Kinds.{role_of}
+use Rattle.control_model.specs.procedures.Going.{is_answer}
+use Rattle.control_model.specs.procedures.Table.{TableFacts}
+use Rattle.control_model.specs.procedures.Taking.{took_step}
 use Rattle.control_model.specs.Control.{Control, Step, Enters, Asks, Answers, Disconnects, Sends, SeesAcknowledged, Takes, Owes, after, after_all, following, goes_out, indicated_by, is_to_come, moved, table_if, taken, went}
 use Rattle.control_end.specs.Held.{control_of, held_after, held_after_all, held_of}
 

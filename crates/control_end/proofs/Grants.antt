@@ -10,11 +10,11 @@ use Rattle.data_pdu.specs.declared.ctrl.Ctrl.TheVariants.{UnknownRsp, FeatureRsp
 use Rattle.data_pdu.specs.declared.ctrl.CtrlRead.{CtrlRead}
 use Rattle.data_pdu.specs.declared.ctrl.CtrlRead.TheVariants.{Known, Unknown, Bare}
 use Rattle.instants.specs.declared.indications.Indication.{Indication}
-use Rattle.procedures.specs.procedure_values.declared.asks.Ask.{Ask}
-use Rattle.procedures.specs.procedure_values.declared.asks.Ask.TheVariants.{Update as ask_update, Map as ask_map, Encrypt as ask_encrypt}
-use Rattle.procedures.specs.procedure_values.declared.drafts.Draft.{Draft}
-use Rattle.procedures.specs.procedure_values.declared.drafts.Outgoing.{Outgoing}
-use Rattle.procedures.specs.procedure_values.declared.drafts.Outgoing.TheVariants.{Other}
+use Rattle.control_model.specs.procedures.procedure_values.declared.asks.Ask.{Ask}
+use Rattle.control_model.specs.procedures.procedure_values.declared.asks.Ask.TheVariants.{Update as ask_update, Map as ask_map, Encrypt as ask_encrypt}
+use Rattle.control_model.specs.procedures.procedure_values.declared.drafts.Draft.{Draft}
+use Rattle.control_model.specs.procedures.procedure_values.declared.drafts.Outgoing.{Outgoing}
+use Rattle.control_model.specs.procedures.procedure_values.declared.drafts.Outgoing.TheVariants.{Other}
 use Rattle.exclusive_stages.specs.declared.pdus.Pdu.{Pdu}
 use Rattle.exclusive_stages.specs.declared.pdus.Pdu.TheVariants.{PhyReq as phy_req, ParamReq as param_req}
 use Rattle.exclusive_stages.specs.declared.stages.PeripheralStage.{PeripheralStage}
@@ -22,35 +22,35 @@ use Rattle.exclusive_stages.specs.declared.stages.PeripheralStage.TheVariants.{R
 use Rattle.exclusive_stages.specs.Awaited.{awaits_phy_ind, central_answered, has_phy_of_central, reads_as_answer}
 use Rattle.exclusive_stages.specs.Held.{own_held_at_peripheral}
 use Rattle.exclusive_stages.specs.Sent.{own_sent_by_peripheral}
-use Rattle.procedures.specs.procedure_stages.declared.stages.Ahead.{Ahead}
-use Rattle.procedures.specs.procedure_stages.declared.stages.Ahead.TheVariants.{Nothing, Update as update_ahead, Map as map_ahead}
-use Rattle.procedures.specs.procedure_stages.declared.stages.Central.{Central}
-use Rattle.procedures.specs.procedure_stages.declared.stages.Exchange.{Exchange}
-use Rattle.procedures.specs.procedure_stages.declared.stages.OwnPeripheral.{OwnPeripheral}
-use Rattle.procedures.specs.procedure_stages.declared.stages.OwnPeripheral.TheVariants.{Exclusive as exclusive, Exchange as exchange}
-use Rattle.procedures.specs.procedure_stages.declared.stages.Peripheral.{Peripheral}
-use Rattle.procedures.specs.procedure_stages.declared.stages.Progress.{Progress}
-use Rattle.procedures.specs.procedure_stages.declared.stages.Progress.TheVariants.{Central as central, Peripheral as peripheral}
-use Rattle.procedures.specs.procedure_stages.Awaited.{awaits_features, awaits_lengths, is_version}
-use Rattle.procedures.specs.procedure_stages.Begun.{progress_begun}
-use Rattle.procedures.specs.procedure_stages.Collisions.{collision}
-use Rattle.procedures.specs.procedure_stages.Exclusive.{on_peripheral_stage, pdu_of_draft, peripheral_stage}
-use Rattle.procedures.specs.procedure_stages.Foreign.{is_foreign}
-use Rattle.procedures.specs.procedure_stages.Held.{progress_held}
-use Rattle.procedures.specs.procedure_stages.Kinds.{kind_at_peripheral, own_exchange, role_of, without_own}
-use Rattle.procedures.specs.procedure_stages.Opcodes.{first_opcode, is_opcode, later_opcode}
-use Rattle.procedures.specs.procedure_stages.Sent.{exchange_sent, exclusive_sent_by_peripheral, own_draft_sent_by_peripheral, progress_after_sending}
-use Rattle.procedures.specs.declared.outcome.Outcome.{Outcome}
-use Rattle.procedures.specs.Beginning.{ask_at, begin_at, begin_step, place_to_begin}
-use Rattle.procedures.specs.Encryption.{is_rejection, progress_given}
-use Rattle.procedures.specs.Phy.{phy_ind_taken}
-use Rattle.procedures.specs.Refusals.{refused_if}
-use Rattle.procedures.specs.Request.{after_grant, outlived}
-use Rattle.procedures.specs.Table.{TableFacts}
-use Rattle.procedures.specs.Taking.{outcome_of, taken_by_either, taken_by_peripheral}
-use Rattle.procedures.specs.Map.{map_taken}
-use Rattle.procedures.specs.Update.{follow, granted, update_begun, update_taken}
-use Rattle.procedures.specs.Version.{version_taken}
+use Rattle.control_model.specs.procedures.procedure_stages.declared.stages.Ahead.{Ahead}
+use Rattle.control_model.specs.procedures.procedure_stages.declared.stages.Ahead.TheVariants.{Nothing, Update as update_ahead, Map as map_ahead}
+use Rattle.control_model.specs.procedures.procedure_stages.declared.stages.Central.{Central}
+use Rattle.control_model.specs.procedures.procedure_stages.declared.stages.Exchange.{Exchange}
+use Rattle.control_model.specs.procedures.procedure_stages.declared.stages.OwnPeripheral.{OwnPeripheral}
+use Rattle.control_model.specs.procedures.procedure_stages.declared.stages.OwnPeripheral.TheVariants.{Exclusive as exclusive, Exchange as exchange}
+use Rattle.control_model.specs.procedures.procedure_stages.declared.stages.Peripheral.{Peripheral}
+use Rattle.control_model.specs.procedures.procedure_stages.declared.stages.Progress.{Progress}
+use Rattle.control_model.specs.procedures.procedure_stages.declared.stages.Progress.TheVariants.{Central as central, Peripheral as peripheral}
+use Rattle.control_model.specs.procedures.procedure_stages.Awaited.{awaits_features, awaits_lengths, is_version}
+use Rattle.control_model.specs.procedures.procedure_stages.Begun.{progress_begun}
+use Rattle.control_model.specs.procedures.procedure_stages.Collisions.{collision}
+use Rattle.control_model.specs.procedures.procedure_stages.Exclusive.{on_peripheral_stage, pdu_of_draft, peripheral_stage}
+use Rattle.control_model.specs.procedures.procedure_stages.Foreign.{is_foreign}
+use Rattle.control_model.specs.procedures.procedure_stages.Held.{progress_held}
+use Rattle.control_model.specs.procedures.procedure_stages.Kinds.{kind_at_peripheral, own_exchange, role_of, without_own}
+use Rattle.control_model.specs.procedures.procedure_stages.Opcodes.{first_opcode, is_opcode, later_opcode}
+use Rattle.control_model.specs.procedures.procedure_stages.Sent.{exchange_sent, exclusive_sent_by_peripheral, own_draft_sent_by_peripheral, progress_after_sending}
+use Rattle.control_model.specs.procedures.declared.outcome.Outcome.{Outcome}
+use Rattle.control_model.specs.procedures.Beginning.{ask_at, begin_at, begin_step, place_to_begin}
+use Rattle.control_model.specs.procedures.Encryption.{is_rejection, progress_given}
+use Rattle.control_model.specs.procedures.Phy.{phy_ind_taken}
+use Rattle.control_model.specs.procedures.Refusals.{refused_if}
+use Rattle.control_model.specs.procedures.Request.{after_grant, outlived}
+use Rattle.control_model.specs.procedures.Table.{TableFacts}
+use Rattle.control_model.specs.procedures.Taking.{outcome_of, taken_by_either, taken_by_peripheral}
+use Rattle.control_model.specs.procedures.Map.{map_taken}
+use Rattle.control_model.specs.procedures.Update.{follow, granted, update_begun, update_taken}
+use Rattle.control_model.specs.procedures.Version.{version_taken}
 use Rattle.control_model.specs.Control.{indicated_by}
 use Rattle.control_end.specs.Following.{AwaitsGrant, AwaitsIf, indication_read}
 use Rattle.control_model.proofs.Outcomes.{Hands, fits}

@@ -14,24 +14,24 @@ use Rattle.instants.specs.declared.track.Change.{Change}
 use Rattle.instants.specs.Track.{TrackFacts, track_after_take}
 use Rattle.exclusive_stages.specs.declared.stages.PeerAtPeripheral.TheVariants.{MapTaken}
 use Rattle.exclusive_stages.specs.Awaited.{central_answered, reads_as_answer}
-use Rattle.procedures.specs.procedure_stages.declared.stages.Ahead.{Ahead}
-use Rattle.procedures.specs.procedure_stages.declared.stages.Ahead.TheVariants.{Nothing, Update as update_ahead, Map as map_ahead}
-use Rattle.procedures.specs.procedure_stages.declared.stages.Peripheral.{Peripheral}
-use Rattle.procedures.specs.procedure_stages.declared.stages.Progress.{Progress}
-use Rattle.procedures.specs.procedure_stages.declared.stages.Progress.TheVariants.{Central as central, Peripheral as peripheral}
-use Rattle.procedures.specs.procedure_stages.declared.reply.Reply.TheVariants.{Nothing as no_reply}
-use Rattle.procedures.specs.procedure_stages.declared.steps.Effect.TheVariants.{Indicated}
-use Rattle.procedures.specs.procedure_stages.declared.steps.Step.{Step as TableStep}
-use Rattle.procedures.specs.procedure_stages.Closing.{is_open}
-use Rattle.procedures.specs.procedure_stages.Collisions.{collision}
-use Rattle.procedures.specs.procedure_stages.Exclusive.{peripheral_stage}
-use Rattle.procedures.specs.procedure_stages.Kinds.{kind_at_peripheral, role_of}
-use Rattle.procedures.specs.procedure_stages.Queue.{waiting_in}
-use Rattle.procedures.specs.declared.outcome.Outcome.{Outcome}
-use Rattle.procedures.specs.Table.{TableFacts}
-use Rattle.procedures.specs.Taking.{facts_with, lacks_room, no_room, outcome_of, settled, took_step}
-use Rattle.procedures.specs.Request.{outlived}
-use Rattle.procedures.specs.Update.{followed, granted, update_begun}
+use Rattle.control_model.specs.procedures.procedure_stages.declared.stages.Ahead.{Ahead}
+use Rattle.control_model.specs.procedures.procedure_stages.declared.stages.Ahead.TheVariants.{Nothing, Update as update_ahead, Map as map_ahead}
+use Rattle.control_model.specs.procedures.procedure_stages.declared.stages.Peripheral.{Peripheral}
+use Rattle.control_model.specs.procedures.procedure_stages.declared.stages.Progress.{Progress}
+use Rattle.control_model.specs.procedures.procedure_stages.declared.stages.Progress.TheVariants.{Central as central, Peripheral as peripheral}
+use Rattle.control_model.specs.procedures.procedure_stages.declared.reply.Reply.TheVariants.{Nothing as no_reply}
+use Rattle.control_model.specs.procedures.procedure_stages.declared.steps.Effect.TheVariants.{Indicated}
+use Rattle.control_model.specs.procedures.procedure_stages.declared.steps.Step.{Step as TableStep}
+use Rattle.control_model.specs.procedures.procedure_stages.Closing.{is_open}
+use Rattle.control_model.specs.procedures.procedure_stages.Collisions.{collision}
+use Rattle.control_model.specs.procedures.procedure_stages.Exclusive.{peripheral_stage}
+use Rattle.control_model.specs.procedures.procedure_stages.Kinds.{kind_at_peripheral, role_of}
+use Rattle.control_model.specs.procedures.procedure_stages.Queue.{waiting_in}
+use Rattle.control_model.specs.procedures.declared.outcome.Outcome.{Outcome}
+use Rattle.control_model.specs.procedures.Table.{TableFacts}
+use Rattle.control_model.specs.procedures.Taking.{facts_with, lacks_room, no_room, outcome_of, settled, took_step}
+use Rattle.control_model.specs.procedures.Request.{outlived}
+use Rattle.control_model.specs.procedures.Update.{followed, granted, update_begun}
 use Rattle.control_model.specs.Control.{Takes, ended, indicated_by, is_to_come, taken}
 use Rattle.control_model.specs.Waits.{kind_ahead, kind_awaited, kind_of_indication}
 use Rattle.control_model.proofs.Outcomes.{Hands, fits}

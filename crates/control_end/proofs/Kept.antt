@@ -4,15 +4,15 @@ use Rattle.ble_base.specs.declared.error_codes.ErrCode.{ErrCode}
 use Rattle.data_pdu.specs.declared.ctrl.Ctrl.{Ctrl}
 use Rattle.instants.specs.declared.track.Change.{Change}
 use Rattle.instants.specs.Track.{TrackFacts, is_due, next_number, track_after_enter}
-use Rattle.procedures.specs.procedure_stages.declared.stages.Progress.{Progress}
-use Rattle.procedures.specs.procedure_stages.declared.stages.Progress.TheVariants.{Central as central, Peripheral as peripheral}
-use Rattle.procedures.specs.procedure_stages.Held.{progress_held}
-use Rattle.procedures.specs.procedure_stages.Kinds.{role_of}
-use Rattle.procedures.specs.Beginning.{begin_step}
-use Rattle.procedures.specs.Going.{entered_step, owe_step}
-use Rattle.procedures.specs.Queue.{next_of}
-use Rattle.procedures.specs.Sending.{went_step}
-use Rattle.procedures.specs.Table.{TableFacts}
+use Rattle.control_model.specs.procedures.procedure_stages.declared.stages.Progress.{Progress}
+use Rattle.control_model.specs.procedures.procedure_stages.declared.stages.Progress.TheVariants.{Central as central, Peripheral as peripheral}
+use Rattle.control_model.specs.procedures.procedure_stages.Held.{progress_held}
+use Rattle.control_model.specs.procedures.procedure_stages.Kinds.{role_of}
+use Rattle.control_model.specs.procedures.Beginning.{begin_step}
+use Rattle.control_model.specs.procedures.Going.{entered_step, owe_step}
+use Rattle.control_model.specs.procedures.Queue.{next_of}
+use Rattle.control_model.specs.procedures.Sending.{went_step}
+use Rattle.control_model.specs.procedures.Table.{TableFacts}
 use Rattle.control_model.specs.Waits.{kind_awaited}
 use Rattle.control_model.proofs.Calls.{begun_same, given_same, held_over, sent_from}
 use Rattle.control_end.specs.Following.{AwaitsWaiting, IsEnd}

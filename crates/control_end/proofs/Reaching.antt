@@ -9,15 +9,15 @@ use Rattle.ble_base.specs.declared.roles.Role.TheVariants.{Central, Peripheral}
 use Rattle.instants.specs.declared.indications.Indication.{Indication}
 use Rattle.instants.specs.declared.indications.Params.{Params}
 use Rattle.instants.specs.Track.{event_of, next_number, track_after_take}
-use Rattle.procedures.specs.procedure_values.Drafts.{is_out}
-use Rattle.procedures.specs.procedure_stages.Closing.{is_open}
-use Rattle.procedures.specs.procedure_stages.InProgress.{is_host_asked}
-use Rattle.procedures.specs.procedure_stages.Kinds.{role_of}
-use Rattle.procedures.specs.procedure_stages.Queue.{waiting_in}
-use Rattle.procedures.specs.Calls.{asks, begins_one, disconnects, enters, host_answers, is_acked, sends, takes}
-use Rattle.procedures.specs.Going.{is_answer}
-use Rattle.procedures.specs.Table.{TableFacts}
-use Rattle.procedures.specs.Taking.{took_step}
+use Rattle.control_model.specs.procedures.procedure_values.Drafts.{is_out}
+use Rattle.control_model.specs.procedures.procedure_stages.Closing.{is_open}
+use Rattle.control_model.specs.procedures.procedure_stages.InProgress.{is_host_asked}
+use Rattle.control_model.specs.procedures.procedure_stages.Kinds.{role_of}
+use Rattle.control_model.specs.procedures.procedure_stages.Queue.{waiting_in}
+use Rattle.control_model.specs.procedures.Calls.{asks, begins_one, disconnects, enters, host_answers, is_acked, sends, takes}
+use Rattle.control_model.specs.procedures.Going.{is_answer}
+use Rattle.control_model.specs.procedures.Table.{TableFacts}
+use Rattle.control_model.specs.procedures.Taking.{took_step}
 use Rattle.control_model.specs.Control.{Control, Step, Enters, Asks, Answers, Disconnects, Sends, SeesAcknowledged, Takes, Owes, after, after_all, ended, first_control, following, goes_out, indicated_by, is_to_come, moved, table_if, taken, went}
 use Rattle.control_model.specs.Waits.{AreInRange, IsInRange}
 use Rattle.control_model.proofs.Calls.{any_step, either_way}

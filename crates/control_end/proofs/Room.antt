@@ -7,38 +7,38 @@ use Rattle.ble_base.specs.declared.procedure_kinds.Kind.TheVariants.{Encrypt}
 use Rattle.ble_base.specs.declared.roles.Role.{Role}
 use Rattle.ble_base.specs.declared.roles.Role.TheVariants.{Central as central_role, Peripheral as peripheral_role}
 use Rattle.data_pdu.specs.declared.ctrl.CtrlRead.{CtrlRead}
-use Rattle.procedures.specs.procedure_values.declared.asks.Ask.{Ask}
-use Rattle.procedures.specs.procedure_values.declared.asks.Ask.TheVariants.{Encrypt as ask_encrypt, Request as ask_request, Update as ask_update}
-use Rattle.procedures.specs.procedure_values.declared.drafts.Draft.{Draft}
-use Rattle.procedures.specs.procedure_values.declared.drafts.Draft.TheVariants.{FeatureRsp, LengthRsp, PhyInd, PhyRsp, UnknownRsp, VersionInd}
-use Rattle.procedures.specs.procedure_values.declared.drafts.Rejection.{Rejection}
-use Rattle.procedures.specs.procedure_values.Asks.{kind_of_ask}
+use Rattle.control_model.specs.procedures.procedure_values.declared.asks.Ask.{Ask}
+use Rattle.control_model.specs.procedures.procedure_values.declared.asks.Ask.TheVariants.{Encrypt as ask_encrypt, Request as ask_request, Update as ask_update}
+use Rattle.control_model.specs.procedures.procedure_values.declared.drafts.Draft.{Draft}
+use Rattle.control_model.specs.procedures.procedure_values.declared.drafts.Draft.TheVariants.{FeatureRsp, LengthRsp, PhyInd, PhyRsp, UnknownRsp, VersionInd}
+use Rattle.control_model.specs.procedures.procedure_values.declared.drafts.Rejection.{Rejection}
+use Rattle.control_model.specs.procedures.procedure_values.Asks.{kind_of_ask}
 use Rattle.exclusive_stages.specs.declared.pdus.Exclusive.{Exclusive}
 use Rattle.exclusive_stages.specs.declared.pdus.Exclusive.TheVariants.{Update}
 use Rattle.exclusive_stages.specs.Kinds.{central_kind, kind_of, peripheral_kind}
-use Rattle.procedures.specs.procedure_stages.declared.closing.Closing.{Closing}
-use Rattle.procedures.specs.procedure_stages.declared.reply.Reply.{Reply}
-use Rattle.procedures.specs.procedure_stages.declared.reply.Reply.TheVariants.{Answer, Nothing as no_reply, Reject}
-use Rattle.procedures.specs.procedure_stages.declared.stages.Exchange.{Exchange}
-use Rattle.procedures.specs.procedure_stages.declared.stages.Exchange.TheVariants.{FeaturesUnsent}
-use Rattle.procedures.specs.procedure_stages.declared.stages.OwnCentral.{OwnCentral}
-use Rattle.procedures.specs.procedure_stages.declared.stages.OwnCentral.TheVariants.{Exchange as exchange, Exclusive as exclusive}
-use Rattle.procedures.specs.procedure_stages.declared.stages.OwnPeripheral.{OwnPeripheral}
-use Rattle.procedures.specs.procedure_stages.declared.stages.OwnPeripheral.TheVariants.{Exchange as exchange_p, Exclusive as exclusive_p}
-use Rattle.procedures.specs.procedure_stages.declared.stages.Progress.{Progress}
-use Rattle.procedures.specs.procedure_stages.declared.stages.Progress.TheVariants.{Central as central, Peripheral as peripheral}
-use Rattle.procedures.specs.procedure_stages.declared.steps.Step.{Step}
-use Rattle.procedures.specs.procedure_stages.Awaited.{is_own_encryption}
-use Rattle.procedures.specs.procedure_stages.Begun.{progress_begun}
-use Rattle.procedures.specs.procedure_stages.Closing.{is_open}
-use Rattle.procedures.specs.procedure_stages.InProgress.{is_host_asked}
-use Rattle.procedures.specs.procedure_stages.Kinds.{begins, kind_at_central, kind_at_peripheral, kind_of_exchange, own_kind, role_of}
-use Rattle.procedures.specs.procedure_stages.Queue.{QueueFacts, waiting_in, with_reply}
-use Rattle.procedures.specs.Beginning.{ask_at, begin_at, facts_begun, place_to_begin}
-use Rattle.procedures.specs.Calls.{Call, after_call, begins_one, asks, disconnects, enters, host_answers, is_acked, is_given, sends, takes}
-use Rattle.procedures.specs.Going.{host_answer_step}
-use Rattle.procedures.specs.Table.{TableFacts, first_facts}
-use Rattle.procedures.specs.Taking.{facts_with, lacks_room, outcome_of, took_step}
+use Rattle.control_model.specs.procedures.procedure_stages.declared.closing.Closing.{Closing}
+use Rattle.control_model.specs.procedures.procedure_stages.declared.reply.Reply.{Reply}
+use Rattle.control_model.specs.procedures.procedure_stages.declared.reply.Reply.TheVariants.{Answer, Nothing as no_reply, Reject}
+use Rattle.control_model.specs.procedures.procedure_stages.declared.stages.Exchange.{Exchange}
+use Rattle.control_model.specs.procedures.procedure_stages.declared.stages.Exchange.TheVariants.{FeaturesUnsent}
+use Rattle.control_model.specs.procedures.procedure_stages.declared.stages.OwnCentral.{OwnCentral}
+use Rattle.control_model.specs.procedures.procedure_stages.declared.stages.OwnCentral.TheVariants.{Exchange as exchange, Exclusive as exclusive}
+use Rattle.control_model.specs.procedures.procedure_stages.declared.stages.OwnPeripheral.{OwnPeripheral}
+use Rattle.control_model.specs.procedures.procedure_stages.declared.stages.OwnPeripheral.TheVariants.{Exchange as exchange_p, Exclusive as exclusive_p}
+use Rattle.control_model.specs.procedures.procedure_stages.declared.stages.Progress.{Progress}
+use Rattle.control_model.specs.procedures.procedure_stages.declared.stages.Progress.TheVariants.{Central as central, Peripheral as peripheral}
+use Rattle.control_model.specs.procedures.procedure_stages.declared.steps.Step.{Step}
+use Rattle.control_model.specs.procedures.procedure_stages.Awaited.{is_own_encryption}
+use Rattle.control_model.specs.procedures.procedure_stages.Begun.{progress_begun}
+use Rattle.control_model.specs.procedures.procedure_stages.Closing.{is_open}
+use Rattle.control_model.specs.procedures.procedure_stages.InProgress.{is_host_asked}
+use Rattle.control_model.specs.procedures.procedure_stages.Kinds.{begins, kind_at_central, kind_at_peripheral, kind_of_exchange, own_kind, role_of}
+use Rattle.control_model.specs.procedures.procedure_stages.Queue.{QueueFacts, waiting_in, with_reply}
+use Rattle.control_model.specs.procedures.Beginning.{ask_at, begin_at, facts_begun, place_to_begin}
+use Rattle.control_model.specs.procedures.Calls.{Call, after_call, begins_one, asks, disconnects, enters, host_answers, is_acked, is_given, sends, takes}
+use Rattle.control_model.specs.procedures.Going.{host_answer_step}
+use Rattle.control_model.specs.procedures.Table.{TableFacts, first_facts}
+use Rattle.control_model.specs.procedures.Taking.{facts_with, lacks_room, outcome_of, took_step}
 use Rattle.table_laws.specs.Encrypting.{MayBeginBy, has_encryption}
 use Rattle.table_laws.specs.Pasts.{May, key_after_call}
 use Rattle.table_laws.specs.Waiting.{count_if, is_own_request, own_waiting}

@@ -5,7 +5,7 @@ use Rattle.ble_base.specs.declared.roles.Role.{Role}
 use Rattle.ble_base.specs.declared.roles.Role.TheVariants.{Central as central_role, Peripheral as peripheral_role}
 use Rattle.instants.specs.declared.indications.Params.{Params}
 use Rattle.instants.specs.declared.indications.Indication.{Indication}
-use Rattle.procedures.specs.procedure_stages.Kinds.{role_of}
+use Rattle.control_model.specs.procedures.procedure_stages.Kinds.{role_of}
 use Rattle.two_tracks.specs.TwoEnds.{MayIndicate, MayIndicateIf, TwoEnds, beginning}
 use Rattle.control_model.specs.Control.{Control, Step, after_all, first_control, went}
 use Rattle.control_model.specs.Waits.{AreInRange}

@@ -11,17 +11,17 @@ use Rattle.instants.specs.declared.indications.Indication.{Indication}
 use Rattle.instants.specs.declared.indications.Indication.TheVariants.{Map, Update}
 use Rattle.instants.specs.declared.track.Change.{Change}
 use Rattle.instants.specs.Track.{next_number}
-use Rattle.procedures.specs.procedure_values.Drafts.{is_out}
-use Rattle.procedures.specs.procedure_stages.declared.steps.Effect.{Effect}
-use Rattle.procedures.specs.procedure_stages.declared.steps.Effect.TheVariants.{Nothing, Indicated}
-use Rattle.procedures.specs.procedure_stages.declared.steps.Step.{Step as TableStep}
-use Rattle.procedures.specs.procedure_stages.InProgress.{is_host_asked}
-use Rattle.procedures.specs.procedure_stages.Kinds.{role_of}
-use Rattle.procedures.specs.Table.{TableFacts}
-use Rattle.procedures.specs.Beginning.{begin_step, may_ask_of}
-use Rattle.procedures.specs.Going.{entered_step, tick_of}
-use Rattle.procedures.specs.Sending.{acked_step, next_ctrl_of}
-use Rattle.procedures.specs.Taking.{took_step}
+use Rattle.control_model.specs.procedures.procedure_values.Drafts.{is_out}
+use Rattle.control_model.specs.procedures.procedure_stages.declared.steps.Effect.{Effect}
+use Rattle.control_model.specs.procedures.procedure_stages.declared.steps.Effect.TheVariants.{Nothing, Indicated}
+use Rattle.control_model.specs.procedures.procedure_stages.declared.steps.Step.{Step as TableStep}
+use Rattle.control_model.specs.procedures.procedure_stages.InProgress.{is_host_asked}
+use Rattle.control_model.specs.procedures.procedure_stages.Kinds.{role_of}
+use Rattle.control_model.specs.procedures.Table.{TableFacts}
+use Rattle.control_model.specs.procedures.Beginning.{begin_step, may_ask_of}
+use Rattle.control_model.specs.procedures.Going.{entered_step, tick_of}
+use Rattle.control_model.specs.procedures.Sending.{acked_step, next_ctrl_of}
+use Rattle.control_model.specs.procedures.Taking.{took_step}
 use Rattle.instants.specs.Track.{event_of}
 use Rattle.control_model.specs.Control.{Takes, went}
 use Rattle.control_end.specs.declared.answers.Entry.{Entry}

@@ -11,12 +11,12 @@ use Rattle.instants.specs.declared.indications.Indication.TheVariants.{Update, M
 use Rattle.instants.specs.declared.track.Change.{Change}
 use Rattle.instants.specs.Track.{TrackFacts, is_free, track_after_take}
 use Rattle.exclusive_stages.specs.Awaited.{central_answered}
-use Rattle.procedures.specs.procedure_stages.declared.stages.Ahead.{Ahead}
-use Rattle.procedures.specs.procedure_stages.declared.stages.Ahead.TheVariants.{Nothing}
-use Rattle.procedures.specs.procedure_stages.declared.stages.Progress.{Progress}
-use Rattle.procedures.specs.procedure_stages.declared.stages.Progress.TheVariants.{Central as central, Peripheral as peripheral}
-use Rattle.procedures.specs.procedure_stages.Exclusive.{peripheral_stage}
-use Rattle.procedures.specs.procedure_stages.Kinds.{role_of}
+use Rattle.control_model.specs.procedures.procedure_stages.declared.stages.Ahead.{Ahead}
+use Rattle.control_model.specs.procedures.procedure_stages.declared.stages.Ahead.TheVariants.{Nothing}
+use Rattle.control_model.specs.procedures.procedure_stages.declared.stages.Progress.{Progress}
+use Rattle.control_model.specs.procedures.procedure_stages.declared.stages.Progress.TheVariants.{Central as central, Peripheral as peripheral}
+use Rattle.control_model.specs.procedures.procedure_stages.Exclusive.{peripheral_stage}
+use Rattle.control_model.specs.procedures.procedure_stages.Kinds.{role_of}
 use Rattle.control_model.specs.Control.{is_to_come}
 use Rattle.control_model.specs.Waits.{kind_awaited, kind_waiting}
 use Rattle.control_end.specs.Held.{Held}

@@ -3,7 +3,7 @@
 use Rattle.std.specs.Prelude.{List, [], ◌∷◌, Option}
 use Rattle.ble_base.specs.declared.error_codes.ErrCode.{ErrCode}
 use Rattle.instants.specs.Track.{TrackFacts}
-use Rattle.procedures.specs.Table.{TableFacts}
+use Rattle.control_model.specs.procedures.Table.{TableFacts}
 use Rattle.control_model.specs.Control.{Control, Step, after}
 
 pub record Held : Type 0 where

@@ -4,8 +4,8 @@ ghost use Rattle.control_end.specs.Answers.{effect_shown, is_update_waiting, no_
 ghost use Rattle.control_end.specs.Answers.{nothing_taken, step_shown};
 
 use ble_base::{ErrCode, Kind};
+use control_model::{Effect, Step};
 use instants::{Change, Indication};
-use procedures::{Effect, Step};
 
 /// What comes of an event that is entered, in this order.
 #[derive(Clone, Copy, Debug, PartialEq, Eq)]

@@ -1,18 +1,18 @@
 //! The control part of one end of a link.
 ghost use Rattle.std.specs.Prelude.{◌≡◌, ◌≤◌, ◌<◌, ◌^◌, not};
 ghost use Rattle.instants.specs.Track.{event_of, next_anchor_of};
-ghost use Rattle.procedures.specs.procedure_values.Limits.{rx_of, tx_of};
-ghost use Rattle.procedures.specs.procedure_values.Values.{IsPayloadMax};
-ghost use Rattle.procedures.specs.procedure_stages.Closing.{is_open};
-ghost use Rattle.procedures.specs.procedure_stages.Queue.{waiting_in};
+ghost use Rattle.control_model.specs.procedures.procedure_values.Limits.{rx_of, tx_of};
+ghost use Rattle.control_model.specs.procedures.procedure_values.Values.{IsPayloadMax};
+ghost use Rattle.control_model.specs.procedures.procedure_stages.Closing.{is_open};
+ghost use Rattle.control_model.specs.procedures.procedure_stages.Queue.{waiting_in};
 ghost use Rattle.control_model.specs.Control.{Step, first_control};
 ghost use Rattle.control_end.specs.Answers.{entry_of, goes_on, timeout_of};
 ghost use Rattle.control_end.specs.Held.{held_after, held_of};
 
 use crate::answers::{Entry, is_update_waiting, no_entry};
 use ble_base::{ErrCode, EventNo, Role, SlotNo};
+use control_model::ProcTable;
 use instants::{ParamTrack, Params};
-use procedures::ProcTable;
 use std::marker::Model;
 
 /// The control part of one end of a link: its table of control procedures, its parameters, and the

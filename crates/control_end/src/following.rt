@@ -6,7 +6,7 @@ ghost use Rattle.data_pdu.specs.Reading.{IfKnown};
 ghost use Rattle.instants.specs.Track.{HasInterval, is_free};
 ghost use Rattle.control_end.specs.Following.{indication_followed, indication_read};
 ghost use Rattle.control_end.specs.Following.{is_peripheral, track_following};
-ghost use Rattle.procedures.specs.procedure_stages.Kinds.{role_of};
+ghost use Rattle.control_model.specs.procedures.procedure_stages.Kinds.{role_of};
 
 use crate::end::ControlEnd;
 use ble_base::{ChannelMap, Role};

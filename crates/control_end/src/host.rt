@@ -1,16 +1,16 @@
 //! What the host of an end asks, answers and ends.
 ghost use Rattle.std.specs.Prelude.{◌≡◌, ◌<◌};
 ghost use Rattle.std.specs.Result.{ForOk};
-ghost use Rattle.procedures.specs.procedure_values.Wants.{IsAsk};
-ghost use Rattle.procedures.specs.procedure_stages.Queue.{waiting_in};
-ghost use Rattle.procedures.specs.Going.{is_answer};
+ghost use Rattle.control_model.specs.procedures.procedure_values.Wants.{IsAsk};
+ghost use Rattle.control_model.specs.procedures.procedure_stages.Queue.{waiting_in};
+ghost use Rattle.control_model.specs.procedures.Going.{is_answer};
 ghost use Rattle.control_model.specs.Control.{Step};
 ghost use Rattle.control_end.specs.Answers.{awaits_host, may_ask};
 ghost use Rattle.control_end.specs.Held.{held_after};
 
 use crate::end::ControlEnd;
 use ble_base::{ErrCode, Kind};
-use procedures::Ask;
+use control_model::Ask;
 
 /// Whether an answer of the host is one to a request: it grants it by an update, or refuses it.
 fn is_answer(answer: &Result<Ask, ErrCode>) -> bool

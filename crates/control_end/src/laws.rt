@@ -3,7 +3,7 @@
 ghost use Rattle.std.specs.Prelude.{◌≡◌, ◌≤◌, ◌<◌, ℕ, Bool, List, IfSome, false};
 ghost use Rattle.ble_base.specs.declared.roles.Role.{Role};
 ghost use Rattle.instants.specs.declared.indications.Params.{Params};
-ghost use Rattle.procedures.specs.procedure_stages.Queue.{waiting_in};
+ghost use Rattle.control_model.specs.procedures.procedure_stages.Queue.{waiting_in};
 ghost use Rattle.control_model.specs.Control.{Control, Step, after, after_all, first_control};
 ghost use Rattle.control_model.specs.Waits.{AreInRange, IsInRange};
 ghost use Rattle.control_end.specs.Answers.{indication_next};

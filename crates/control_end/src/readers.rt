@@ -1,12 +1,12 @@
 //! What the layer above reads of an end: whether anything goes on, and what is to come.
 ghost use Rattle.std.specs.Prelude.{◌≡◌, nat_lt};
 ghost use Rattle.instants.specs.Track.{is_free};
-ghost use Rattle.procedures.specs.procedure_stages.Closing.{is_disconnecting};
-ghost use Rattle.procedures.specs.procedure_stages.InProgress.{is_busy};
+ghost use Rattle.control_model.specs.procedures.procedure_stages.Closing.{is_disconnecting};
+ghost use Rattle.control_model.specs.procedures.procedure_stages.InProgress.{is_busy};
 
 use crate::end::ControlEnd;
+use control_model::{Ask, Draft};
 use instants::Change;
-use procedures::{Ask, Draft};
 
 impl ControlEnd {
     /// Whether an event was entered.

@@ -2,7 +2,7 @@
 ghost use Rattle.std.specs.Prelude.{◌≡◌, ◌≤◌, ◌<◌, IsTrue, Some};
 ghost use Rattle.data_pdu.specs.Ranges.{IsInRange};
 ghost use Rattle.data_pdu.specs.Reading.{IfKnown};
-ghost use Rattle.procedures.specs.procedure_stages.Queue.{waiting_in};
+ghost use Rattle.control_model.specs.procedures.procedure_stages.Queue.{waiting_in};
 ghost use Rattle.control_model.specs.Control.{Step};
 ghost use Rattle.control_end.specs.Answers.{goes_on, taken_of};
 ghost use Rattle.control_end.specs.Following.{indication_followed, track_following};

@@ -11,3 +11,4 @@ pub use crate::laws::{
     what_is_sent_is_followed,
 };
 pub use crate::rows::{no_steps_come_to_these, worked_ends};
+pub use procedures::{Ask, Draft, Effect, ProcTable, Step};

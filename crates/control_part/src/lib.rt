@@ -6,3 +6,4 @@ mod part;
 mod readers;
 
 pub use crate::part::{ControlPart, nothing_taken};
+pub use control_end::{Entry, Taken};

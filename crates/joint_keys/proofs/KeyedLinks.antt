@@ -1,8 +1,9 @@
 -- A link with its keys: its joint part is that of the link, and one step follows another.
 use Rattle.std.proofs.Common.{◌≡◌, ℕ, List, [], ◌∷◌, ◌++◌, refl, sym, ap, ◌∙◌}
 use Rattle.instants.specs.declared.indications.Params.{Params}
-use Rattle.joint_laws.specs.joint_controls.Joint.{Joint, JointStep, after, after_all}
+use Rattle.joint_laws.specs.joint_controls.Joint.{JointStep, after_all}
 use Rattle.joint_laws.specs.joint_parameters.Turns.{Link, LinkStep, all_joint_steps, first_link, joint_steps, link_after, link_after_all}
+use Rattle.joint_laws.proofs.joint_parameters.Runs.{after_joined}
 use Rattle.joint_keys.specs.KeyedJoint.{KeyedJoint, KeyedJointStep, steps_of}
 use Rattle.joint_keys.specs.KeyedLinks.{KeyedLinkStep, all_keyed_steps, keyed_steps, keys_from, keys_in_step, keys_of, link_steps, with_ltk}
 use Rattle.joint_keys.proofs.JointRuns.{joint_all, runs_joined}
@@ -48,10 +49,6 @@ keys_more steps ks l k =
     keys_joined steps (ks ∷ []) l k ∙ keys_one ks (link_after_all (link_steps steps) l) (keys_from steps l k)
 
 -- ---- its joint part
-
-after_joined : (xs ys : List JointStep) (s : Joint) → after_all (xs ++ ys) s ≡ after_all ys (after_all xs s)
-after_joined [] ys s = refl
-after_joined (x ∷ xs) ys s = after_joined xs ys (after x s)
 
 link_joint : (steps : List LinkStep) (l : Link) → (link_after_all steps l).joint ≡ after_all (all_joint_steps steps l) l.joint
 link_joint [] l = refl

@@ -128,7 +128,7 @@ quiet_up s p q quiet is = absurd (cc)
 abbrev pub is_settled : Way → Bool
 is_settled w = is_clear w || is_taken w
 
-equal_by : (x y u : Bool) (w : PhaseWay) (m n : ℕ) → is_sealed_untaken w ≡ u → u ≡ false → x ≡ true → y ≡ true → Holds (relation_of x y w) m n → m ≡ n
+pub equal_by : (x y u : Bool) (w : PhaseWay) (m n : ℕ) → is_sealed_untaken w ≡ u → u ≡ false → x ≡ true → y ≡ true → Holds (relation_of x y w) m n → m ≡ n
 equal_by true true true w m n at none a b h = absurd (cc)
 equal_by true true false w m n at none a b h = subst (λ (u : Bool). Holds (if u then OneAhead else Equal) m n) at h
 equal_by true false u w m n at none a b h = absurd (cc)
@@ -146,7 +146,7 @@ settled_up knows (Taken item) is = refl
 settled_up knows (Fixed item sealed) is = absurd (cc)
 settled_up knows (OnAir item sealed) is = absurd (cc)
 
-none_ahead : (w : Way) → is_settled w ≡ true → data_ahead w ≡ 0
+pub none_ahead : (w : Way) → is_settled w ≡ true → data_ahead w ≡ 0
 none_ahead clear_way is = refl
 none_ahead (Taken item) is = refl
 none_ahead (Fixed item sealed) is = absurd (cc)

@@ -21,6 +21,7 @@ use Rattle.joint_phases.specs.Classes.{class_down, class_up, draft_down, draft_u
 use Rattle.joint_phases.specs.Facts.{drafts_of}
 use Rattle.joint_phases.specs.Pairs.{encryption_waiting, first_of, pair_of, second_of}
 use Rattle.joint_phases.specs.Parts.{way_down, way_up}
+use Rattle.joint_laws.proofs.Common.{not_true}
 use Rattle.joint_keys.proofs.Queues.{IsItemFine, IsPlain, IsWayFine}
 
 -- ---- phases
@@ -49,10 +50,6 @@ none_those ends (pdu ∷ pdus) is = absurd (cc)
 or_either : {A : Type 0} (a b : Bool) → (a ≡ true → A) → (b ≡ true → A) → (a || b) ≡ true → A
 or_either true b one other is = one refl
 or_either false b one other is = other is
-
-not_true : (b : Bool) → not b ≡ true → b ≡ false
-not_true true is = absurd (cc)
-not_true false is = refl
 
 module _ (s : PhaseLink) where
   abbrev Down : List PduClass

@@ -41,7 +41,7 @@ rests_up Clear slot s = refl
 rests_up (Fixed item sealed) slot s = refl
 rests_up (Taken item) slot s = refl
 
-rests_down : (w : Way) (slot : ℕ) (response : Response) (s : Joint) → (peripheral_takes w slot response s).central ≡ s.central
+pub rests_down : (w : Way) (slot : ℕ) (response : Response) (s : Joint) → (peripheral_takes w slot response s).central ≡ s.central
 rests_down (OnAir item sealed) slot response s = refl
 rests_down Clear slot response s = refl
 rests_down (Fixed item sealed) slot response s = refl

@@ -63,15 +63,12 @@ owes_none Phy own is = refl
 owes_none kind UpdateUnsent is = refl
 owes_none kind own is = refl
 
-answers_absent : (kind : Exclusive) → is_answering kind Absent ≡ false
+pub answers_absent : (kind : Exclusive) → is_answering kind Absent ≡ false
 answers_absent Update = refl
 answers_absent Phy = refl
 answers_absent kind = refl
 
 module _ (kind : Exclusive) where
-  abbrev ours : Pdu → Bool
-  ours = is_indication_of kind
-
   -- ---- one PDU more waits
 
   queued_owes : (pdu : Pdu) (t : Central) → number (is_indication_of kind) t.queue.items + one_if (is_indication_of kind pdu) ≤ owing kind t.own

@@ -19,9 +19,6 @@ module _ (role : Role) where
   alike_then one two three here there =
       record { takings = here.takings ∙ there.takings; event = here.event ∙ there.event; applied = here.applied ∙ there.applied }
 
-  pub alike_back : (one two : List Note) → Alike role one two → Alike role two one
-  alike_back one two a = record { takings = sym a.takings; event = sym a.event; applied = sym a.applied }
-
   pub alike_more : (one two more : List Note) → Alike role one two → Alike role (one ++ more) (two ++ more)
   alike_more one two more a = record {
     takings = takings_more role one more ∙ (λ i. a.takings i ++ takings_from role (a.event i) more) ∙ sym (takings_more role two more);

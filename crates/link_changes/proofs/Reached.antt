@@ -37,7 +37,7 @@ good_more : (steps : List Step) (step : Step) → AllByRecursion IsGood steps �
 good_more [] step are is = (is, tt)
 good_more (first ∷ steps) step are is = (are.0, good_more steps step are.1 is)
 
-in_range : (steps : List Step) → AllByRecursion IsGood steps → AreInRange steps
+pub in_range : (steps : List Step) → AllByRecursion IsGood steps → AreInRange steps
 in_range [] are = tt
 in_range (step ∷ steps) are = (are.0.0, in_range steps are.1)
 

@@ -67,7 +67,7 @@ use Rattle.link_changes.proofs.Reached.{reached_first, reached_then}
 use Rattle.link_changes.proofs.Requests.{Orderly, orderly_heard, past_orderly}
 use Rattle.link_changes.proofs.Taking.{read_says}
 
-none_of : (ends : Option ErrCode) → is_none ends ≡ true → ends ≡ None
+pub none_of : (ends : Option ErrCode) → is_none ends ≡ true → ends ≡ None
 none_of None is = refl
 none_of (Some code) is = absurd (cc)
 
@@ -113,7 +113,7 @@ no_control pdu is = ap (λ (b : Bool). if b then indication_read (ctrl_of pdu.bo
 a_control : (pdu : Pdu) → is_control pdu ≡ true → indication_in pdu.llid pdu.body ≡ indication_read (ctrl_of pdu.body)
 a_control pdu is = ap (λ (b : Bool). if b then indication_read (ctrl_of pdu.body) else None) is
 
-filled : (ctrl : Ctrl) → (length (written ctrl) == 0) ≡ false
+pub filled : (ctrl : Ctrl) → (length (written ctrl) == 0) ≡ false
 unfolding little_endian
 filled StartEncReq = refl
 filled other = refl

@@ -286,7 +286,7 @@ holds_given handle bank outgoing start (octet ∷ octets) some holds =
       complete = holds.complete;
     }
 
-set_zero : (xs : List ℕ) (i : ℕ) → get_or (set xs i 0) i 0 ≡ 0
+pub set_zero : (xs : List ℕ) (i : ℕ) → get_or (set xs i 0) i 0 ≡ 0
 set_zero [] i = refl
 set_zero (x ∷ xs) zero = refl
 set_zero (x ∷ xs) (suc i) = set_zero xs i

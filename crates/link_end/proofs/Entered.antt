@@ -23,10 +23,7 @@ use Rattle.link_end.specs.Knowing.{Goes, Knows}
 use Rattle.link_end.specs.Tied.{HoldsData}
 use Rattle.link_end.proofs.Keeping.{held_is, holds_after, stepped}
 use Rattle.link_end.proofs.Phases.{past_phase}
-
--- the session is in the phase of the procedures
-abbrev IsInPhase : Facts → Type 0
-IsInPhase facts = facts.encryption.end.phase ≡ facts.encryption.phase
+use Rattle.link_end.proofs.Sent.{IsInPhase}
 
 entered_of : (setup : Setup) (slot : ℕ) (facts : Facts) → IsInPhase facts
     → held_entered slot (held_of setup facts) ≡ held_of setup (facts_entered setup slot facts)

@@ -24,6 +24,7 @@ use Rattle.link_end.specs.Knowing.{Knows}
 use Rattle.link_end.specs.Tied.{HoldsData, IsTied}
 use Rattle.link_end.proofs.Keeping.{held_is, holds_after, stepped}
 use Rattle.link_end.proofs.Phases.{answers_keyed, asks_keyed, disconnects_keyed, past_phase}
+use Rattle.link_end.proofs.Sent.{IsInPhase}
 
 -- ---- what is held
 
@@ -31,10 +32,6 @@ comes_same : (ask : Ask) (facts : Facts) → is_to_come ask (control_held facts.
 comes_same (Map map) facts = refl
 comes_same (Encrypt rand ediv ltk skd_m iv_m) facts = refl
 comes_same other facts = refl
-
--- the session is in the phase of the procedures
-abbrev IsInPhase : Facts → Type 0
-IsInPhase facts = facts.encryption.end.phase ≡ facts.encryption.phase
 
 -- what is held after a keyed step, where the facts go by it
 step_of : (step : KeyedStep) (facts after : Facts) → IsInPhase facts → keyed_of after ≡ keyed_after step (keyed_of facts)

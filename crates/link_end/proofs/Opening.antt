@@ -2,15 +2,12 @@
 use Rattle.std.proofs.Common.{◌≡◌, ℕ, zero, suc, ◌+◌, ◌-◌, ◌≤◌, ◌==◌, nat_le, Bool, true, false, not, ◌&&◌, ◌||◌, if◌then◌else◌, List, [], ◌∷◌, ◌++◌, length, take, drop, refl, sym, ◌∙◌, arith}
 use Rattle.std.proofs.lemmas.Bool.{and_parts, ne_eqb}
 use Rattle.std.proofs.lemmas.Bool.Decides.{nat_tests}
-use Rattle.std.proofs.lemmas.List.{length-drop, length-take-le}
+use Rattle.std.proofs.lemmas.List.{length-take-le}
 use Rattle.ccm_link.specs.Ccm.{opened_payload}
 use Rattle.ccm_link.proofs.Sealing.{length-ciphertext}
 use Rattle.data_pdu.specs.Header.{header_in}
 use Rattle.link_model.specs.phased_end.enc_phase.Phases.{is_central, opens}
-use Rattle.link_model.specs.phased_end.enc_phase.Sealing.{EncEnd, is_right, longest_payload, opened_body}
-use Rattle.link_model.specs.Data.{is_empty}
-use Rattle.link_model.specs.Payload.{opens_now}
-use Rattle.link_model.specs.Verdicts.{code_octets, has_room_for, pdu_of}
+use Rattle.link_model.specs.phased_end.enc_phase.Sealing.{EncEnd, is_right, opened_body}
 use Rattle.ccm_link.specs.Payload.{additional_data, is_genuine, nonce}
 
 -- ---- the header
@@ -61,24 +58,3 @@ some_right end header payload some is = by (opens end.role end.phase) is
 -- so the test whether it is empty is the same before it is opened
 pub zero_same : (one other : ℕ) → 1 ≤ one → 1 ≤ other → (one == 0) ≡ (other == 0)
 zero_same one other some also = none_zero one some ∙ sym (none_zero other also)
-
--- ---- how long a payload may be
-
-code_at_most : (opens empty : Bool) → (if opens && not empty then 4 else 0) ≤ (if opens then 4 else 0)
-code_at_most true true = omega arith
-code_at_most true false = omega arith
-code_at_most false empty = omega arith
-
-longest : (opens : Bool) → (if opens then 255 else 251) ≡ 251 + (if opens then 4 else 0)
-longest true = refl
-longest false = refl
-
--- a payload that an end has room for can be opened
-pub payload_fits : (max_rx : ℕ) (end : EncEnd) (pdu : List ℕ) → max_rx ≤ 251 → 2 ≤ length pdu → has_room_for max_rx (opens_now end) pdu ≡ true
-    → length (drop 2 pdu) ≤ longest_payload end
-payload_fits max_rx end pdu most header fits =
-    let room : length pdu ≤ 2 + (max_rx + code_octets (opens_now end) (pdu_of pdu)) = grind (arith, nat_tests) in
-    let code = code_at_most (opens_now end) (is_empty (pdu_of pdu)) in
-    let whole = longest (opens_now end) in
-    let count = length-drop 2 pdu in
-    omega (arith, most, header, room, code, whole, count)

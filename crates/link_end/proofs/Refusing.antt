@@ -1,5 +1,5 @@
 -- A PDU of the peer refuses a procedure of this end or completes one, and never both.
-use Rattle.std.proofs.Common.{ℕ, ◌≤◌, Bool, true, false, ◌||◌, if◌then◌else◌, length, Option, Some, None, is_some, refl, arith, subst, sym, ◌≡◌}
+use Rattle.std.proofs.Common.{ℕ, Bool, true, false, ◌||◌, if◌then◌else◌, Option, Some, None, is_some, refl, subst, sym, ◌≡◌}
 use Rattle.ble_base.specs.declared.error_codes.ErrCode.{ErrCode}
 use Rattle.ble_base.specs.declared.procedure_kinds.Kind.{Kind}
 use Rattle.data_pdu.specs.declared.ctrl.Ctrl.{Ctrl}
@@ -35,7 +35,6 @@ use Rattle.link_model.specs.phased_end.Answers.{quiet_now}
 use Rattle.link_model.specs.phased_end.Held.{HeldKeyed}
 use Rattle.link_model.specs.phased_end.Taking.{handed_keyed, is_handed, nothing_keyed, seen_as, taken_keyed}
 use Rattle.link_model.specs.phased_end.declared.taking.TakenKeyed.{TakenKeyed}
-use Rattle.link_model.specs.Receiving.{given_notes}
 use Rattle.link_end.specs.Receiving.{IsSingle}
 
 abbrev Single : TableStep → Type 0
@@ -154,15 +153,3 @@ given_single slot response read h given is = subst (λ (t : TakenKeyed). IsSingl
     by : (b : Bool) → IsSingle (if b then handed_keyed slot response read h else nothing_keyed).taken
     by true = taken_single (seen_as read h) slot (quiet_now h) h.control
     by false = free
-
--- so one note is enough for both
-pub one_note : (handle : ℕ) (taken : Taken) → IsSingle taken → length (given_notes handle taken) ≤ 1
-one_note handle taken single = by taken.refused taken.done single
-  where
-    by : (refused : Option (Kind × ErrCode)) (done : Option Kind) → (is_some refused ≡ true → done ≡ None)
-        → length (given_notes handle (record taken { refused = refused; done = done })) ≤ 1
-    by None None single = omega arith
-    by None (Some kind) single = omega arith
-    by (Some (kind, code)) done single =
-        subst (λ (d : Option Kind). length (given_notes handle (record taken { refused = Some (kind, code); done = d })) ≤ 1)
-        (sym (single refl)) (omega arith)

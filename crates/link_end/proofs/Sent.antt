@@ -35,7 +35,7 @@ use Rattle.link_end.proofs.Keeping.{held_is, holds_after, stepped}
 use Rattle.link_end.proofs.Phases.{gone_agrees, gone_keyed, past_agrees, past_phase}
 
 -- the session is in the phase of the procedures
-abbrev IsInPhase : Facts → Type 0
+abbrev pub IsInPhase : Facts → Type 0
 IsInPhase facts = facts.encryption.end.phase ≡ facts.encryption.phase
 
 -- ---- what is held

@@ -1,13 +1,12 @@
 -- The calls on an end keep it tied to the bank.
 use Rattle.std.proofs.Common.{◌≡◌, ◌≢◌, ℕ, ◌+◌, ◌<◌, ◌≤◌, IfSome, arith, Bool, true, false, not, ◌&&◌, ◌||◌, is_some, length, List, [], ◌∷◌, Option, Some, None, refl, ap, sym, ◌∙◌, subst, if◌then◌else◌}
 use Rattle.std.specs.List.{find}
-use Rattle.std.specs.Option.{option_map, option_or}
+use Rattle.std.specs.Option.{option_map}
 use Rattle.std.proofs.lemmas.List.Folds.{find-append}
 use Rattle.ack_bit.specs.AckBits.{acknowledges}
 use Rattle.acl_banks.specs.Banks.{Bank, bank_after_credited, bank_after_offer, next_piece, packet_out}
-use Rattle.acl_banks.specs.Packets.{DataPacket, has_unsent, new_packet, piece_of}
+use Rattle.acl_banks.specs.Packets.{has_unsent, new_packet, piece_of}
 use Rattle.acl_banks.proofs.AllLinks.{out-offer, own-left, own-out}
-use Rattle.acl_banks.proofs.Octets.{piece-again}
 use Rattle.acl_banks.proofs.Order.{is_left, is_out}
 use Rattle.data_pdu.specs.declared.ctrl.Ctrl.{Ctrl}
 use Rattle.control_end.specs.Answers.{next_ctrl}
@@ -17,6 +16,7 @@ use Rattle.link_model.specs.Acknowledgement.{Pdu, empty_pdu}
 use Rattle.link_model.specs.Data.{is_control, is_data, pdu_with}
 use Rattle.link_model.specs.Controls.{pdu_of_control}
 use Rattle.link_model.specs.phased_end.Answers.{quiet_now}
+use Rattle.link_model.proofs.Sending.{control_no_data, cut_again, next-given}
 use Rattle.link_end.specs.Held.{Held}
 use Rattle.link_end.specs.Entering.{held_entered, held_entered_if}
 use Rattle.link_end.specs.Fixing.{control_is_next, data_goes, held_fixed, pdu_fixed_by}
@@ -34,10 +34,6 @@ IsNext bank handle fixed = is_data fixed ≡ true → pdu_with (next_piece bank 
 not_next : (bank : Bank) (handle : ℕ) (fixed : Pdu) → is_data fixed ≡ false → IsNext bank handle fixed
 not_next bank handle fixed is holds = let no : ◌≡◌ {A = Bool} false true = sym is ∙ holds in absurd cc
 
-control_no_data : (control : Option Ctrl) → is_data (pdu_of_control control) ≡ false
-control_no_data None = refl
-control_no_data (Some ctrl) = refl
-
 -- ---- it enters an event
 
 tied_choice : (b : Bool) (one other : Held) (bank : Bank) → IsTied one bank → IsTied other bank → IsTied (if b then one else other) bank
@@ -51,13 +47,6 @@ entered_tied goes slot held new bank is tied =
     (tied_choice goes (held_entered slot held) held bank (record { out = tied.out; next = tied.next }) tied)
 
 -- ---- it fixes a PDU
-
--- a piece that is cut at its own length is that piece
-cut_again : (limit : ℕ) (found : Option DataPacket)
-    → let next = pdu_with (option_map (piece_of limit) found) in
-    pdu_with (option_map (piece_of (length next.body)) found) ≡ next
-cut_again limit None = refl
-cut_again limit (Some packet) = ap (λ piece. pdu_with (Some piece)) (piece-again limit packet)
 
 next_fixed : (control goes : Bool) (handle limit : ℕ) (bank : Bank)
     → IsNext bank handle (pdu_fixed_by control goes (next_piece bank handle limit))
@@ -246,11 +235,6 @@ others_tied held handle before after leaves differs tied =
     ap (option_map (piece_of count)) (own-left after.packets own ∙ ap (find is_left) same ∙ sym (own-left before.packets own)) in
     record { out = ap is_some out_is ∙ tied.out; next = λ holds. ap pdu_with next_is ∙ tied.next holds }
 
-stays_next : (count : ℕ) (found last : Option DataPacket) (fixed : Pdu) → is_data fixed ≡ true
-    → pdu_with (option_map (piece_of count) found) ≡ fixed → pdu_with (option_map (piece_of count) (option_or found last)) ≡ fixed
-stays_next count None last fixed holds is = let no : is_data fixed ≡ false = ap is_data (sym is) in absurd cc
-stays_next count (Some packet) last fixed holds is = is
-
 pub offer_tied : (held : Held) (bank : Bank) (handle : ℕ) (start : Bool) (body : List ℕ) → IsTied held bank
     → IsTied held (bank_after_offer bank (new_packet handle start body))
 offer_tied held bank handle start body tied =
@@ -260,7 +244,7 @@ offer_tied held bank handle start body tied =
       out = ap is_some (out-offer bank.packets handle start body own) ∙ tied.out;
       next = λ holds.
           ap (λ found. pdu_with (option_map (piece_of (length held.fixed.body)) found)) (find-append (has_unsent own) bank.packets (packet ∷ []))
-          ∙ stays_next (length held.fixed.body) (find (has_unsent own) bank.packets) (find (has_unsent own) (packet ∷ [])) held.fixed holds (tied.next holds);
+          ∙ next-given (length held.fixed.body) (find (has_unsent own) bank.packets) (find (has_unsent own) (packet ∷ [])) held.fixed holds (tied.next holds);
     }
 
 pub credited_tied : (held : Held) (bank : Bank) (handle : ℕ) → IsTied held bank → IsTied held (bank_after_credited bank handle)

@@ -21,4 +21,4 @@ mod taking;
 pub use crate::ends::{LinkEnd, LinkStep};
 pub use crate::laws::{a_bank_changes_alone, a_link_leaves_others, a_link_that_knows_is_tied};
 pub use control_end::Entry;
-pub use link_model::{LinkSetup, PeerFacts, PeerVersion};
+pub use link_model::{LinkSetup, PeerFacts, PeerVersion, a_sealed_packet_is_opened};

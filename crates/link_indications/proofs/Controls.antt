@@ -1,6 +1,6 @@
 -- What each step of the control part of an end leaves: the indications that it sent, and whether the link goes on.
-use Rattle.std.proofs.Common.{◌≡◌, ℕ, ◌<◌, ◌≤◌, nat_lt, Bool, true, false, ◌&&◌, if◌then◌else◌, List, [], ◌∷◌, ◌++◌, Option, Some, None, is_none, refl, sym, ap, subst, ◌∙◌, arith}
-use Rattle.std.specs.List.{All, AllByRecursion}
+use Rattle.std.proofs.Common.{◌≡◌, ℕ, ◌<◌, ◌≤◌, nat_lt, Bool, true, false, ◌&&◌, if◌then◌else◌, [], ◌++◌, Option, Some, None, is_none, refl, sym, ap, subst, ◌∙◌, arith}
+use Rattle.std.specs.List.{All}
 use Rattle.std.proofs.lemmas.List.{append-nil}
 use Rattle.std.proofs.lemmas.List.Elements.{All-cons, All-nil}
 use Rattle.ble_base.specs.ErrorCodes.{instant_passed}
@@ -21,20 +21,15 @@ use Rattle.link_model.specs.procedures.Going.{is_answer}
 use Rattle.link_model.specs.procedures.Table.{TableFacts}
 use Rattle.link_model.specs.procedures.Taking.{facts_with, outcome_of, took_step}
 use Rattle.link_model.specs.control_model.Control.{Control, Step, Answers, Asks, Disconnects, Enters, Owes, SeesAcknowledged, Sends, Takes, after, after_all, ended, first_control, indicated_by, is_to_come, moved, table_if, taken, went}
-use Rattle.link_model.specs.control_model.Waits.{AreInRange}
 use Rattle.link_model.proofs.control_model.Calls.{any_step, took_by}
 use Rattle.link_model.proofs.control_model.Central.{may}
 use Rattle.link_model.proofs.control_model.Moving.{sends_all}
 use Rattle.link_changes.specs.Noted.{indication_read, taking_if}
 use Rattle.link_changes.proofs.Knowing.{changes_in}
-use Rattle.link_changes.proofs.Readable.{IsGood}
-use Rattle.link_changes.proofs.Reached.{Reached}
+use Rattle.link_changes.proofs.Reached.{Reached, in_range}
+use Rattle.link_changes.proofs.Steps.{none_of}
 use Rattle.link_changes.proofs.Taking.{handed}
 use Rattle.link_indications.specs.InTime.{IsTakenInTime}
-
-pub none_of : (ends : Option ErrCode) → is_none ends ≡ true → ends ≡ None
-none_of None is = refl
-none_of (Some code) is = absurd (cc)
 
 -- an end that goes on after a step went on before it
 pub goes_before : (step : Step) (c : Control) → (after step c).ends ≡ None → c.ends ≡ None
@@ -102,10 +97,6 @@ near_in_time event indication near =
 may_in_time : (s : TwoEnds) (some : Option Indication) → MayIndicateIf s some → AreInTime (event_of s.central) some
 may_in_time s None may = All-nil IsTakenInTime
 may_in_time s (Some indication) may = near_in_time (event_of s.central) indication may.near
-
-in_range : (steps : List Step) → AllByRecursion IsGood steps → AreInRange steps
-in_range [] are = tt
-in_range (step ∷ steps) are = (are.0.0, in_range steps are.1)
 
 -- a central sends an indication with an Instant that is near
 pub sent_in_time : (role : Role) (max_rx : ℕ) (first : Params) (slot : ℕ) (c : Control) → Reached role max_rx first slot c → role ≡ Central

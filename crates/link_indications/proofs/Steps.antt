@@ -1,5 +1,5 @@
 -- An end and its notes, step by step.
-use Rattle.std.proofs.Common.{◌≡◌, ℕ, ◌+◌, ◌≤◌, ◌==◌, ◌&&◌, not, Bool, true, false, List, [], ◌∷◌, ◌++◌, length, Option, Some, None, is_none, is_some, refl, sym, ap, subst, ◌∙◌, if◌then◌else◌}
+use Rattle.std.proofs.Common.{◌≡◌, ℕ, ◌+◌, ◌≤◌, ◌&&◌, not, Bool, true, false, List, [], ◌∷◌, ◌++◌, Option, Some, None, is_none, is_some, refl, sym, ap, subst, ◌∙◌, if◌then◌else◌}
 use Rattle.std.specs.List.{All, AllByRecursion}
 use Rattle.std.proofs.lemmas.List.{append-nil, append_assoc}
 use Rattle.ble_base.specs.ErrorCodes.{mic_failure}
@@ -10,8 +10,6 @@ use Rattle.ble_base.specs.declared.roles.Role.TheVariants.{Central, Peripheral}
 use Rattle.data_pdu.specs.Header.{header_in}
 use Rattle.data_pdu.specs.Layouts.{written}
 use Rattle.data_pdu.specs.declared.ctrl.Ctrl.{Ctrl}
-use Rattle.data_pdu.specs.declared.ctrl.Ctrl.TheVariants.{StartEncReq}
-use Rattle.wire_fields.specs.Field.{little_endian}
 use Rattle.instants.specs.Track.{event_of}
 use Rattle.link_model.specs.procedure_values.declared.asks.Ask.{Ask}
 use Rattle.link_model.specs.procedures.Queue.{next_of}
@@ -44,9 +42,9 @@ use Rattle.link_changes.proofs.Reached.{reached_reads}
 use Rattle.link_changes.proofs.Phases.{entered_by, given_by, lacking_by}
 use Rattle.link_changes.proofs.Requests.{Orderly, past_orderly}
 use Rattle.link_changes.proofs.Reading.{sent_read}
-use Rattle.link_changes.proofs.Steps.{IsGoodStep, IsKnown, past_known, step_known}
+use Rattle.link_changes.proofs.Steps.{IsGoodStep, IsKnown, filled, none_of, past_known, step_known}
 use Rattle.link_indications.specs.InTime.{IsTakenInTime}
-use Rattle.link_indications.proofs.Controls.{goes_before, none_of, sent_in_time, sent_more}
+use Rattle.link_indications.proofs.Controls.{goes_before, sent_in_time, sent_more}
 use Rattle.link_indications.proofs.Holding.{Holds, Kept, holds_first, holds_more, holds_silent, kept_over, kept_owes, kept_same, kept_step}
 use Rattle.link_indications.proofs.Receiving.{holds_heard, kept_gone, no_control, whether}
 use Rattle.link_indications.proofs.Silent.{AreSilent, silent_event}
@@ -84,11 +82,6 @@ key_kept role (Some ltk) facts =
     whether (Kept role c) (is_none c.ends) (keyed_moved (GivesKey ltk) k) k (λ lasts. given_by (Kept role c) (kept_owes role c) k.phased (kept_same role c)) (λ ends. kept_same role c)
 
 -- ---- a packet is sent
-
-filled : (ctrl : Ctrl) → (length (written ctrl) == 0) ≡ false
-unfolding little_endian
-filled StartEncReq = refl
-filled other = refl
 
 goes_if : (b : Bool) (next : Option Ctrl) (ctrl : Ctrl) → (if b then next else None) ≡ Some ctrl → (b ≡ true) × (next ≡ Some ctrl)
 goes_if true next ctrl is = (refl, is)

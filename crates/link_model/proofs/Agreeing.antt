@@ -79,7 +79,7 @@ module _ (role : Role) (slot : ℕ) (room : Bool) (header : DataHeader) (pdu : P
       ∙ grouped (is_new (bits_of facts.acknowledgement) header) (room || not (is_data pdu)) (is_empty pdu || not now.leaving.acknowledged)
 
 -- what a packet acknowledges is out
-unless_acked : (all says : Bool) → (all ≡ true → says ≡ false) → (not all && says) ≡ says
+pub unless_acked : (all says : Bool) → (all ≡ true → says ≡ false) → (not all && says) ≡ says
 unless_acked true says none = sym (none refl)
 unless_acked false says none = refl
 

@@ -52,7 +52,7 @@ pub entered_same : (goes : Bool) (setup : Setup) (slot : ℕ) (facts : Facts) �
 entered_same true setup slot facts = record { payload = refl; last = refl }
 entered_same false setup slot facts = record { payload = refl; last = refl }
 
-anew_same : (control : Bool) (waiting : ℕ) (quiet goes : Bool) (outgoing : Data)
+pub anew_same : (control : Bool) (waiting : ℕ) (quiet goes : Bool) (outgoing : Data)
     → (data_fixed_by control waiting quiet goes outgoing).payload ≡ outgoing.payload
 anew_same true waiting quiet goes outgoing = refl
 anew_same false waiting quiet true outgoing = refl
@@ -72,7 +72,7 @@ pub gone_same : (goes : Bool) (slot : ℕ) (facts : Facts) → SameOut facts (co
 gone_same true slot facts = record { payload = refl; last = refl }
 gone_same false slot facts = record { payload = refl; last = refl }
 
-acked_same : (acked : Bool) (outgoing : Data) → (data_acked_if acked outgoing).payload ≡ outgoing.payload
+pub acked_same : (acked : Bool) (outgoing : Data) → (data_acked_if acked outgoing).payload ≡ outgoing.payload
 acked_same true outgoing = refl
 acked_same false outgoing = refl
 

@@ -34,7 +34,7 @@ asked_stays : (comes : Bool) (ask : Ask) (facts : Facts) → (asked_unless comes
 asked_stays true ask facts = refl
 asked_stays false ask facts = refl
 
-entered_stays : (goes : Bool) (setup : Setup) (slot : ℕ) (facts : Facts) → (facts_entered_if goes setup slot facts).leaving ≡ facts.leaving
+pub entered_stays : (goes : Bool) (setup : Setup) (slot : ℕ) (facts : Facts) → (facts_entered_if goes setup slot facts).leaving ≡ facts.leaving
 entered_stays true setup slot facts = refl
 entered_stays false setup slot facts = refl
 
@@ -42,11 +42,11 @@ fixed_stays : (stays : Bool) (facts : Facts) → (if stays then facts else fixed
 fixed_stays true facts = refl
 fixed_stays false facts = refl
 
-gone_stays : (goes : Bool) (slot : ℕ) (facts : Facts) → (control_gone_if goes slot facts).leaving ≡ facts.leaving
+pub gone_stays : (goes : Bool) (slot : ℕ) (facts : Facts) → (control_gone_if goes slot facts).leaving ≡ facts.leaving
 gone_stays true slot facts = refl
 gone_stays false slot facts = refl
 
-by_peer : (code : Option ErrCode) (leaving : Leaving) → (leaving_by code leaving).acknowledged ≡ leaving.acknowledged
+pub by_peer : (code : Option ErrCode) (leaving : Leaving) → (leaving_by code leaving).acknowledged ≡ leaving.acknowledged
 by_peer None leaving = refl
 by_peer (Some code) leaving = refl
 
@@ -83,7 +83,7 @@ module _ (role : Role) (slot : ℕ) (room : Bool) (header : DataHeader) (pdu : P
       heard_as_now ∙ now_is
       ∙ or_more facts.leaving.acknowledged (has_acknowledged facts header && is_terminate facts.acknowledgement.last) is
 
-key_stays : (leaves : Bool) (slot : ℕ) (leaving : Leaving)
+pub key_stays : (leaves : Bool) (slot : ℕ) (leaving : Leaving)
     → (leaving_from_if leaves slot leaving).acknowledged ≡ leaving.acknowledged
 key_stays true slot leaving = refl
 key_stays false slot leaving = refl

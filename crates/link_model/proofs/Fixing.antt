@@ -104,7 +104,7 @@ module _ (setup : Setup) (facts : Facts) where
 abbrev HasLeft : Facts → Type 0
 HasLeft facts = is_control facts.outgoing.fixed ≡ true → facts.fixes_control ≡ false
 
-given_control : (handle : ℕ) (start : Bool) (body : List ℕ) (outgoing : Data) → (data_given handle start body outgoing).fixed ≡ outgoing.fixed
+pub given_control : (handle : ℕ) (start : Bool) (body : List ℕ) (outgoing : Data) → (data_given handle start body outgoing).fixed ≡ outgoing.fixed
 given_control handle start [] outgoing = refl
 given_control handle start (octet ∷ octets) outgoing = refl
 
@@ -151,7 +151,7 @@ sent_left : (payload : List ℕ) (is_new fixes : Bool) (outgoing : Data)
 sent_left payload true fixes outgoing left = no_control empty_pdu fixes refl
 sent_left payload false fixes outgoing left = left
 
-acked_control : (acked : Bool) (outgoing : Data) → (data_acked_if acked outgoing).fixed ≡ outgoing.fixed
+pub acked_control : (acked : Bool) (outgoing : Data) → (data_acked_if acked outgoing).fixed ≡ outgoing.fixed
 acked_control true outgoing = refl
 acked_control false outgoing = refl
 

@@ -1,5 +1,5 @@
 -- An end goes by all the steps of its past, as long as it goes on.
-use Rattle.std.proofs.Common.{◌≡◌, ◌&&◌, ◌||◌, Bool, true, false, List, [], ◌∷◌, ◌++◌, fold, Option, Some, None, Ok, Err, is_none, refl, ap, sym, subst, ◌∙◌, if◌then◌else◌}
+use Rattle.std.proofs.Common.{◌≡◌, ◌||◌, Bool, true, false, List, [], ◌∷◌, ◌++◌, fold, Option, Some, None, Ok, Err, is_none, refl, ap, sym, subst, ◌∙◌, if◌then◌else◌}
 use Rattle.std.specs.Prelude.{⊤}
 use Rattle.std.proofs.lemmas.List.{append-nil, append_assoc}
 use Rattle.ble_base.specs.declared.error_codes.ErrCode.{ErrCode}
@@ -61,7 +61,7 @@ over (step ∷ steps) k code is =
     let later = over steps (keyed_after step k) code (ap (λ (s : Phased). s.control.ends) once.phased ∙ is) in
     record { phased = later.phased ∙ once.phased; phase = later.phase ∙ once.phase }
 
-forged_role : (c : Control) → role_of (ended_by_forgery c).table.progress ≡ role_of c.table.progress
+pub forged_role : (c : Control) → role_of (ended_by_forgery c).table.progress ≡ role_of c.table.progress
 forged_role c = by (is_none c.ends)
   where
     by : (goes : Bool) → role_of (if goes then ended (record { 0 = mic_failure }) c else c).table.progress
@@ -70,7 +70,7 @@ forged_role c = by (is_none c.ends)
     by false = refl
 
 -- it has ended the link
-forged_over : (c : Control) → is_none (ended_by_forgery c).ends ≡ false
+pub forged_over : (c : Control) → is_none (ended_by_forgery c).ends ≡ false
 forged_over c = by (is_none c.ends) refl
   where
     by : (goes : Bool) → is_none c.ends ≡ goes

@@ -86,7 +86,7 @@ entered : (goes : Bool) (setup : Setup) (slot : ℕ) (facts : Facts)
 entered true setup slot facts = refl
 entered false setup slot facts = refl
 
-fixed : (stays : Bool) (facts : Facts) → keyed_of (if stays then facts else fixed_anew facts) ≡ keyed_of facts
+pub fixed : (stays : Bool) (facts : Facts) → keyed_of (if stays then facts else fixed_anew facts) ≡ keyed_of facts
 fixed true facts = refl
 fixed false facts = refl
 

@@ -1,6 +1,6 @@
 -- The lemmas of this crate.
 pub mod KeyedSteps
-mod BodyPayloads
+pub mod BodyPayloads
 mod ClearSteps
 mod ClearEnds
 pub mod Views

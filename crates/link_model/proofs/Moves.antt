@@ -49,7 +49,7 @@ pub record EachMoveKeeps (P : Acknowledgement → Data → Type 0) : Type 0 wher
   pub accepted : (accepted : Bool) (pdu : Pdu) (ack : Acknowledgement) (outgoing : Data) → P ack outgoing
       → P (with_accepted accepted pdu ack) outgoing
 
-was_out : (all says : Bool) → (not all && says) ≡ true → all ≡ false
+pub was_out : (all says : Bool) → (not all && says) ≡ true → all ≡ false
 was_out true says is = absurd cc
 was_out false says is = refl
 

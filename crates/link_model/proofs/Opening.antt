@@ -43,7 +43,7 @@ module _ (made : EncEnd) (pdu : Pdu) where
   made_by empty seals_now is does = λ i. payload_by (is i) (does i)
 
 -- a PDU that is not empty has a body
-some_body : (pdu : Pdu) → is_empty pdu ≡ false → 1 ≤ length pdu.body
+pub some_body : (pdu : Pdu) → is_empty pdu ≡ false → 1 ≤ length pdu.body
 some_body pdu is = by (pdu.llid == 0) (length pdu.body == 0) refl is
   where
     by : (none empty : Bool) → (length pdu.body == 0) ≡ empty → (none || empty) ≡ false → 1 ≤ length pdu.body

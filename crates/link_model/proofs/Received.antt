@@ -43,7 +43,7 @@ module _ (sender listener : Facts) (two_bits : (pdu_sent sender).llid < 4) where
 
 -- ---- it is heard whole
 
-in_form : (count : ℕ) → count ≤ 255 → (nat_le 2 (suc (suc count)) && nat_le (suc (suc count)) 257 && (suc (suc count) == 2 + count)) ≡ true
+pub in_form : (count : ℕ) → count ≤ 255 → (nat_le 2 (suc (suc count)) && nat_le (suc (suc count)) 257 && (suc (suc count) == 2 + count)) ≡ true
 in_form count short = grind (arith, nat_tests)
 
 -- a payload that fits as that of its PDU fits as it is

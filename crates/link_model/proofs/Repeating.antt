@@ -1,5 +1,5 @@
 -- The payload of the PDU that was sent last is kept until that is acknowledged.
-use Rattle.std.proofs.Common.{◌≡◌, ℕ, ◌&&◌, Bool, true, false, List, [], ◌∷◌, Option, Some, None, is_some, refl, ap, sym, ◌∙◌, if◌then◌else◌}
+use Rattle.std.proofs.Common.{◌≡◌, ℕ, ◌&&◌, Bool, true, false, List, Option, Some, None, is_some, refl, ap, sym, ◌∙◌, if◌then◌else◌}
 use Rattle.ble_base.specs.declared.roles.Role.{Role}
 use Rattle.data_pdu.specs.declared.header.DataHeader.{DataHeader}
 use Rattle.data_pdu.specs.Header.{header_in}
@@ -7,19 +7,20 @@ use Rattle.phased_end.specs.control_end.procedure_values.declared.asks.Ask.{Ask}
 use Rattle.phased_end.specs.control_end.procedure_stages.Queue.{waiting_in}
 use Rattle.link_model.specs.Setup.{Setup}
 use Rattle.link_model.specs.Acknowledgement.{Pdu, is_acked}
-use Rattle.link_model.specs.Data.{Data, data_acked_if, data_given, is_control, is_data}
+use Rattle.link_model.specs.Data.{is_control, is_data}
 use Rattle.link_model.specs.Verdicts.{pdu_of}
 use Rattle.link_model.specs.Payload.{payload_made}
 use Rattle.link_model.specs.Facts.{Facts}
 use Rattle.link_model.specs.Step.{Step, DataGiven, DataReported, Disconnected, EventEntered, PacketReceived, PacketSent, PduFixed, ProcedureAsked, RequestAnswered, KeyAnswered, WordsGiven}
 use Rattle.link_model.specs.Controls.{goes_on, is_procedure_pdu, next_control, pdu_fixed, pdu_of_control, is_quiet_now}
 use Rattle.link_model.specs.Entering.{facts_entered_if}
-use Rattle.link_model.specs.Fixing.{data_cut, data_fixed_by, data_goes, fixed_anew}
+use Rattle.link_model.specs.Fixing.{data_cut, data_goes, fixed_anew}
 use Rattle.link_model.specs.Hosts.{asked_unless, is_to_come}
 use Rattle.link_model.specs.Packets.{good_pdu, payload_sent, is_forged}
 use Rattle.link_model.specs.Sending.{control_gone_if, facts_sent, fixed_sent, data_sent_as}
 use Rattle.link_model.specs.Receiving.{accepted_if, accepts, acknowledged_if, answers_with_control, facts_before_taking, facts_hearing, facts_received, has_acknowledged, heard_in_slot, procedures_take_if}
 use Rattle.link_model.specs.End.{facts_after}
+use Rattle.link_model.proofs.BodyPayloads.{acked_same, anew_same, given_same}
 use Rattle.link_model.proofs.Choices.{either_data, either_forged}
 
 pub sent_again : (facts : Facts) → is_acked facts.acknowledgement ≡ false → payload_sent facts ≡ facts.outgoing.payload
@@ -57,10 +58,6 @@ first_payload facts slot all =
 
 -- ---- whatever else happens
 
-given_kept : (handle : ℕ) (start : Bool) (body : List ℕ) (outgoing : Data) → (data_given handle start body outgoing).payload ≡ outgoing.payload
-given_kept handle start [] outgoing = refl
-given_kept handle start (octet ∷ octets) outgoing = refl
-
 asked_kept : (comes : Bool) (ask : Ask) (facts : Facts) → (asked_unless comes ask facts).outgoing.payload ≡ facts.outgoing.payload
 asked_kept true ask facts = refl
 asked_kept false ask facts = refl
@@ -70,16 +67,10 @@ entered_kept : (goes : Bool) (setup : Setup) (slot : ℕ) (facts : Facts)
 entered_kept true setup slot facts = refl
 entered_kept false setup slot facts = refl
 
-anew_kept : (control : Bool) (waiting : ℕ) (quiet goes : Bool) (outgoing : Data)
-    → (data_fixed_by control waiting quiet goes outgoing).payload ≡ outgoing.payload
-anew_kept true waiting quiet goes outgoing = refl
-anew_kept false waiting quiet true outgoing = refl
-anew_kept false waiting quiet false outgoing = refl
-
 fixed_kept : (stays : Bool) (facts : Facts) → (if stays then facts else fixed_anew facts).outgoing.payload ≡ facts.outgoing.payload
 fixed_kept true facts = refl
 fixed_kept false facts =
-    anew_kept (is_some (next_control facts)) (waiting_in facts.control.table.queue) (is_quiet_now facts)
+    anew_same (is_some (next_control facts)) (waiting_in facts.control.table.queue) (is_quiet_now facts)
     (data_goes facts) (data_cut facts)
 
 gone_kept : (goes : Bool) (slot : ℕ) (facts : Facts) → (control_gone_if goes slot facts).outgoing.payload ≡ facts.outgoing.payload
@@ -91,10 +82,6 @@ taken_kept : (takes : Bool) (pdu : Pdu) (slot : ℕ) (facts : Facts)
 taken_kept true pdu slot facts = refl
 taken_kept false pdu slot facts = refl
 
-acked_kept : (acked : Bool) (outgoing : Data) → (data_acked_if acked outgoing).payload ≡ outgoing.payload
-acked_kept true outgoing = refl
-acked_kept false outgoing = refl
-
 heard_kept : (role : Role) (slot : ℕ) (room : Bool) (header : DataHeader) (pdu : Pdu) (facts : Facts)
     → (facts_hearing role slot room header pdu facts).outgoing.payload ≡ facts.outgoing.payload
 heard_kept role slot room header pdu facts =
@@ -105,7 +92,7 @@ heard_kept role slot room header pdu facts =
     let seen = procedures_take_if (accepted && is_procedure_pdu pdu) pdu slot (accepted_if accepted pdu now) in
     either_data (λ (f : Facts). f.outgoing.payload ≡ seen.outgoing.payload) (accepted && is_data pdu) seen refl refl
     ∙ taken_kept (accepted && is_procedure_pdu pdu) pdu slot (accepted_if accepted pdu now)
-    ∙ gone_kept (answers_with_control role own) slot own ∙ acked_kept (acks && is_data facts.acknowledgement.last) facts.outgoing
+    ∙ gone_kept (answers_with_control role own) slot own ∙ acked_same (acks && is_data facts.acknowledgement.last) facts.outgoing
 
 received_kept : (role : Role) (slot : ℕ) (room : Bool) (pdu : Option (List ℕ)) (facts : Facts)
     → (facts_received role slot room pdu facts).outgoing.payload ≡ facts.outgoing.payload
@@ -114,7 +101,7 @@ received_kept role slot room (Some octets) facts = heard_kept role slot room (he
 
 pub payload_kept : (setup : Setup) (facts : Facts) (step : Step) → is_acked facts.acknowledgement ≡ false
     → (facts_after setup facts step).outgoing.payload ≡ facts.outgoing.payload
-payload_kept setup facts (DataGiven start body) out = given_kept setup.link.handle start body facts.outgoing
+payload_kept setup facts (DataGiven start body) out = given_same setup.link.handle start body facts.outgoing
 payload_kept setup facts (ProcedureAsked ask) out = asked_kept (is_to_come ask facts) ask facts
 payload_kept setup facts (RequestAnswered answer) out = refl
 payload_kept setup facts (KeyAnswered key slot) out = refl

@@ -48,7 +48,7 @@ not_next packets fixed is holds = let no : ◌≡◌ {A = Bool} false true = sym
 empty_next : (packets : List DataPacket) → IsNext packets empty_pdu
 empty_next packets = not_next packets empty_pdu refl
 
-control_no_data : (control : Option Ctrl) → is_data (pdu_of_control control) ≡ false
+pub control_no_data : (control : Option Ctrl) → is_data (pdu_of_control control) ≡ false
 control_no_data None = refl
 control_no_data (Some ctrl) = refl
 
@@ -57,7 +57,7 @@ first_together = record { kept = kept-empty 0 refl; counts = first_counted; next
 
 -- ---- the host gives a packet
 
-next-given : (count : ℕ) (found given : Option DataPacket) (fixed : Pdu) → is_data fixed ≡ true
+pub next-given : (count : ℕ) (found given : Option DataPacket) (fixed : Pdu) → is_data fixed ≡ true
     → pdu_with (option_map (piece_of count) found) ≡ fixed → pdu_with (option_map (piece_of count) (option_or found given)) ≡ fixed
 next-given count None given fixed holds is = let no : is_data fixed ≡ false = ap is_data (sym is) in absurd cc
 next-given count (Some packet) given fixed holds is = is
@@ -88,7 +88,7 @@ reported_together ack outgoing are =
 -- ---- a PDU is fixed
 
 -- a piece that is cut at its own length is that piece
-cut_again : (limit : ℕ) (found : Option DataPacket)
+pub cut_again : (limit : ℕ) (found : Option DataPacket)
     → let next = pdu_with (option_map (piece_of limit) found) in
     pdu_with (option_map (piece_of (length next.body)) found) ≡ next
 cut_again limit None = refl

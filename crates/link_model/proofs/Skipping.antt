@@ -46,7 +46,7 @@ no_second : (first third : Bool) → (first && false && third) ≡ false
 no_second true third = refl
 no_second false third = refl
 
-no_inner : (first second : Bool) → (first && (second && false)) ≡ false
+pub no_inner : (first second : Bool) → (first && (second && false)) ≡ false
 no_inner true true = refl
 no_inner true false = refl
 no_inner false second = refl

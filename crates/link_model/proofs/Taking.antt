@@ -27,7 +27,7 @@ taken_first taken left waits given is =
     sym (take-append_seam taken (left ++ waits)) ∙ ap (take (length taken)) (sym (append_assoc taken left waits) ∙ is)
 
 -- more octets have no fewer whole packets in them
-more_whole : (packets : List HostData) (few many : ℕ) → few ≤ many → whole_packets packets few ≤ whole_packets packets many
+pub more_whole : (packets : List HostData) (few many : ℕ) → few ≤ many → whole_packets packets few ≤ whole_packets packets many
 more_whole [] few many less = omega arith
 more_whole (packet ∷ packets) few many less =
     by_tests (nat_lt few (length packet.body)) (nat_lt many (length packet.body)) refl refl
@@ -41,7 +41,7 @@ more_whole (packet ∷ packets) few many less =
     by_tests false true e f later = absurd (grind (arith, nat_tests))
     by_tests false false e f later = omega arith
 
-take_less : {A : Type 0} (few many : ℕ) (xs : List A) → few ≤ many → take few (take many xs) ≡ take few xs
+pub take_less : {A : Type 0} (few many : ℕ) (xs : List A) → few ≤ many → take few (take many xs) ≡ take few xs
 take_less zero many xs less = refl
 take_less (suc few) zero xs less = absurd (omega arith)
 take_less (suc few) (suc many) [] less = refl

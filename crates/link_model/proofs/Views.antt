@@ -379,7 +379,7 @@ answers_read refused response Bare h = none_answered h
 
 -- ---- what is forbidden, kept and seen
 
-allows_end : (phase : PhaseFacts) (role : Role) → allows phase role Terminate ≡ true
+pub allows_end : (phase : PhaseFacts) (role : Role) → allows phase role Terminate ≡ true
 allows_end Clear role = refl
 allows_end Secure role = refl
 allows_end (Asked after_pause enc_rsp kept) role = refl

@@ -24,6 +24,7 @@ use Rattle.link_model.specs.control_end.Answers.{entry_of}
 use Rattle.link_model.specs.control_end.Held.{held_of}
 use Rattle.link_model.specs.control_model.Control.{Control, Answers, Disconnects, SeesAcknowledged, ended}
 use Rattle.link_model.proofs.KnownEnds.{IsPast, knows_accepted, knows_before_taking, past_knows}
+use Rattle.link_model.proofs.Moves.{was_out}
 use Rattle.link_model.proofs.Receptions.{each_packet}
 use Rattle.link_model.proofs.Views.{Knows, acked_control, acked_view, data_view, key_view, reading_view, taken_view}
 use Rattle.link_outcomes.proofs.Awaiting.{answers, waits_in}
@@ -55,10 +56,6 @@ acked_stands true waits facts knows out s =
     other_stands waits _ _ _ (acked_fixed (is_data facts.acknowledgement.last) facts.outgoing none)
     (owing_holds (level false waits) _ _ (acked_view (is_control facts.acknowledgement.last) facts knows)
     (acked_holds (is_control facts.acknowledgement.last) waits facts.control (free (is_param facts.outgoing.fixed) waits facts.control s.holds)))
-
-was_out : (all says : Bool) → (not all && says) ≡ true → all ≡ false
-was_out true says is = absurd cc
-was_out false says is = refl
 
 leaves : (role : Role) (facts : Facts) → answers_with_control role facts ≡ true → takes_leave facts ≡ true
 leaves Central facts is = absurd cc

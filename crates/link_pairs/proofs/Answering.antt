@@ -3,7 +3,7 @@ use Rattle.std.proofs.Common.{◌≡◌, ◌⊎◌, inl, inr, ℕ, ◌+◌, ◌-
 use Rattle.data_pdu.specs.Layouts.{IsCtrl}
 use Rattle.joint_laws.specs.joint_controls.phased_control.Taken.{response_ctrl}
 use Rattle.link_model.specs.Acknowledgement.{Acknowledgement, Pdu, is_acked, received_by, with_accepted}
-use Rattle.link_model.specs.Data.{Data, data_acked_if, is_control, is_data}
+use Rattle.link_model.specs.Data.{Data, is_control, is_data}
 use Rattle.link_model.specs.Events.{event_heard}
 use Rattle.link_model.specs.Setup.{Setup}
 use Rattle.link_model.specs.declared.events.ConnectionEvent.{ConnectionEvent}
@@ -14,6 +14,7 @@ use Rattle.link_model.specs.phased_end.Taking.{drawn}
 use Rattle.link_model.specs.phased_end.keyed_control.declared.material.Response.{Response}
 use Rattle.link_model.specs.Receiving.{accepted_if, acknowledged_if, heard_in_slot, taken_if}
 use Rattle.link_model.specs.Sending.{control_gone_if, facts_sent, fixed_sent, takes_leave}
+use Rattle.link_model.proofs.Fixing.{acked_control}
 use Rattle.link_pairs.specs.Ends.{HasExchange, IsAtRest, phased_of, turns_at}
 use Rattle.link_pairs.proofs.KeysHeld.{sent_as}
 use Rattle.link_pairs.proofs.PhasedKept.{PhasedKeeps}
@@ -36,14 +37,6 @@ gone_same true slot facts =
     record { acknowledgement = refl; event = refl; last_good = refl; leaving = refl; peer = refl; payload = refl; encryption = refl }
 gone_same false slot facts =
     record { acknowledgement = refl; event = refl; last_good = refl; leaving = refl; peer = refl; payload = refl; encryption = refl }
-
-pub acked_fixed : (acked : Bool) (outgoing : Data) → (data_acked_if acked outgoing).fixed ≡ outgoing.fixed
-acked_fixed true outgoing = refl
-acked_fixed false outgoing = refl
-
-pub acked_payload : (acked : Bool) (outgoing : Data) → (data_acked_if acked outgoing).payload ≡ outgoing.payload
-acked_payload true outgoing = refl
-acked_payload false outgoing = refl
 
 -- no further control PDU leaves as it sends
 none_leaves : (all fixes : Bool) (slot : ℕ) (facts : Facts) → facts.fixes_control ≡ fixes
@@ -71,7 +64,7 @@ module _ (slot : ℕ) (more acks : Bool) (facts : Facts) where
   gone = gone_same (takes_leave seen) slot seen
 
   pub seen_fixed : seen.outgoing.fixed ≡ facts.outgoing.fixed
-  seen_fixed = acked_fixed (acks && is_data facts.acknowledgement.last) facts.outgoing
+  seen_fixed = acked_control (acks && is_data facts.acknowledgement.last) facts.outgoing
 
   pub fixed_again : is_acked seen.acknowledgement ≡ false → fixed.outgoing.fixed ≡ facts.outgoing.fixed
   fixed_again out = ap (λ (o : Data). o.fixed) (none_gone_if (is_acked seen.acknowledgement) seen.fixes_control slot seen out) ∙ seen_fixed

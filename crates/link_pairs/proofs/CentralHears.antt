@@ -29,6 +29,7 @@ use Rattle.link_model.specs.Step.{PacketReceived}
 use Rattle.link_model.specs.Packets.{is_forged}
 use Rattle.link_model.specs.Receiving.{accepted_if, data_taken_if, facts_hearing, procedures_take_if, taken_if}
 use Rattle.link_model.proofs.Hearing.{IsHeardWhole}
+use Rattle.link_model.proofs.KeyedPasts.{forged_over as forged_lasts_not}
 use Rattle.link_pairs.specs.Ends.{AreEnds, heard_turns, is_lasting, phased_of}
 use Rattle.link_pairs.specs.Hearing.{IsPacketOf, is_mixed, received}
 use Rattle.link_pairs.specs.Shown.{AreLinked, HasKeys, HaveKeys, Shows}
@@ -38,7 +39,7 @@ use Rattle.link_pairs.proofs.PhasedKept.{PhasedKeeps, acked_keeps_if, data_keeps
 use Rattle.link_pairs.proofs.TakingPdus.{taken_same}
 use Rattle.link_pairs.proofs.TerminatesNoted.{terminates_nothing}
 use Rattle.link_pairs.proofs.SeenAcknowledged.{control_seen, ends_nothing, keys_seen}
-use Rattle.link_pairs.proofs.Shutting.{forged_lasts_not, shut_joint}
+use Rattle.link_pairs.proofs.Shutting.{shut_joint}
 use Rattle.link_pairs.proofs.TakingKeys.{central_alike, took_keys}
 use Rattle.link_pairs.proofs.Counts.{Says, acknowledged_by, heard_agreed, is_fresh, says_right, turned}
 use Rattle.link_pairs.proofs.HeardFacts.{acked_facts, heard_rests, hears_shows}

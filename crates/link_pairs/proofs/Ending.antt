@@ -23,6 +23,7 @@ use Rattle.link_model.specs.Facts.{Facts}
 use Rattle.link_model.specs.Packets.{is_forged}
 use Rattle.link_model.specs.Receiving.{replies_of}
 use Rattle.link_model.proofs.Hearing.{IsHeardWhole}
+use Rattle.joint_keys.proofs.LinkKeys.{step_in_range}
 use Rattle.link_pairs.specs.Ends.{AreEnds, heard_turns, is_lasting}
 use Rattle.link_pairs.specs.Hearing.{IsPacketOf, answered, is_mixed, received}
 use Rattle.link_pairs.specs.Shown.{AreLinked, HaveKeys, Shows}
@@ -30,7 +31,7 @@ use Rattle.link_pairs.specs.Sound.{EndsForInstant, EndsForged, first_joint, is_i
 use Rattle.link_pairs.specs.Turns.{HaveBegun}
 use Rattle.link_pairs.proofs.CentralHears as central_hears
 use Rattle.link_pairs.proofs.EndingNothing.{sent_ends_nothing}
-use Rattle.link_pairs.proofs.JointRuns.{HasRun, has_run, step_in_range}
+use Rattle.link_pairs.proofs.JointRuns.{HasRun, has_run}
 use Rattle.link_pairs.proofs.PeripheralHeard.{reaches_now, read, takes_now}
 use Rattle.link_pairs.proofs.PeripheralHears.{TakesAt}
 use Rattle.link_pairs.proofs.PeripheralSteps.{one_step}

@@ -17,8 +17,7 @@ use Rattle.link_model.specs.End.{facts_after}
 use Rattle.link_model.specs.Entering.{facts_entered_if}
 use Rattle.link_model.specs.Facts.{Facts, keyed_of}
 use Rattle.link_model.specs.Fixing.{facts_fixed, fixed_anew}
-use Rattle.link_model.specs.Hosts.{asked_unless, ends_without_key, is_to_come, key_step, leaving_from_if}
-use Rattle.link_model.specs.declared.state.Leaving.{Leaving}
+use Rattle.link_model.specs.Hosts.{asked_unless, ends_without_key, is_to_come, key_step}
 use Rattle.link_model.specs.enc_phase.declared.facts.Transition.TheVariants.{Refuse}
 use Rattle.link_model.specs.enc_phase.Phases.{may_follow}
 use Rattle.link_model.specs.phased_control.Phased.{Phased, is_open_now, key_given, key_lacking, refused_if}
@@ -30,6 +29,7 @@ use Rattle.link_pairs.specs.Hosts.{MayHost}
 use Rattle.link_pairs.specs.Sound.{EndsNothing}
 use Rattle.link_pairs.specs.Turns.{central_begun, entered_in, prepared, sent_if}
 use Rattle.link_pairs.proofs.ControlKept.{sent_ends, table_ends}
+use Rattle.link_pairs.proofs.NothingNew.{left_by_peer}
 use Rattle.link_pairs.proofs.TakingNothing.{entered_nothing}
 
 -- ---- the control part
@@ -71,10 +71,6 @@ key_ends (Some ltk) k = by (is_none k.phased.control.ends)
     by true = asked_same (k.phased.asks_key && is_open_now k.phased) k.phased (key_given k.phased) (owed_ends k.phased.control StartEncReq)
     by false = refl
 
-left_peer : (leaves : Bool) (slot : ℕ) (leaving : Leaving) → (leaving_from_if leaves slot leaving).ended_by_peer ≡ leaving.ended_by_peer
-left_peer true slot leaving = refl
-left_peer false slot leaving = refl
-
 -- ---- one step of an end
 
 same : (facts : Facts) → EndsNothing facts facts
@@ -109,7 +105,7 @@ host_ends_nothing setup facts (RequestAnswered answer) may = record { procedures
 host_ends_nothing setup facts (Disconnected reason slot) may = record { procedures = disconnected_ends facts.control reason; peer = refl }
 host_ends_nothing setup facts DataReported may = record { procedures = refl; peer = refl }
 host_ends_nothing setup facts (KeyAnswered key slot) may =
-    record { procedures = key_ends key (keyed_of facts); peer = left_peer (ends_without_key key facts) slot facts.leaving }
+    record { procedures = key_ends key (keyed_of facts); peer = left_by_peer (ends_without_key key facts) slot facts.leaving }
 host_ends_nothing setup facts (WordsGiven skd_s iv_s) may = record { procedures = refl; peer = refl }
 host_ends_nothing setup facts (EventEntered slot) may = absurd may
 host_ends_nothing setup facts PduFixed may = absurd may

@@ -15,6 +15,7 @@ use Rattle.link_model.specs.Setup.{Setup}
 use Rattle.link_model.specs.Controls.{is_quiet_now, next_control}
 use Rattle.link_model.specs.Facts.{Facts}
 use Rattle.link_model.specs.Fixing.{data_cut, data_fixed_by, data_goes, fixed_anew}
+use Rattle.link_model.proofs.BodyPayloads.{anew_same}
 use Rattle.joint_keys.specs.KeyedJoint.{Keys}
 use Rattle.link_pairs.specs.Ends.{IsAtRest}
 use Rattle.link_pairs.specs.Shown.{HasKeys}
@@ -49,11 +50,6 @@ fixed_piece false waiting quiet false o = record { llid = omega arith; short = o
 
 pub piece_no_control : (limit : ℕ) (pdu : Pdu) → IsPiece limit pdu → is_control pdu ≡ false
 piece_no_control limit pdu is = let less = is.llid in ne_eqb pdu.llid 3 (λ same. omega (arith, less, same))
-
-pub fixed_payload : (control : Bool) (waiting : ℕ) (quiet goes : Bool) (o : Data) → (data_fixed_by control waiting quiet goes o).payload ≡ o.payload
-fixed_payload true waiting quiet goes o = refl
-fixed_payload false waiting quiet true o = refl
-fixed_payload false waiting quiet false o = refl
 
 -- ---- data is fixed only where it goes and no control PDU goes
 
@@ -128,6 +124,6 @@ fixing_has keys true facts has =
       material = has.material;
       session = has.session;
       made =
-          fixed_payload (is_some (next_control facts)) (waiting_in facts.control.table.queue) (is_quiet_now facts) (data_goes facts) (data_cut facts)
+          anew_same (is_some (next_control facts)) (waiting_in facts.control.table.queue) (is_quiet_now facts) (data_goes facts) (data_cut facts)
           ∙ has.made;
     }

@@ -15,7 +15,8 @@ use Rattle.joint_laws.specs.joint_controls.phased_control.Phased.{Phased}
 use Rattle.link_model.specs.Controls.{is_procedure_pdu, is_quiet_now}
 use Rattle.link_model.specs.Receiving.{accepted_if, accepts, acknowledged_if, acks_control, answers_with_control, facts_before_taking, facts_hearing, heard_in_slot, keyed_acked_if}
 use Rattle.link_model.specs.Sending.{control_gone_if}
-use Rattle.link_pairs.proofs.Answering.{IsGoneFrom, acked_payload, gone_same}
+use Rattle.link_model.proofs.BodyPayloads.{acked_same as acked_payload}
+use Rattle.link_pairs.proofs.Answering.{IsGoneFrom, gone_same}
 use Rattle.link_pairs.proofs.Counts.{HasBitsOf, acknowledged_by, heard_agreed, is_fresh}
 use Rattle.link_pairs.proofs.PhasedEnds.{acked_phased}
 use Rattle.link_pairs.proofs.TakingNothing.{TakesNothing, seen_nothing, sends_nothing, takes_none, takes_then}

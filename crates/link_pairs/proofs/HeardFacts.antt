@@ -12,10 +12,11 @@ use Rattle.link_model.specs.phased_end.keyed_control.declared.material.Response.
 use Rattle.link_model.specs.Setup.{Setup}
 use Rattle.link_model.specs.Acknowledgement.{Acknowledgement, Pdu, with_accepted, with_acked}
 use Rattle.link_model.specs.OneLink.{AreInAgreement}
-use Rattle.link_model.specs.Data.{Data, data_acked_if, is_control, is_data}
+use Rattle.link_model.specs.Data.{Data, is_control, is_data}
 use Rattle.link_model.specs.declared.events.ConnectionEvent.{ConnectionEvent}
 use Rattle.link_model.specs.Facts.{Facts}
 use Rattle.link_model.specs.Receiving.{accepted_if, acknowledged_if, heard_in_slot}
+use Rattle.link_model.proofs.Fixing.{acked_control}
 use Rattle.link_pairs.specs.Ends.{IsAtRest, heard_turns, phased_of, turns_at}
 use Rattle.link_pairs.specs.Shown.{Shows}
 use Rattle.link_pairs.specs.Ways.{ShowsLast, ShowsWay}
@@ -26,10 +27,6 @@ use Rattle.link_pairs.proofs.TakingPdus.{IsTakenBy}
 use Rattle.link_pairs.proofs.Ways.{last_same, last_seen, way_same, way_seen}
 
 -- ---- what an end holds after it heard a packet in this slot
-
-acked_fixed : (acked : Bool) (outgoing : Data) → (data_acked_if acked outgoing).fixed ≡ outgoing.fixed
-acked_fixed true outgoing = refl
-acked_fixed false outgoing = refl
 
 -- as the new PDU is looked at
 abbrev pub acked_facts : ℕ → Bool → Bool → Facts → Facts
@@ -68,7 +65,7 @@ module _ (slot : ℕ) (more acks accepted : Bool) (pdu : Pdu) (facts : Facts) wh
             response = subst (λ (r : Response). IsCtrl (response_ctrl (drawn r))) (sym took.response) rests.holds.response;
           };
           role = keeps.role setup.link.role rests.role;
-          none_gone = ap (λ (o : Data). is_control o.fixed) took.outgoing ∙ ap is_control (acked_fixed now facts.outgoing) ∙ rests.none_gone;
+          none_gone = ap (λ (o : Data). is_control o.fixed) took.outgoing ∙ ap is_control (acked_control now facts.outgoing) ∙ rests.none_gone;
           fits_any = subst (λ (a : Acknowledgement). length a.last.body ≤ 251) (sym took.acknowledgement) rests.fits_any;
           two_bits = subst (λ (a : Acknowledgement). a.last.llid < 4) (sym took.acknowledgement) rests.two_bits;
           slot = λ some. event_slot ∙ rests.slot entered ∙ sym kept.anchor;

@@ -34,6 +34,9 @@ use Rattle.joint_keys.proofs.PhasedRanges.{phased_stays_fitting}
 use Rattle.link_model.specs.keyed_control.Keyed.{Keyed}
 use Rattle.link_model.specs.keyed_control.KeyedSteps.{Answers, Asks, Disconnects, KeyedStep, keyed_after, keyed_after_all, phased_step}
 use Rattle.link_model.specs.keyed_control.declared.material.Response.{Response}
+use Rattle.link_model.proofs.BodyPayloads.{given_same}
+use Rattle.link_model.proofs.Ending.{key_stays}
+use Rattle.link_model.proofs.Fixing.{given_control}
 use Rattle.link_model.proofs.phased_end.keyed_control.Phases.{after_one, phased_once}
 use Rattle.link_model.specs.Acknowledgement.{Acknowledgement}
 use Rattle.link_model.specs.Data.{Data, data_given, data_reported, is_control}
@@ -41,9 +44,8 @@ use Rattle.link_model.specs.Setup.{Setup}
 use Rattle.link_model.specs.declared.events.ConnectionEvent.{ConnectionEvent}
 use Rattle.link_model.specs.End.{facts_after}
 use Rattle.link_model.specs.Facts.{Facts, keyed_of}
-use Rattle.link_model.specs.Hosts.{asked_unless, ends_without_key, facts_with_words, is_to_come, key_step, leaving_from_if}
+use Rattle.link_model.specs.Hosts.{asked_unless, ends_without_key, facts_with_words, is_to_come, key_step}
 use Rattle.link_model.specs.KeyedSteps.{step_if}
-use Rattle.link_model.specs.declared.state.Leaving.{Leaving}
 use Rattle.link_model.specs.Step.{Step, DataGiven, DataReported, Disconnected, EventEntered, PacketReceived, PacketSent, PduFixed, ProcedureAsked, RequestAnswered, KeyAnswered, WordsGiven}
 use Rattle.link_model.proofs.KeyedSteps.{one_step}
 use Rattle.link_pairs.specs.Ends.{AreEnds, IsAtRest, IsLaterPdu, heard_turns, is_lasting, phased_of, turns_at}
@@ -221,22 +223,10 @@ module _ (setup : Setup) (turns : ℕ) (facts : Facts) (r : IsAtRest setup turns
         stays = r.stays;
       }
 
-pub given_fixed : (handle : ℕ) (start : Bool) (body : List ℕ) (o : Data) → (data_given handle start body o).fixed ≡ o.fixed
-given_fixed handle start [] o = refl
-given_fixed handle start (octet ∷ octets) o = refl
-
-pub given_payload : (handle : ℕ) (start : Bool) (body : List ℕ) (o : Data) → (data_given handle start body o).payload ≡ o.payload
-given_payload handle start [] o = refl
-given_payload handle start (octet ∷ octets) o = refl
-
 data_has : (keys : Keys) (facts : Facts) (o : Data) → o.payload ≡ facts.outgoing.payload → HasKeys keys facts → HasKeys keys (record facts { outgoing = o })
 data_has keys facts o payload has = record { material = has.material; session = has.session; made = payload ∙ has.made }
 
 -- ---- a step of its host, as the end makes it
-
-left_same : (leaves : Bool) (slot : ℕ) (leaving : Leaving) → (leaving_from_if leaves slot leaving).acknowledged ≡ leaving.acknowledged
-left_same true slot leaving = refl
-left_same false slot leaving = refl
 
 module _ (setup : Setup) (facts : Facts) (same : facts.encryption.end.phase ≡ facts.encryption.phase) where
   asks_as : (ask : Ask) → is_to_come ask facts ≡ false → IsHosted (Asks ask) facts (asked_unless false ask facts)
@@ -286,7 +276,7 @@ module _ (setup : Setup) (facts : Facts) (same : facts.encryption.end.phase ≡ 
         outgoing = refl;
         last_good = refl;
         response = refl;
-        stays = left_same (ends_without_key key facts) slot facts.leaving;
+        stays = key_stays (ends_without_key key facts) slot facts.leaving;
       }
 
 -- ---- both ends
@@ -398,8 +388,8 @@ module _ (central peripheral : Setup) (ends : AreEnds central peripheral) (turns
   pub central_hosts : (step : Step) → MayHost step c → AreLinked central peripheral turns answers (facts_after central c step) p
   central_hosts (DataGiven start body) m =
       central_stays (DataGiven start body) refl refl refl refl
-      (λ r. data_rests central turns c r (data_given central.link.handle start body c.outgoing) (given_fixed central.link.handle start body c.outgoing))
-      (λ keys. data_has keys c (data_given central.link.handle start body c.outgoing) (given_payload central.link.handle start body c.outgoing))
+      (λ r. data_rests central turns c r (data_given central.link.handle start body c.outgoing) (given_control central.link.handle start body c.outgoing))
+      (λ keys. data_has keys c (data_given central.link.handle start body c.outgoing) (given_same central.link.handle start body c.outgoing))
   central_hosts (ProcedureAsked ask) m = central_asks (is_to_come ask c) ask refl m
   central_hosts (RequestAnswered answer) m =
       let both = answer_fits answer c m in
@@ -428,8 +418,8 @@ module _ (central peripheral : Setup) (ends : AreEnds central peripheral) (turns
   pub peripheral_hosts : (step : Step) → MayHost step p → AreLinked central peripheral turns answers c (facts_after peripheral p step)
   peripheral_hosts (DataGiven start body) m =
       peripheral_stays (DataGiven start body) refl refl refl refl
-      (λ r. data_rests peripheral turns p r (data_given peripheral.link.handle start body p.outgoing) (given_fixed peripheral.link.handle start body p.outgoing))
-      (λ keys. data_has keys p (data_given peripheral.link.handle start body p.outgoing) (given_payload peripheral.link.handle start body p.outgoing))
+      (λ r. data_rests peripheral turns p r (data_given peripheral.link.handle start body p.outgoing) (given_control peripheral.link.handle start body p.outgoing))
+      (λ keys. data_has keys p (data_given peripheral.link.handle start body p.outgoing) (given_same peripheral.link.handle start body p.outgoing))
   peripheral_hosts (ProcedureAsked ask) m = peripheral_asks (is_to_come ask p) ask refl m
   peripheral_hosts (RequestAnswered answer) m =
       let both = answer_fits answer p m in

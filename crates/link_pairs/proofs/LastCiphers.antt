@@ -27,6 +27,7 @@ use Rattle.phase_pairs.specs.Peripheral.{is_closing_open, is_terminate as is_ter
 use Rattle.joint_laws.specs.joint_controls.phased_control.Phased.{Phased, is_quiet_now}
 use Rattle.joint_laws.specs.joint_controls.phased_control.Taken.{Enters, PhasedStep, Response, Sends, phased_after}
 use Rattle.joint_laws.specs.joint_controls.Joint.{CentralAcked, CentralEnters, CentralHost, CentralSends, CentralSendsData, CentralTakes, Clear, Control as control_item, Fixed, Joint, JointStep, OnAir, PeripheralAcked, PeripheralEnters, PeripheralFixes, PeripheralFixesData, PeripheralHost, PeripheralSends, PeripheralTakes, Shuts, Taken, Way, act, central_takes, event_now, host_step, is_clear, is_running, is_terminate, may_act, may_transmit, next_item, next_out, no_response, peripheral_takes, taking}
+use Rattle.joint_laws.proofs.Common.{not_true}
 use Rattle.joint_laws.proofs.joint_controls.LastPdus.{acked_end, enters_end, hosts_end, sends_next, takes_end}
 use Rattle.joint_laws.specs.joint_parameters.Turns.{Link}
 use Rattle.joint_phases.specs.Classes.{class_up, draft_down, draft_up}
@@ -38,7 +39,7 @@ use Rattle.joint_keys.proofs.Keyless.{IsKeyless, keyless_stays}
 use Rattle.joint_keys.proofs.LinkKeys.{is_run}
 use Rattle.joint_keys.proofs.Standing.{Standing}
 use Rattle.joint_keys.proofs.Stepping.{standing_next}
-use Rattle.joint_keys.proofs.Vectored.{rests_up, vectored}
+use Rattle.joint_keys.proofs.Vectored.{rests_down, rests_up, vectored}
 use Rattle.joint_keys.proofs.Walking.{Here, always}
 use Rattle.link_model.specs.Setup.{Setup, first_anchor, first_params}
 use Rattle.link_pairs.specs.Ends.{AreEnds}
@@ -92,11 +93,7 @@ class_by_up knows (Cipher StartEncReq) is = absurd (cc)
 class_by_up knows (Cipher ctrl) is = absurd (cc)
 class_by_up knows draft is = absurd (cc)
 
-not_true : (b : Bool) → not b ≡ true → b ≡ false
-not_true true is = absurd (cc)
-not_true false is = refl
-
-false_by : (b : Bool) → (b ≡ true → ⊥) → b ≡ false
+pub false_by : (b : Bool) → (b ≡ true → ⊥) → b ≡ false
 false_by true never = absurd (never refl)
 false_by false never = refl
 
@@ -162,13 +159,6 @@ module _ (s : KeyedJoint) (st : Standing s) where
       ap (is_coming is_terminate_class) st.shown.up ∙ ap (λ (w : Way). is_coming is_terminate_class (way_up j.peripheral.knows_version w)) at
       ∙ ap is_terminate_class (ends_class j.peripheral.knows_version ctrl is) in
       ap is_open st.shown.peripheral.closing ∙ open_up m.peripheral.closing ∙ not_true (is_closing_open m.peripheral.closing) ((tests s st).shut coming)
-
--- what a peripheral takes leaves the central
-rests_down : (w : Way) (slot : ℕ) (response : Response) (s : Joint) → (peripheral_takes w slot response s).central ≡ s.central
-rests_down (OnAir item sealed) slot response s = refl
-rests_down Clear slot response s = refl
-rests_down (Fixed item sealed) slot response s = refl
-rests_down (Taken item) slot response s = refl
 
 -- ---- what is out, after each step
 

@@ -72,13 +72,13 @@ ends_given (TerminateInd code) Disconnecting is = refl
 ends_given StartEncReq closing is = is
 ends_given ctrl closing is = is
 
-ends_after : (effect : Effect) (closing : Closing) → is_disconnecting closing ≡ true → is_disconnecting (closing_after effect closing) ≡ true
+pub ends_after : (effect : Effect) (closing : Closing) → is_disconnecting closing ≡ true → is_disconnecting (closing_after effect closing) ≡ true
 ends_after (PeerEnds code) Open is = absurd (cc)
 ends_after (PeerEnds code) Closed is = absurd (cc)
 ends_after (PeerEnds code) Disconnecting is = refl
 ends_after effect closing is = is
 
-reply_left : (closing : Closing) → is_open closing ≡ false → (reply : Reply) (q : QueueFacts) → with_reply closing reply q ≡ q
+pub reply_left : (closing : Closing) → is_open closing ≡ false → (reply : Reply) (q : QueueFacts) → with_reply closing reply q ≡ q
 reply_left closing shut no_reply q = refl
 reply_left closing shut (Reject rejection) q = rejection_left closing shut q rejection
 reply_left closing shut (Answer draft) q = draft_left closing shut q draft
@@ -151,7 +151,7 @@ left_then (Rejection rejection) q is = absurd (cc)
 left_then (Disconnect code) q is = refl
 left_then (Other draft) q is = absurd (cc)
 
-following_table : (role : Role) (indication : Option Indication) (c : Control) → (following role indication c).table ≡ c.table
+pub following_table : (role : Role) (indication : Option Indication) (c : Control) → (following role indication c).table ≡ c.table
 following_table Central (Some indication) c = refl
 following_table Central None c = refl
 following_table Peripheral indication c = refl

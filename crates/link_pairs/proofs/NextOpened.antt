@@ -1,6 +1,6 @@
 -- In each state of a joint run with keys: where nothing of an end is on its way, the other end opens its next PDU, if both have
 -- one session key, or the end is outside Clear and Secure and has no control PDU left.
-use Rattle.std.proofs.Common.{◌≡◌, ◌⊎◌, inl, inr, ℕ, ◌+◌, Bool, true, false, not, ◌&&◌, ◌||◌, List, [], Option, Some, None, is_none, refl, sym, ap, subst, ◌∙◌, arith, if◌then◌else◌}
+use Rattle.std.proofs.Common.{◌≡◌, ◌⊎◌, inl, inr, ℕ, ◌+◌, Bool, true, false, not, ◌&&◌, ◌||◌, List, [], Option, Some, None, is_none, refl, sym, ap, subst, ◌∙◌, arith}
 use Rattle.std.proofs.lemmas.Bool.{and_parts}
 use Rattle.ble_base.specs.declared.roles.Role.TheVariants.{Central, Peripheral}
 use Rattle.phase_pairs.specs.declared.joint.PhaseLink.{PhaseLink}
@@ -12,10 +12,11 @@ use Rattle.phase_pairs.specs.enc_phase.declared.classes.PduClass.{PduClass}
 use Rattle.phase_pairs.specs.enc_phase.declared.facts.PhaseFacts.{PhaseFacts}
 use Rattle.phase_pairs.specs.enc_phase.Phases.{is_quiet, opens, seals}
 use Rattle.phase_pairs.specs.Agreement.{is_equal}
-use Rattle.phase_pairs.specs.Counted.{Counted, Equal, Holds, OneAhead, counted_run, is_sealed_untaken, relation_of}
+use Rattle.phase_pairs.specs.Counted.{Counted, counted_run, is_sealed_untaken}
 use Rattle.phase_pairs.proofs.Counters.{counted}
 use Rattle.joint_laws.specs.joint_controls.procedure_values.declared.drafts.Draft.{Draft}
 use Rattle.joint_laws.specs.joint_controls.Joint.{Clear, Fixed, Joint, OnAir, Taken, Way}
+use Rattle.joint_laws.proofs.Common.{not_true}
 use Rattle.joint_phases.specs.Classes.{draft_down, draft_up}
 use Rattle.joint_phases.specs.Parts.{is_emptied, wait_up, way_down, way_up}
 use Rattle.joint_phases.proofs.CentralQueue.{no_rejections, nothing_waits}
@@ -26,17 +27,13 @@ use Rattle.joint_keys.specs.Opening.{CanOpen}
 use Rattle.joint_keys.proofs.Counting.{link_of_run}
 use Rattle.joint_keys.proofs.EndGoing.{in_session}
 use Rattle.joint_keys.proofs.Made.{equal_is}
-use Rattle.joint_keys.proofs.NextPdus.{can_open_next, is_settled}
+use Rattle.joint_keys.proofs.NextPdus.{can_open_next, equal_by, is_settled, none_ahead}
 use Rattle.joint_keys.proofs.Opened.{HaveVector, opens_session, turned}
 use Rattle.joint_keys.proofs.Standing.{Standing, data_ahead}
 use Rattle.link_pairs.specs.Parting.{HasNothing}
 use Rattle.link_pairs.proofs.PhaseTests.{Tested, is_settled_way, tested}
 
 -- ---- tests
-
-not_true : (b : Bool) → not b ≡ true → b ≡ false
-not_true true is = absurd (cc)
-not_true false is = refl
 
 either : (a b : Bool) → (a || b) ≡ true → (a ≡ true) ⊎ (b ≡ true)
 either true b is = inl refl
@@ -65,19 +62,6 @@ none_untaken PhaseWay.Clear is = refl
 none_untaken (PhaseWay.Taken pause_rsp) is = refl
 none_untaken (PhaseWay.Fixed pdu sealed) is = absurd (cc)
 none_untaken (PhaseWay.OnAir pdu sealed) is = absurd (cc)
-
-none_ahead : (w : Way) → is_settled w ≡ true → data_ahead w ≡ 0
-none_ahead Clear is = refl
-none_ahead (Taken item) is = refl
-none_ahead (Fixed item sealed) is = absurd (cc)
-none_ahead (OnAir item sealed) is = absurd (cc)
-
--- the counters of a direction are equal
-equal_by : (x y u : Bool) (w : PhaseWay) (m n : ℕ) → is_sealed_untaken w ≡ u → u ≡ false → x ≡ true → y ≡ true → Holds (relation_of x y w) m n → m ≡ n
-equal_by true true true w m n at none a b h = absurd (cc)
-equal_by true true false w m n at none a b h = subst (λ (u : Bool). Holds (if u then OneAhead else Equal) m n) at h
-equal_by true false u w m n at none a b h = absurd (cc)
-equal_by false y u w m n at none a b h = absurd (cc)
 
 none_more : (m n : ℕ) → n ≡ 0 → m + n ≡ m
 none_more m n is = omega (arith, is)

@@ -13,6 +13,9 @@ use Rattle.joint_keys.specs.Opening.{CanOpen}
 use Rattle.joint_keys.proofs.Keyless.{keyless_stays}
 use Rattle.link_model.specs.keyed_control.Keyed.{Keyed}
 use Rattle.link_model.specs.keyed_control.KeyedSteps.{keyed_after}
+use Rattle.link_model.proofs.BodyPayloads.{anew_same as fixed_payload, given_same as given_payload}
+use Rattle.link_model.proofs.Ending.{key_stays}
+use Rattle.link_model.proofs.Fixing.{given_control as given_fixed}
 use Rattle.link_model.proofs.phased_end.keyed_control.Phases.{phased_once}
 use Rattle.link_model.specs.declared.events.ConnectionEvent.{ConnectionEvent}
 use Rattle.link_model.specs.declared.state.KnownLengths.{KnownLengths}
@@ -37,8 +40,7 @@ use Rattle.link_pairs.specs.Hosts.{MayHost}
 use Rattle.link_pairs.specs.Parting.{ArePartingFrom, HasFittingPdu, HasNothing, HasSentTerminate, HasTakenTerminate, IsOpenedBy, LacksKey, SendsNoControl}
 use Rattle.link_pairs.specs.Turns.{entered_if, entered_in, prepared}
 use Rattle.link_pairs.specs.Ways.{IsUnseen}
-use Rattle.link_pairs.proofs.Fixing.{anew_piece, fixed_payload, piece_no_control}
-use Rattle.link_pairs.proofs.Hosting.{given_fixed, given_payload}
+use Rattle.link_pairs.proofs.Fixing.{anew_piece, piece_no_control}
 use Rattle.link_pairs.proofs.LastControl.{no_control_left}
 use Rattle.link_pairs.proofs.PhasedEnds.{entered_phased}
 use Rattle.link_pairs.proofs.ShutEnds.{enters_shut, key_shut}
@@ -254,13 +256,9 @@ asked_hosted false ask facts =
     control_hosted facts (Asks ask) (lengths_seen facts.control.table.lengths (after (Asks ask) facts.control).table.lengths facts.lengths)
     facts.leaving.disconnected (asks_nothing ask facts.control)
 
-left_by_peer : (leaves : Bool) (slot : ℕ) (leaving : Leaving) → (leaving_from_if leaves slot leaving).ended_by_peer ≡ leaving.ended_by_peer
+pub left_by_peer : (leaves : Bool) (slot : ℕ) (leaving : Leaving) → (leaving_from_if leaves slot leaving).ended_by_peer ≡ leaving.ended_by_peer
 left_by_peer true slot leaving = refl
 left_by_peer false slot leaving = refl
-
-left_stays : (leaves : Bool) (slot : ℕ) (leaving : Leaving) → (leaving_from_if leaves slot leaving).acknowledged ≡ leaving.acknowledged
-left_stays true slot leaving = refl
-left_stays false slot leaving = refl
 
 left_answered : (leaves : Bool) (slot : ℕ) (leaving : Leaving) → (leaving_from_if leaves slot leaving).answered ≡ leaving.answered
 left_answered true slot leaving = refl
@@ -292,7 +290,7 @@ hosted setup facts (KeyAnswered key slot) m =
       fixed = refl;
       payload = refl;
       by_peer = left_by_peer (ends_without_key key facts) slot facts.leaving;
-      stays = left_stays (ends_without_key key facts) slot facts.leaving;
+      stays = key_stays (ends_without_key key facts) slot facts.leaving;
       answered = left_answered (ends_without_key key facts) slot facts.leaving;
     }
 hosted setup facts (Disconnected reason slot) m =

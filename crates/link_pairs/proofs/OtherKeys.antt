@@ -1,6 +1,6 @@
 -- While a link lasts at both ends, a packet of one is read by the other as another than was sent only where it is mixed: it brings
 -- a new PDU that is not empty and sealed, it is good, and the session keys of both ends differ.
-use Rattle.std.proofs.Common.{◌≡◌, ℕ, ◌&&◌, not, Bool, true, false, List, Option, Some, None, is_some, refl, sym, ap, ◌∙◌}
+use Rattle.std.proofs.Common.{◌≡◌, ℕ, ◌&&◌, Bool, true, false, List, Option, Some, None, is_some, refl, sym, ap, ◌∙◌}
 use Rattle.std.specs.Str.{bytes_eq}
 use Rattle.std.proofs.lemmas.Slice.Eq.{bytes_eq-Decides}
 use Rattle.ble_base.specs.declared.roles.Role.{Role}
@@ -19,6 +19,7 @@ use Rattle.link_model.specs.Packets.{counts_here, good_pdu, whole_pdu}
 use Rattle.link_model.specs.Payload.{opens_now}
 use Rattle.link_model.specs.Setup.{Setup}
 use Rattle.link_model.proofs.Hearing.{IsHeardWhole}
+use Rattle.ack_bit.proofs.Directions.{not-false}
 use Rattle.link_pairs.specs.Ends.{AreEnds, is_lasting}
 use Rattle.link_pairs.specs.Hearing.{HaveOneKey, IsPacketOf, brings_sealed, has_other_keys, is_mixed, is_mixed_packet, reads_other}
 use Rattle.link_pairs.specs.Shown.{AreLinked, HasKeys, HaveKeys, Shows, keys_of}
@@ -38,10 +39,6 @@ pub mixed_packet_as : (to : Setup) (listener sender : Facts) (octets : List ℕ)
     ≡ (is_some (good_pdu to listener octets) && (brings_sealed listener (whole_pdu to listener octets) && has_other_keys sender listener))
 unfolding is_mixed_packet
 mixed_packet_as to listener sender octets = refl
-
-not_other : (b : Bool) → not b ≡ false → b ≡ true
-not_other true is = refl
-not_other false is = absurd (cc)
 
 module _ (heard : IsHeardWhole) (opened : IsOpenedThere) (from to : Setup) (slot : ℕ) (facts listener : Facts) (channel : ℕ) (octets : List ℕ) (made own : EncEnd)
     (fields : from.link.fields ≡ to.link.fields) (is : IsPacketOf from slot facts channel octets) (same : channel ≡ listener.event.channel)
@@ -73,7 +70,7 @@ module _ (heard : IsHeardWhole) (opened : IsOpenedThere) (from to : Setup) (slot
       -- so where it is good both have one key
       one_key : is_some (good_pdu to listener octets) ≡ true → bytes_eq facts.encryption.end.key listener.encryption.end.key ≡ true
       one_key good =
-          not_other (bytes_eq facts.encryption.end.key listener.encryption.end.key)
+          not-false (bytes_eq facts.encryption.end.key listener.encryption.end.key)
           (sym (mixed_packet_as to listener facts octets ∙ λ i. good i && (brings i && has_other_keys facts listener)) ∙ unmixed)
 
       sealed_pure : (o : Option (List ℕ)) → good_pdu to listener octets ≡ o → IsPure

@@ -12,6 +12,7 @@ use Rattle.link_model.specs.Packets.{is_forged}
 use Rattle.link_model.specs.Receiving.{ended_by_forgery, replies_of}
 use Rattle.link_model.specs.Step.{PacketReceived, PacketSent}
 use Rattle.link_model.proofs.Hearing.{IsHeardWhole}
+use Rattle.link_model.proofs.KeyedPasts.{forged_over as forged_lasts_not}
 use Rattle.link_pairs.specs.Ends.{AreEnds, heard_turns, is_lasting}
 use Rattle.link_pairs.specs.Hearing.{IsPacketOf, is_mixed, received}
 use Rattle.link_pairs.specs.Hearing as hearing
@@ -24,7 +25,7 @@ use Rattle.link_pairs.proofs.HasSent.{sent_packet}
 use Rattle.link_pairs.proofs.LastFits.{fits_down}
 use Rattle.link_pairs.proofs.Reaching.{IsReached, IsShown, keys_at, linked, linked_stopped, not_both, reached_by, shut_on}
 use Rattle.link_pairs.proofs.Reading.{IsRead, read_or_forged}
-use Rattle.link_pairs.proofs.Shutting.{forged_lasts_not, shut_joint}
+use Rattle.link_pairs.proofs.Shutting.{shut_joint}
 use Rattle.link_pairs.proofs.PeripheralHears.{Meets, TakesAt, hears_shown, reaches, received_now, takes_at}
 
 module _ (heard : IsHeardWhole) (central peripheral : Setup) (slot : ℕ) (c p : Facts) (channel : ℕ) (octets : List ℕ) (room : Bool)

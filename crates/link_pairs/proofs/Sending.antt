@@ -33,6 +33,7 @@ use Rattle.link_model.specs.Setup.{Setup}
 use Rattle.link_model.specs.Controls.{is_quiet_now, next_control, pdu_fixed, pdu_of_control}
 use Rattle.link_model.specs.Facts.{Facts}
 use Rattle.link_model.specs.Sending.{control_gone, control_gone_if, facts_sent, fixed_sent}
+use Rattle.link_model.proofs.Acknowledging.{gone_leaves}
 use Rattle.link_pairs.specs.Ends.{AreEnds, IsAtRest, phased_of}
 use Rattle.link_pairs.specs.Shown.{HasKeys, HaveKeys, Shows}
 use Rattle.link_pairs.specs.Turns.{HasFixed}
@@ -67,15 +68,11 @@ sends_new (Some indication) t = record { turns = refl; replies = refl; central_h
 
 -- ---- the facts of the central, by whether its last PDU is acknowledged
 
-gone_sends : (goes : Bool) (slot : ℕ) (facts : Facts) → (control_gone_if goes slot facts).acknowledgement ≡ facts.acknowledgement
-gone_sends true slot facts = refl
-gone_sends false slot facts = refl
-
 sent_is : (acked fixes : Bool) (slot : ℕ) (facts : Facts) → is_acked facts.acknowledgement ≡ acked → facts.fixes_control ≡ fixes
     → facts_sent slot facts ≡ sent_as acked slot (control_gone_if (acked && fixes) slot facts)
 sent_is acked fixes slot facts all control =
     (λ i. fixed_sent slot (control_gone_if (all i && control i) slot facts))
-    ∙ sent_is_as acked slot (control_gone_if (acked && fixes) slot facts) (ap is_acked (gone_sends (acked && fixes) slot facts) ∙ all)
+    ∙ sent_is_as acked slot (control_gone_if (acked && fixes) slot facts) (ap is_acked (gone_leaves (acked && fixes) slot facts) ∙ all)
 
 -- ---- one end
 

@@ -1,5 +1,5 @@
 -- A forged packet ends the link at an end.
-use Rattle.std.proofs.Common.{◌≡◌, Bool, true, false, Option, Some, None, is_none, refl, ap, if◌then◌else◌}
+use Rattle.std.proofs.Common.{◌≡◌, Bool, true, Option, Some, None, is_none, refl, ap, if◌then◌else◌}
 use Rattle.ble_base.specs.ErrorCodes.{mic_failure}
 use Rattle.ble_base.specs.declared.error_codes.ErrCode.{ErrCode}
 use Rattle.control_octets.specs.control_model.Control.{Control, ended}
@@ -12,13 +12,6 @@ use Rattle.link_model.specs.Receiving.{ended_by_forgery}
 -- the end is shut in the run
 pub shut_joint : (l : Link) → is_running l.joint ≡ true → (joint_after Shuts l.joint).stopped ≡ true
 shut_joint l running = ap (λ (b : Bool). (if b then act Shuts l.joint else l.joint).stopped) (may_now Shuts l.joint running refl)
-
-pub forged_lasts_not : (c : Control) → is_none (ended_by_forgery c).ends ≡ false
-forged_lasts_not c = by (is_none c.ends) refl
-  where
-    by : (b : Bool) → is_none c.ends ≡ b → is_none (if b then ended (record { 0 = mic_failure }) c else c).ends ≡ false
-    by true is = refl
-    by false is = is
 
 -- with this code
 pub forged_code : (c : Control) → c.ends ≡ None → (ended_by_forgery c).ends ≡ Some (record { 0 = mic_failure })

@@ -13,15 +13,12 @@ use Rattle.link_pairs.specs.Parting.{ArePartingFrom, HearsNothingNew}
 use Rattle.link_pairs.specs.Ways.{IsUnseen}
 use Rattle.link_pairs.proofs.Counts.{Says, acknowledged_by, is_fresh, says_right, unseen_is_taken}
 use Rattle.link_pairs.proofs.HearingNothingNew.{heard_control, heard_still, none_noted, sent_if_still}
+use Rattle.link_pairs.proofs.LastCiphers.{false_by}
 use Rattle.link_pairs.proofs.NothingNew.{HasNothingNew, taker_still}
 use Rattle.link_pairs.proofs.PacketsRead.{AreRead, fits_listener, read_again}
 use Rattle.link_pairs.proofs.Replying.{good_not_forged, replies_as}
 
 -- ---- what the packet says
-
-never_true : (b : Bool) → (b ≡ true → ⊥) → b ≡ false
-never_true true is = absurd (is refl)
-never_true false is = refl
 
 none_unseen : (to from : Acknowledgement) → to.acked ≡ length from.accepted → IsUnseen to from → ⊥
 none_unseen to from seen is = let taken = is.taken in let unseen = is.unseen in omega (arith, seen, taken, unseen)
@@ -46,10 +43,10 @@ module _ (whole : IsHeardWhole) (taker sender : Setup) (fields : sender.link.fie
   says = says_right t.acknowledgement s.acknowledgement parting.agreement read.header read.bits read.out
 
   acks_none : acks ≡ false
-  acks_none = never_true acks (λ is. none_unseen t.acknowledgement s.acknowledgement parting.seen (says.unseen is))
+  acks_none = false_by acks (λ is. none_unseen t.acknowledgement s.acknowledgement parting.seen (says.unseen is))
 
   none_fresh : fresh ≡ false
-  none_fresh = never_true fresh (λ is. unseen_is_taken s.acknowledgement t.acknowledgement parting.unseen (says.untaken is))
+  none_fresh = false_by fresh (λ is. unseen_is_taken s.acknowledgement t.acknowledgement parting.unseen (says.untaken is))
 
   out : taker.link.role ≡ Peripheral → is_acked t.acknowledgement ≡ false
   out is = (parting.answers is).out

@@ -100,7 +100,7 @@ module _ (other : Setup) (slot : ℕ) (facts : Facts) (made : EncEnd) (fits : Ha
 
 -- ---- an end that has no control PDU left, in another phase than Clear and Secure, fixes an empty PDU
 
-same_if : {A : Type 0} (b : Bool) (x : A) → (if b then x else x) ≡ x
+pub same_if : {A : Type 0} (b : Bool) (x : A) → (if b then x else x) ≡ x
 same_if true x = refl
 same_if false x = refl
 

@@ -33,10 +33,11 @@ use Rattle.link_model.specs.enc_phase.Phases.{is_quiet, seals}
 use Rattle.link_model.specs.enc_phase.Sealing.{EncEnd}
 use Rattle.link_model.specs.Receiving.{accepted_if, acknowledged_if, answers_with_control, counts_accepted, data_taken_if, facts_hearing, heard_in_slot, procedures_take, procedures_take_if}
 use Rattle.link_model.specs.Sending.{control_gone_if}
+use Rattle.link_model.proofs.Fixing.{acked_control as acked_fixed}
 use Rattle.link_pairs.specs.Ends.{phased_of}
 use Rattle.link_pairs.specs.Parting.{HasFittingPdu, HasNothing, HasSentTerminate, IsOpenedOut, LacksKey, SendsNoControl}
 use Rattle.link_pairs.specs.Ways.{IsControlPdu, IsUnseen, IsUntaken, ShowsWay}
-use Rattle.link_pairs.proofs.Answering.{acked_fixed, gone_same}
+use Rattle.link_pairs.proofs.Answering.{gone_same}
 use Rattle.link_pairs.proofs.Counts.{HasBitsOf, Says, acknowledged_by, is_fresh, says_right, unseen_is_taken}
 use Rattle.link_pairs.proofs.FixingNext.{fixed_by}
 use Rattle.link_pairs.proofs.HeardCounts.{before, before_by_peer, before_nothing, before_payload, before_stays, heard_ack, hearing_agreed, takes, takes_fresh}
@@ -89,7 +90,7 @@ terminate_short ctrl pdu item is = absurd (cc)
 
 -- ---- the end that takes it
 
-data_leaves : (takes : Bool) (facts : Facts) → (data_taken_if takes facts).leaving ≡ facts.leaving
+pub data_leaves : (takes : Bool) (facts : Facts) → (data_taken_if takes facts).leaving ≡ facts.leaving
 data_leaves true facts = refl
 data_leaves false facts = refl
 

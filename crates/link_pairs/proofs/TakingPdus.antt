@@ -1,7 +1,6 @@
 -- A peripheral that hears a packet takes its PDU, or does not: in the joint run, and in what it holds.
-use Rattle.std.proofs.Common.{◌≡◌, ℕ, ◌&&◌, Bool, true, false, Option, Some, None, is_none, refl, ap, sym, subst, ◌∙◌}
+use Rattle.std.proofs.Common.{◌≡◌, ℕ, ◌&&◌, Bool, true, false, None, is_none, refl, ap, sym, subst, ◌∙◌}
 use Rattle.std.proofs.lemmas.Bool.{and_from}
-use Rattle.ble_base.specs.declared.error_codes.ErrCode.{ErrCode}
 use Rattle.data_pdu.specs.Layouts.{IsCtrl}
 use Rattle.data_pdu.specs.declared.ctrl.Ctrl.{Ctrl}
 use Rattle.data_pdu.specs.declared.ctrl.CtrlRead.{CtrlRead}
@@ -14,10 +13,10 @@ use Rattle.joint_laws.specs.joint_parameters.Turns.{step_if}
 use Rattle.link_model.specs.phased_end.Taking.{drawn}
 use Rattle.link_model.specs.Acknowledgement.{Acknowledgement, Pdu, with_accepted}
 use Rattle.link_model.specs.Data.{is_data}
-use Rattle.link_model.specs.declared.state.Leaving.{Leaving}
 use Rattle.link_model.specs.Facts.{Facts}
 use Rattle.link_model.specs.Controls.{is_procedure_pdu}
-use Rattle.link_model.specs.Receiving.{accepted_if, code_of, data_taken_if, leaving_by, procedures_give, procedures_take_if, taken_if}
+use Rattle.link_model.specs.Receiving.{accepted_if, code_of, data_taken_if, procedures_give, procedures_take_if, taken_if}
+use Rattle.link_model.proofs.Ending.{by_peer}
 use Rattle.link_pairs.specs.Ends.{phased_of}
 use Rattle.link_pairs.specs.Ways.{IsControlPdu, IsItem, ShowsWay}
 use Rattle.link_pairs.proofs.Items.{control_is_no_data, control_is_procedure, data_is_no_procedure, never}
@@ -28,10 +27,6 @@ use Rattle.link_pairs.proofs.TerminatesNoted.{terminates_nothing}
 use Rattle.link_pairs.proofs.Ways.{Arrival, ItemTaken, NothingTaken}
 
 -- ---- what an end holds after it took a PDU, or did not
-
-left_by : (code : Option ErrCode) (leaving : Leaving) → (leaving_by code leaving).acknowledged ≡ leaving.acknowledged
-left_by None leaving = refl
-left_by (Some code) leaving = refl
 
 -- all but its procedures, its encryption, and what it knows of the peer, of lengths and of the end, stays
 pub record IsTakenBy (facts now : Facts) : Type 0 where
@@ -52,7 +47,7 @@ taken_same true true pdu slot facts =
       outgoing = refl;
       fixes_control = refl;
       last_good = refl;
-      acknowledged = left_by (code_of (procedures_give pdu slot facts).effect) facts.leaving;
+      acknowledged = by_peer (code_of (procedures_give pdu slot facts).effect) facts.leaving;
       response = refl;
     }
 taken_same true false pdu slot facts =
@@ -62,7 +57,7 @@ taken_same true false pdu slot facts =
       outgoing = refl;
       fixes_control = refl;
       last_good = refl;
-      acknowledged = left_by (code_of (procedures_give pdu slot facts).effect) facts.leaving;
+      acknowledged = by_peer (code_of (procedures_give pdu slot facts).effect) facts.leaving;
       response = refl;
     }
 taken_same false true pdu slot facts =

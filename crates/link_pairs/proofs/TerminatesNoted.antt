@@ -14,7 +14,7 @@ use Rattle.control_octets.specs.procedures.Termination.{terminate_taken}
 use Rattle.control_octets.specs.control_model.Control.{Takes as control_takes}
 use Rattle.joint_laws.specs.joint_controls.Joint.{is_terminate}
 use Rattle.joint_laws.specs.joint_controls.phased_control.enc_phase.Phases.{is_quiet}
-use Rattle.joint_laws.specs.joint_controls.phased_control.enc_phase.Taking.{allows, is_unknown}
+use Rattle.joint_laws.specs.joint_controls.phased_control.enc_phase.Taking.{is_unknown}
 use Rattle.joint_laws.specs.joint_controls.phased_control.enc_phase.declared.classes.PduClass.TheVariants.{Terminate}
 use Rattle.joint_laws.specs.joint_controls.phased_control.enc_phase.declared.facts.PhaseFacts.{PhaseFacts}
 use Rattle.joint_laws.specs.joint_controls.phased_control.enc_phase.declared.facts.PhaseFacts.TheVariants.{Asked, Clear, HalfClear, HalfKeyed, Pausing, Secure}
@@ -24,6 +24,7 @@ use Rattle.joint_laws.proofs.joint_controls.phased_control.Moving.{same_after}
 use Rattle.link_model.specs.control_end.Answers.{goes_on, nothing_taken, step_shown, taken_of}
 use Rattle.link_model.specs.control_end.Held.{Held, held_of}
 use Rattle.link_model.specs.control_end.declared.answers.Taken.{Taken}
+use Rattle.link_model.proofs.Views.{allows_end}
 use Rattle.link_model.proofs.control_end.Depending.{step_held}
 use Rattle.link_model.specs.phased_end.Held.{HeldKeyed, held_of as keyed_held}
 use Rattle.link_model.specs.phased_end.Taking.{drawn, handed_keyed, is_handed, nothing_keyed, taken_keyed}
@@ -39,14 +40,6 @@ use Rattle.link_pairs.proofs.TakingTerminate.{has_taken}
 use Rattle.link_pairs.proofs.TerminatingPdus.{took_ends}
 
 -- ---- no phase forbids, keeps or answers it
-
-pub is_allowed_always : (phase : PhaseFacts) (role : Role) → allows phase role Terminate ≡ true
-is_allowed_always Clear role = refl
-is_allowed_always Secure role = refl
-is_allowed_always (Asked after_pause enc_rsp kept) role = refl
-is_allowed_always HalfKeyed role = refl
-is_allowed_always (Pausing kept) role = refl
-is_allowed_always (HalfClear kept) role = refl
 
 pub is_known : (phase : PhaseFacts) (role : Role) → is_unknown phase role Terminate ≡ false
 is_known Clear Central = refl
@@ -87,13 +80,10 @@ module _ (code slot : ℕ) (pdu : Pdu) (facts : Facts) (read : read_of pdu ≡ K
 
   handed : is_handed (Known (TerminateInd code)) h ≡ true
   handed =
-      (λ i. is_none (lasts i) && (is_allowed_always facts.encryption.end.phase facts.encryption.end.role i && (true
+      (λ i. is_none (lasts i) && (allows_end facts.encryption.end.phase facts.encryption.end.role i && (true
       && not (is_open facts.control.table.closing && (nat_le 16 (waiting_in facts.control.table.queue)
       && none_answers code facts.encryption.end.role facts.encryption.end.phase i)))))
       ∙ ap not (never_both (is_open facts.control.table.closing) (nat_le 16 (waiting_in facts.control.table.queue)))
-
-  shows : (ends : Bool) → Taken
-  shows ends = if ends then step_shown (took_step facts.control.table (Known (TerminateInd code)) slot quiet).1 else nothing_taken
 
   gives : procedures_give pdu slot facts ≡ step_shown (terminate_taken facts.control.table code).step
   gives =

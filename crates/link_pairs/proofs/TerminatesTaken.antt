@@ -19,8 +19,9 @@ use Rattle.joint_keys.specs.KeyedJoint.{Keys}
 use Rattle.joint_keys.proofs.Terminating.{terminate_keeps}
 use Rattle.link_model.specs.keyed_control.Keyed.{Keyed}
 use Rattle.link_model.specs.keyed_control.KeyedSteps.{Takes as keyed_takes, keyed_after}
+use Rattle.link_model.proofs.Views.{allows_end as is_allowed_always}
 use Rattle.link_pairs.proofs.TakingTerminate.{HasTaken, has_taken}
-use Rattle.link_pairs.proofs.TerminatesNoted.{is_allowed_always, is_known, never_both, none_answers}
+use Rattle.link_pairs.proofs.TerminatesNoted.{is_known, never_both, none_answers}
 
 -- ---- its control part and its phase
 

@@ -8,6 +8,7 @@ use Rattle.ble_base.specs.declared.verdicts.Verdict.TheVariants.{Forged, Good}
 use Rattle.data_pdu.specs.declared.header.DataHeader.{DataHeader}
 use Rattle.joint_laws.specs.joint_controls.Joint.{Clear, Fixed, Item, OnAir, Taken, Way, is_running}
 use Rattle.joint_laws.specs.joint_parameters.Turns.{Link}
+use Rattle.joint_laws.proofs.Common.{not_true}
 use Rattle.joint_keys.specs.KeyedJoint.{KeyedJoint}
 use Rattle.joint_keys.specs.Opening as joint
 use Rattle.link_model.specs.enc_phase.Sealing.{AreMatched, EncEnd, sent_payload}
@@ -45,10 +46,6 @@ IsOpenedThere =
 or_first : (one other : Bool) → other ≡ false → (one || other) ≡ true → one ≡ true
 or_first true other none is = refl
 or_first false other none is = absurd (cc)
-
-not_false : (b : Bool) → not b ≡ true → b ≡ false
-not_false true is = absurd (cc)
-not_false false is = refl
 
 -- a PDU is on the air
 pub record IsOnAir (way : Way) : Type 0 where
@@ -105,7 +102,7 @@ module _ (heard : IsHeardWhole) (opened : IsOpenedThere) (from to : Setup) (slot
       let empty_too : is_empty (record { llid = pdu.llid; body = payload }) ≡ true =
       ap (λ (body : List ℕ). is_empty (record { llid = pdu.llid; body = body })) payload_same ∙ none in
       let some = (and_parts fresh (not (is_empty (record { llid = pdu.llid; body = payload }))) (both is_counted)).1 in
-      not_both (is_empty (record { llid = pdu.llid; body = payload })) (not_false (is_empty (record { llid = pdu.llid; body = payload })) some) empty_too
+      not_both (is_empty (record { llid = pdu.llid; body = payload })) (not_true (is_empty (record { llid = pdu.llid; body = payload })) some) empty_too
 
   -- what counts is on the air
   pub on_the_air : (way : Way) → ShowsWay way facts.acknowledgement listener.acknowledgement → counts ≡ true → IsOnAir way

@@ -1,7 +1,6 @@
 -- A packet of one end whose last PDU fits the other end is whole there: it is read, or it is forged.
-use Rattle.std.proofs.Common.{◌≡◌, ◌⊎◌, inl, inr, ℕ, suc, ◌+◌, ◌<◌, ◌≤◌, ◌==◌, ◌&&◌, ◌||◌, not, nat_le, Bool, true, false, List, length, Some, is_none, refl, sym, ap, ◌∙◌, subst, arith, if◌then◌else◌}
+use Rattle.std.proofs.Common.{◌≡◌, ◌⊎◌, inl, inr, ℕ, suc, ◌+◌, ◌<◌, ◌≤◌, ◌==◌, ◌&&◌, ◌||◌, not, Bool, true, false, List, length, Some, is_none, refl, sym, ap, ◌∙◌, subst, arith, if◌then◌else◌}
 use Rattle.std.proofs.lemmas.Bool.{eqb-true, le-leb}
-use Rattle.std.proofs.lemmas.Bool.Decides.{nat_tests}
 use Rattle.ble_base.specs.declared.verdicts.Verdict.TheVariants.{Broken, Forged, Good}
 use Rattle.air_frame.specs.declared.Heard.TheVariants.{Whole}
 use Rattle.air_frame.specs.Hearing.{heard_in}
@@ -19,7 +18,7 @@ use Rattle.link_model.specs.Packets.{FitsReceiver, heard_of, is_forged, is_forge
 use Rattle.link_model.specs.Payload.{opens_now, payload_made}
 use Rattle.link_model.specs.Verdicts.{code_octets, has_room_for, pdu_by, pdu_of, verdict_by, whole_in}
 use Rattle.link_model.proofs.Hearing.{IsHeardWhole}
-use Rattle.link_model.proofs.Received.{air_read}
+use Rattle.link_model.proofs.Received.{air_read, in_form}
 use Rattle.link_pairs.specs.Hearing.{IsPacketOf}
 use Rattle.link_pairs.proofs.HasSent.{HasSent, sent_packet}
 
@@ -72,9 +71,6 @@ module _ (made : EncEnd) (pdu : Pdu) where
       by (inr room) = omega (arith, longer, room)
 
 -- ---- the octets are the packet of the sender, on the channel of the listener
-
-in_form : (count : ℕ) → count ≤ 255 → (nat_le 2 (suc (suc count)) && nat_le (suc (suc count)) 257 && (suc (suc count) == 2 + count)) ≡ true
-in_form count short = grind (arith, nat_tests)
 
 -- a payload that fits as that of its PDU fits as it is
 abbrev code_if : Bool → Bool → ℕ

@@ -45,10 +45,6 @@ both notes more before between later one other kind =
 
 -- ---- one note
 
-stops : (same : Bool) → (same && not same) ≡ false
-stops true = refl
-stops false = refl
-
 stops_by : (a b : Bool) → a ≡ b → (a && not b) ≡ false
 stops_by true true is = refl
 stops_by false b is = refl

@@ -35,7 +35,7 @@ same_kind (Some Map) Map is = refl
 same_kind (Some Phy) Phy is = refl
 same_kind own kind is = absurd (cc)
 
-is_itself : (kind : Exclusive) → is_exclusive_kind (Some kind) kind ≡ true
+pub is_itself : (kind : Exclusive) → is_exclusive_kind (Some kind) kind ≡ true
 is_itself Update = refl
 is_itself Request = refl
 is_itself Map = refl

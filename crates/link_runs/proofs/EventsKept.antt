@@ -134,7 +134,7 @@ no_reply_by : (role : Role) (pdu : Option (List ℕ)) → replies_by role true p
 no_reply_by Central pdu = refl
 no_reply_by Peripheral pdu = never (is_some pdu)
 
-none_replies : (role : Role) (ended : Bool) → replies_by role ended None ≡ false
+pub none_replies : (role : Role) (ended : Bool) → replies_by role ended None ≡ false
 none_replies Central ended = refl
 none_replies Peripheral ended = refl
 

@@ -19,7 +19,7 @@ empty_known (suc n) (held ∷ helds) long none = (
   empty_known n helds (omega (arith, long)) (λ i e below. none (suc i) e (omega (arith, below))),
 )
 
-none_at : (first handle n : ℕ) → link_from first handle (replicate n None) ≡ None
+pub none_at : (first handle n : ℕ) → link_from first handle (replicate n None) ≡ None
 none_at first handle zero = refl
 none_at first handle (suc n) = by_test (first == handle) (none_at (first + 1) handle n)
   where

@@ -106,10 +106,6 @@ enters_on_time slot link sound on_time = by_test (goes_on (facts_in link)) (is_a
 
 -- ---- what else it does in a slot
 
-step_enters_none : (slot : ℕ) (exchange : Exchange) → enters (step_of slot exchange) ≡ false
-step_enters_none slot (Given start body) = refl
-step_enters_none slot other = refl
-
 place_after : (step : Step) (link : OpenLink) → enters step ≡ false
     → IsInPlace (facts_in link).control.track (facts_in (link_after step link)).control.track
 place_after step link none =
@@ -125,7 +121,7 @@ asked_track : (comes : Bool) (ask : Ask) (facts : Facts) → (asked_unless comes
 asked_track true ask facts = refl
 asked_track false ask facts = table_alone facts.control (Asks ask) refl
 
-fixed_track : (stays : Bool) (facts : Facts) → (if stays then facts else fixed_anew facts).control.track ≡ facts.control.track
+pub fixed_track : (stays : Bool) (facts : Facts) → (if stays then facts else fixed_anew facts).control.track ≡ facts.control.track
 fixed_track true facts = refl
 fixed_track false facts = refl
 
@@ -211,9 +207,6 @@ through_on_time slot slots link fields asks may on_time =
     through_by slot slots link may (record { sound = record { fields = fields; asks = asks }; on_time = on_time })
 
 -- ---- a link that entered an event
-
-positive : (n : ℕ) → nat_lt 0 n ≡ true → 0 < n
-positive n is = grind (arith, is)
 
 some_entered : (n : ℕ) → 0 < n → nat_lt 0 n ≡ true
 some_entered n is = grind (arith, is)

@@ -181,7 +181,7 @@ pub past_received : (was_open : Bool) (place : Option OpenLink) (handle : ℕ) (
 past_received was_open None handle received is = rw is refl
 past_received was_open (Some link) handle received is = rw is refl
 
-without_handles : (first : ℕ) (links : Links) → HaveHandles first (without_links links)
+pub without_handles : (first : ℕ) (links : Links) → HaveHandles first (without_links links)
 without_handles first [] = tt
 without_handles first (place ∷ links) = (tt, without_handles (first + 1) links)
 
@@ -261,7 +261,7 @@ give_known Kept handle start body held new links before after some opened known 
     (given_places handle start body held.places links known.places))
     (subst (BankGoes (link_after (DataGiven start body)) (link_at handle links) held.bank) (sym bank) goes) received
 
-reported_setup : (test : Bool) (link : OpenLink) → (if test then link_after DataReported link else link).setup ≡ link.setup
+pub reported_setup : (test : Bool) (link : OpenLink) → (if test then link_after DataReported link else link).setup ≡ link.setup
 reported_setup true link = refl
 reported_setup false link = refl
 

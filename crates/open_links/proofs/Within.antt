@@ -57,7 +57,7 @@ kept slot count step link good complete within =
     (subst (λ (last : Option Reception). IfSome last (λ good. good.slot < slot)) (sym good) within.heard)
     (omega (arith, within.complete, complete))
 
-given_complete : (handle : ℕ) (start : Bool) (body : List ℕ) (outgoing : Data) → (data_given handle start body outgoing).complete ≡ outgoing.complete
+pub given_complete : (handle : ℕ) (start : Bool) (body : List ℕ) (outgoing : Data) → (data_given handle start body outgoing).complete ≡ outgoing.complete
 given_complete handle start [] outgoing = refl
 given_complete handle start (octet ∷ octets) outgoing = refl
 
@@ -95,7 +95,7 @@ gone_complete : (goes : Bool) (slot : ℕ) (facts : Facts) → (control_gone_if 
 gone_complete true slot facts = refl
 gone_complete false slot facts = refl
 
-sent_complete : (payload : List ℕ) (is_new : Bool) (outgoing : Data) → (data_sent_as payload is_new outgoing).complete ≡ outgoing.complete
+pub sent_complete : (payload : List ℕ) (is_new : Bool) (outgoing : Data) → (data_sent_as payload is_new outgoing).complete ≡ outgoing.complete
 sent_complete payload true outgoing = refl
 sent_complete payload false outgoing = refl
 

@@ -26,4 +26,6 @@ pub use crate::laws::{
 };
 pub use crate::links::OpenLinks;
 pub use crate::offers::{Completed, Offer};
-pub use link_end::{Entry, LinkEnd, LinkSetup, LinkStep, PeerFacts, PeerVersion};
+pub use link_end::{
+    Entry, LinkEnd, LinkSetup, LinkStep, PeerFacts, PeerVersion, a_sealed_packet_is_opened,
+};

@@ -14,10 +14,10 @@ use Rattle.enc_phase.specs.Taking.{allows, phase_taking}
 use Rattle.procedures.specs.procedure_stages.Opcodes.{enc_req_opcode}
 use Rattle.procedures.specs.procedure_stages.Queue.{waiting_in}
 use Rattle.procedures.specs.Beginning.{begin_step}
-use Rattle.control_end.specs.control_model.Control.{Step, Owes}
-use Rattle.control_end.specs.control_model.Control.{Answers as control_answers, Asks as control_asks, Disconnects as control_disconnects, Enters as control_enters, SeesAcknowledged as control_acknowledged, Sends as control_sends, Takes as control_takes}
-use Rattle.control_end.specs.Held.{Held, control_of}
-use Rattle.control_end.proofs.Depending.{step_held}
+use Rattle.control_part.specs.control_end.control_model.Control.{Step, Owes}
+use Rattle.control_part.specs.control_end.control_model.Control.{Answers as control_answers, Asks as control_asks, Disconnects as control_disconnects, Enters as control_enters, SeesAcknowledged as control_acknowledged, Sends as control_sends, Takes as control_takes}
+use Rattle.control_part.specs.control_end.Held.{Held, control_of}
+use Rattle.control_part.proofs.control_end.Depending.{step_held}
 use Rattle.keyed_control.specs.declared.material.KeyMaterial.{KeyMaterial}
 use Rattle.keyed_control.specs.Keyed.{Keyed}
 use Rattle.keyed_control.specs.KeyedSteps.{KeyedStep, Answers, Asks, Disconnects, Enters, GivesKey, LacksKey, Opens, Seals, SeesAcknowledged, Sends, Takes, TakesData, end_changed, is_of_session, keyed_after, keyed_moved, material_entered, with_key, with_read}

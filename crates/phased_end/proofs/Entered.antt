@@ -14,7 +14,7 @@ use Rattle.procedures.specs.Beginning.{begin_step}
 use Rattle.procedures.specs.Going.{is_answer}
 use Rattle.procedures.specs.Table.{TableFacts}
 use Rattle.procedures.specs.Taking.{took_step}
-use Rattle.control_end.specs.control_model.Control.{Control, Step, Answers, Asks, Disconnects, Enters, Owes, SeesAcknowledged, Sends, Takes, after, following, goes_out, indicated_by, is_to_come, moved, table_if, taken, went}
+use Rattle.control_part.specs.control_end.control_model.Control.{Control, Step, Answers, Asks, Disconnects, Enters, Owes, SeesAcknowledged, Sends, Takes, after, following, goes_out, indicated_by, is_to_come, moved, table_if, taken, went}
 use Rattle.keyed_control.specs.KeyedSteps.{KeyedStep}
 use Rattle.keyed_control.specs.KeyedSteps.{Enters as keyed_enters}
 use Rattle.keyed_control.specs.phased_control.Phased.{Phased, ask_begun, is_encrypt, is_quiet_now, request_of, table_entered, with_step}

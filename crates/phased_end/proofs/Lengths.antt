@@ -45,9 +45,9 @@ use Rattle.procedures.specs.Request.{after_grant, against_central, collided, out
 use Rattle.procedures.specs.Table.{TableFacts}
 use Rattle.procedures.specs.Taking.{facts_with, lacks_room, no_room, outcome_of, taken_by_central, taken_by_either, taken_by_peripheral, taken_by_role, took_step}
 use Rattle.procedures.specs.Update.{follow}
-use Rattle.control_end.specs.control_model.Control.{Control, Step, Answers, Asks, Disconnects, Enters, Owes, SeesAcknowledged, Sends, Takes, after, following, goes_out, indicated_by, is_to_come, moved, table_if, taken, went}
-use Rattle.control_end.specs.Answers.{effect_shown, goes_on, nothing_taken, step_shown, taken_of}
-use Rattle.control_end.specs.Held.{Held, held_after}
+use Rattle.control_part.specs.control_end.control_model.Control.{Control, Step, Answers, Asks, Disconnects, Enters, Owes, SeesAcknowledged, Sends, Takes, after, following, goes_out, indicated_by, is_to_come, moved, table_if, taken, went}
+use Rattle.control_part.specs.control_end.Answers.{effect_shown, goes_on, nothing_taken, step_shown, taken_of}
+use Rattle.control_part.specs.control_end.Held.{Held, held_after}
 use Rattle.phased_end.specs.Lengths.{HasLengths, HasPayloadLengths}
 
 -- a step with what the host asks and what was read in their ranges

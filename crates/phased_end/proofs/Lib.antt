@@ -14,4 +14,4 @@ pub mod Taken
 pub mod Unknown
 -- what the crates above use of those below
 pub use Rattle.keyed_control.proofs as keyed_control
-pub use Rattle.control_end.proofs as control_end
+pub use Rattle.control_part.proofs.control_end as control_end

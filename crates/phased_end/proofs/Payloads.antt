@@ -6,10 +6,10 @@ use Rattle.data_pdu.specs.Reading.{IfKnown}
 use Rattle.data_pdu.specs.declared.ctrl.Ctrl.{Ctrl}
 use Rattle.data_pdu.specs.declared.ctrl.CtrlRead.{CtrlRead}
 use Rattle.data_pdu.specs.declared.ctrl.CtrlRead.TheVariants.{Known}
-use Rattle.control_end.specs.declared.answers.Taken.{Taken}
-use Rattle.control_end.specs.control_model.Control.{Owes, Takes}
-use Rattle.control_end.specs.Answers.{nothing_taken}
-use Rattle.control_end.specs.Held.{Held, control_of, held_after as control_after}
+use Rattle.control_part.specs.control_end.declared.answers.Taken.{Taken}
+use Rattle.control_part.specs.control_end.control_model.Control.{Owes, Takes}
+use Rattle.control_part.specs.control_end.Answers.{nothing_taken}
+use Rattle.control_part.specs.control_end.Held.{Held, control_of, held_after as control_after}
 use Rattle.keyed_control.specs.declared.material.Response.{Response}
 use Rattle.phased_end.specs.Answers.{quiet_now}
 use Rattle.phased_end.specs.Held.{HeldKeyed}

@@ -11,9 +11,9 @@ use Rattle.procedures.specs.procedure_stages.Queue.{waiting_in}
 use Rattle.procedures.specs.procedure_values.declared.asks.Ask.{Ask}
 use Rattle.procedures.specs.procedure_values.Values.{IsPayloadMax}
 use Rattle.procedures.specs.procedure_values.Wants.{IsAsk}
-use Rattle.control_end.specs.Answers.{indication_next}
-use Rattle.control_end.specs.Following.{CanFollow}
-use Rattle.control_end.specs.Held.{held_of as control_held}
+use Rattle.control_part.specs.control_end.Answers.{indication_next}
+use Rattle.control_part.specs.control_end.Following.{CanFollow}
+use Rattle.control_part.specs.control_end.Held.{held_of as control_held}
 use Rattle.phased_rooms.proofs.Few.{few_now}
 use Rattle.phased_rooms.proofs.Following.{follows_now}
 use Rattle.keyed_control.specs.Keyed.{Keyed, first_keyed}

@@ -24,9 +24,9 @@ use Rattle.procedures.specs.declared.outcome.Outcome.{Outcome}
 use Rattle.procedures.specs.Refusals.{refused_if}
 use Rattle.procedures.specs.Table.{TableFacts}
 use Rattle.procedures.specs.Taking.{facts_with, lacks_room, no_room, outcome_of, settled, took_step}
-use Rattle.control_end.specs.control_model.Control.{Control, Takes, after, indicated_by, taken}
-use Rattle.control_end.specs.Answers.{nothing_taken, step_shown, taken_of}
-use Rattle.control_end.specs.Held.{Held, control_of, held_after as control_after}
+use Rattle.control_part.specs.control_end.control_model.Control.{Control, Takes, after, indicated_by, taken}
+use Rattle.control_part.specs.control_end.Answers.{nothing_taken, step_shown, taken_of}
+use Rattle.control_part.specs.control_end.Held.{Held, control_of, held_after as control_after}
 use Rattle.keyed_control.specs.phased_control.table_laws.Encrypting.{has_encryption}
 use Rattle.keyed_control.proofs.phased_control.Tables.{takes_as}
 use Rattle.phased_end.specs.Taking.{is_refused}

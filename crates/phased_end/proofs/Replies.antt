@@ -15,9 +15,9 @@ use Rattle.enc_phase.specs.Phases.{is_asked, is_quiet, may_follow, phase_after, 
 use Rattle.enc_phase.specs.Sealing.{EncEnd, after_taking, after_transition}
 use Rattle.enc_phase.specs.Taking.{allows, ctrl_class, phase_taking}
 use Rattle.procedures.specs.procedure_stages.Closing.{is_open}
-use Rattle.control_end.specs.control_model.Control.{Control, Owes, after_all}
-use Rattle.control_end.specs.Held.{Held, held_of as control_held}
-use Rattle.control_end.proofs.Depending.{step_held}
+use Rattle.control_part.specs.control_end.control_model.Control.{Control, Owes, after_all}
+use Rattle.control_part.specs.control_end.Held.{Held, held_of as control_held}
+use Rattle.control_part.proofs.control_end.Depending.{step_held}
 use Rattle.keyed_control.specs.declared.material.KeyMaterial.{KeyMaterial}
 use Rattle.keyed_control.specs.declared.material.Response.{Response}
 use Rattle.keyed_control.specs.Keyed.{session_of}

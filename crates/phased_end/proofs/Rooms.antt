@@ -24,9 +24,9 @@ use Rattle.procedures.specs.procedure_stages.Steps.{asks_host}
 use Rattle.procedures.specs.declared.outcome.Outcome.{Outcome}
 use Rattle.procedures.specs.Table.{TableFacts}
 use Rattle.procedures.specs.Taking.{facts_with, lacks_room, no_room, outcome_of, settled, took_step}
-use Rattle.control_end.proofs.table_laws.Taken.{few}
-use Rattle.control_end.specs.control_model.Control.{Control, Owes, Takes, indicated_by, is_to_come, moved, taken}
-use Rattle.control_end.specs.Held.{Held, control_of, held_after as control_after}
+use Rattle.control_part.proofs.control_end.table_laws.Taken.{few}
+use Rattle.control_part.specs.control_end.control_model.Control.{Control, Owes, Takes, indicated_by, is_to_come, moved, taken}
+use Rattle.control_part.specs.control_end.Held.{Held, control_of, held_after as control_after}
 use Rattle.phased_end.specs.Held.{HeldKeyed}
 use Rattle.phased_end.specs.Taking.{answered, answering_at, answering_at_central, answering_at_peripheral, handing, refusing}
 

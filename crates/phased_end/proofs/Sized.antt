@@ -20,8 +20,8 @@ use Rattle.instants.specs.declared.indications.Params.{Params}
 use Rattle.procedures.specs.procedure_stages.Opcodes.{enc_req_opcode}
 use Rattle.procedures.specs.procedure_values.Values.{IsPayloadMax}
 use Rattle.procedures.specs.Beginning.{begin_step}
-use Rattle.control_end.specs.control_model.Control.{Control, Step, Owes, after, ended}
-use Rattle.control_end.specs.control_model.Control.{Answers as control_answers, Asks as control_asks, Disconnects as control_disconnects, Enters as control_enters, SeesAcknowledged as control_acknowledged, Sends as control_sends, Takes as control_takes}
+use Rattle.control_part.specs.control_end.control_model.Control.{Control, Step, Owes, after, ended}
+use Rattle.control_part.specs.control_end.control_model.Control.{Answers as control_answers, Asks as control_asks, Disconnects as control_disconnects, Enters as control_enters, SeesAcknowledged as control_acknowledged, Sends as control_sends, Takes as control_takes}
 use Rattle.keyed_control.specs.Keyed.{Keyed, first_keyed}
 use Rattle.keyed_control.specs.KeyedSteps.{KeyedStep, Answers, Asks, Disconnects, Enters, GivesKey, LacksKey, Opens, Seals, SeesAcknowledged, Sends, Takes, TakesData, is_of_session, keyed_after, keyed_after_all, keyed_moved}
 use Rattle.keyed_control.specs.phased_control.Phased.{Phased, ask_begun, asking_if, asks_again, encrypting, encrypting_if, first_phased, is_encrypt, is_open_now, is_quiet_now, key_given, key_lacking, refused_if, request_of, table_entered, with_owed_if, with_step}

@@ -14,11 +14,11 @@ use Rattle.procedures.specs.procedure_values.declared.asks.Ask.{Ask}
 use Rattle.procedures.specs.Table.{TableFacts}
 use Rattle.procedures.specs.Beginning.{ask_at, begin_step}
 use Rattle.procedures.specs.Going.{entered_step}
-use Rattle.control_end.specs.control_model.Control.{Control, Owes, after}
-use Rattle.control_end.specs.control_model.Control.{Enters as control_enters}
-use Rattle.control_end.specs.Answers.{entry_of}
-use Rattle.control_end.specs.Held.{Held, control_of, held_after as control_after, held_of as control_held}
-use Rattle.control_end.proofs.Depending.{step_held}
+use Rattle.control_part.specs.control_end.control_model.Control.{Control, Owes, after}
+use Rattle.control_part.specs.control_end.control_model.Control.{Enters as control_enters}
+use Rattle.control_part.specs.control_end.Answers.{entry_of}
+use Rattle.control_part.specs.control_end.Held.{Held, control_of, held_after as control_after, held_of as control_held}
+use Rattle.control_part.proofs.control_end.Depending.{step_held}
 use Rattle.keyed_control.specs.KeyedSteps.{Enters, end_changed, with_asked, with_asked_if}
 use Rattle.keyed_control.specs.phased_control.PhaseChanges.{Stays, first_change}
 use Rattle.keyed_control.specs.phased_control.Phased.{Phased, ask_begun, encrypting, encrypting_if, is_encrypt, request_of, table_entered, with_owed_if, with_step}

@@ -14,10 +14,10 @@ use Rattle.enc_phase.specs.Phases.{is_asked, is_quiet, phase_starting}
 use Rattle.enc_phase.specs.Sealing.{EncEnd, after_start}
 use Rattle.enc_phase.specs.Taking.{allows, ctrl_class, is_unknown}
 use Rattle.procedures.specs.procedure_stages.Kinds.{role_of}
-use Rattle.control_end.specs.control_model.Control.{Takes as control_takes}
-use Rattle.control_end.specs.Answers.{taken_of}
-use Rattle.control_end.specs.Held.{Held, held_after as control_after}
-use Rattle.control_end.proofs.Depending.{step_held}
+use Rattle.control_part.specs.control_end.control_model.Control.{Takes as control_takes}
+use Rattle.control_part.specs.control_end.Answers.{taken_of}
+use Rattle.control_part.specs.control_end.Held.{Held, held_after as control_after}
+use Rattle.control_part.proofs.control_end.Depending.{step_held}
 use Rattle.keyed_control.specs.declared.material.KeyMaterial.{KeyMaterial}
 use Rattle.keyed_control.specs.declared.material.Response.{Response}
 use Rattle.keyed_control.specs.Keyed.{session_of}

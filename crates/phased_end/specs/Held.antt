@@ -1,7 +1,7 @@
 -- What one end with its keys holds, and what it holds after a step (Core 5.2, volume 6 part B, section 5.1.3).
 use Rattle.std.specs.Prelude.{Bool, false, List, [], ◌∷◌, Option}
 use Rattle.data_pdu.specs.declared.ctrl.Ctrl.{Ctrl}
-use Rattle.control_end.specs.Held as control
+use Rattle.control_part.specs.control_end.Held as control
 use Rattle.keyed_control.specs.declared.material.KeyMaterial.{KeyMaterial}
 use Rattle.keyed_control.specs.Keyed.{Keyed}
 use Rattle.keyed_control.specs.KeyedSteps.{KeyedStep, keyed_after}

@@ -11,4 +11,4 @@ pub mod Taking
 pub use Rattle.keyed_control.specs as keyed_control
 pub use Rattle.keyed_control.specs.phased_control as phased_control
 pub use Rattle.keyed_control.specs.enc_phase as enc_phase
-pub use Rattle.control_end.specs as control_end
+pub use Rattle.control_part.specs.control_end as control_end

@@ -11,9 +11,9 @@ use Rattle.procedures.specs.procedure_stages.Closing.{is_open}
 use Rattle.procedures.specs.procedure_stages.Opcodes.{enc_req_opcode}
 use Rattle.procedures.specs.procedure_values.declared.asks.Ask.{Ask}
 use Rattle.procedures.specs.procedure_values.declared.asks.Ask.TheVariants.{Encrypt}
-use Rattle.control_end.specs.control_model.Control.{Owes}
-use Rattle.control_end.specs.Answers.{goes_on}
-use Rattle.control_end.specs.Held.{held_after as control_after}
+use Rattle.control_part.specs.control_end.control_model.Control.{Owes}
+use Rattle.control_part.specs.control_end.Answers.{goes_on}
+use Rattle.control_part.specs.control_end.Held.{held_after as control_after}
 use Rattle.keyed_control.specs.Keyed.{session_of}
 use Rattle.keyed_control.specs.KeyedSteps.{end_started, with_asked}
 use Rattle.keyed_control.specs.phased_control.Phased.{asks_again, request_of}

@@ -23,10 +23,10 @@ use Rattle.enc_phase.specs.Taking.{allows, ctrl_class, is_unknown}
 use Rattle.procedures.specs.procedure_stages.Closing.{is_open}
 use Rattle.procedures.specs.procedure_stages.Kinds.{role_of}
 use Rattle.procedures.specs.procedure_stages.Queue.{waiting_in}
-use Rattle.control_end.specs.declared.answers.Taken.{Taken}
-use Rattle.control_end.specs.control_model.Control.{Takes}
-use Rattle.control_end.specs.Answers.{nothing_taken, taken_of}
-use Rattle.control_end.specs.Held.{held_after as control_after}
+use Rattle.control_part.specs.control_end.declared.answers.Taken.{Taken}
+use Rattle.control_part.specs.control_end.control_model.Control.{Takes}
+use Rattle.control_part.specs.control_end.Answers.{nothing_taken, taken_of}
+use Rattle.control_part.specs.control_end.Held.{held_after as control_after}
 use Rattle.keyed_control.specs.declared.material.KeyMaterial.{KeyMaterial}
 use Rattle.keyed_control.specs.declared.material.Response.{Response}
 use Rattle.keyed_control.specs.Keyed.{session_of}

@@ -5,7 +5,7 @@ ghost use Rattle.procedures.specs.procedure_values.Limits.{rx_of, tx_of};
 ghost use Rattle.procedures.specs.procedure_values.Values.{IsPayloadMax};
 ghost use Rattle.procedures.specs.procedure_stages.Closing.{is_open};
 ghost use Rattle.procedures.specs.procedure_stages.Queue.{waiting_in};
-ghost use Rattle.control_end.specs.Answers.{timeout_of};
+ghost use Rattle.control_part.specs.control_end.Answers.{timeout_of};
 ghost use Rattle.enc_phase.specs.Phases.{opens, seals};
 ghost use Rattle.keyed_control.specs.Keyed.{first_keyed};
 ghost use Rattle.phased_end.specs.Answers.{quiet_now};

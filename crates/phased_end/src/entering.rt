@@ -3,7 +3,7 @@ ghost use Rattle.std.specs.Prelude.{◌≡◌, ◌<◌, ◌≤◌, ◌^◌, IsTr
 ghost use Rattle.instants.specs.Track.{next_anchor_of};
 ghost use Rattle.procedures.specs.Beginning.{ask_at};
 ghost use Rattle.procedures.specs.procedure_stages.Queue.{waiting_in};
-ghost use Rattle.control_end.specs.Answers.{entry_of};
+ghost use Rattle.control_part.specs.control_end.Answers.{entry_of};
 ghost use Rattle.keyed_control.specs.KeyedSteps.{KeyedStep};
 ghost use Rattle.keyed_control.specs.phased_control.Phased.{is_encrypt};
 ghost use Rattle.phased_end.specs.Answers.{quiet_now};
@@ -18,7 +18,7 @@ use crate::changes::{ask, pause};
 use crate::end::PhasedEnd;
 use crate::material::{add_asked, request_of};
 use ble_base::{Kind, SlotNo};
-use control_end::Entry;
+use control_part::Entry;
 use data_pdu::Ctrl;
 use enc_phase::PhaseFacts;
 use procedures::Ask;

@@ -3,7 +3,7 @@ ghost use Rattle.std.specs.Prelude.{◌≡◌, ◌<◌, ◌≤◌};
 ghost use Rattle.std.specs.Result.{ForOk};
 ghost use Rattle.procedures.specs.procedure_values.Wants.{IsAsk};
 ghost use Rattle.procedures.specs.procedure_stages.Queue.{waiting_in};
-ghost use Rattle.control_end.specs.Answers.{awaits_host, may_ask};
+ghost use Rattle.control_part.specs.control_end.Answers.{awaits_host, may_ask};
 ghost use Rattle.enc_phase.specs.declared.facts.Transition.{Transition};
 ghost use Rattle.enc_phase.specs.Phases.{may_follow};
 ghost use Rattle.keyed_control.specs.KeyedSteps.{KeyedStep};

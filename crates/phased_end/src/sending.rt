@@ -2,8 +2,8 @@
 ghost use Rattle.std.specs.Prelude.{◌≡◌, ◌≤◌, ◌<◌, IfSome};
 ghost use Rattle.data_pdu.specs.Ranges.{IsInRange};
 ghost use Rattle.procedures.specs.procedure_stages.Queue.{waiting_in};
-ghost use Rattle.control_end.specs.Answers.{done_by_acknowledgement};
-ghost use Rattle.control_end.specs.Answers.{is_unacknowledged, next_ctrl};
+ghost use Rattle.control_part.specs.control_end.Answers.{done_by_acknowledgement};
+ghost use Rattle.control_part.specs.control_end.Answers.{is_unacknowledged, next_ctrl};
 ghost use Rattle.keyed_control.specs.KeyedSteps.{KeyedStep};
 ghost use Rattle.phased_end.specs.Answers.{quiet_now};
 ghost use Rattle.phased_end.specs.Held.{held_after};

@@ -28,3 +28,8 @@ pub use crate::stages::{
     Ahead, Central, Exchange, OwnCentral, OwnPeripheral, Peripheral, Progress,
 };
 pub use crate::steps::{Effect, Step};
+pub use procedure_values::lengths::lengths_asked;
+pub use procedure_values::values::are_valid;
+pub use procedure_values::{
+    Ask, CipherPdu, Draft, Lengths, NewParams, Outgoing, PayloadMax, Rejection, Wants,
+};

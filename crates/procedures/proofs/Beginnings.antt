@@ -2,8 +2,8 @@
 use Rattle.std.proofs.Common.{◌≡◌, ℕ, suc, ◌+◌, Bool, true, false, not, cond, ◌&&◌, List, [], ◌∷◌, length, Option, Some, None, nat_lt, refl, arith, ◌∙◌, ap}
 use Rattle.std.specs.List.{position, position_or_len, find}
 use Rattle.std.specs.Option.{option_map, is_none}
-use Rattle.procedure_values.specs.declared.asks.Ask.{Ask}
-use Rattle.procedure_values.specs.Asks.{kind_of_ask}
+use Rattle.procedure_stages.specs.procedure_values.declared.asks.Ask.{Ask}
+use Rattle.procedure_stages.specs.procedure_values.Asks.{kind_of_ask}
 use Rattle.procedure_stages.specs.Kinds.{own_kind, begins, role_of}
 use Rattle.procedures.specs.Table.{TableFacts}
 use Rattle.procedure_stages.specs.Closing.{is_open}

@@ -4,4 +4,4 @@ pub mod Meanings
 pub mod Unawaited
 pub mod Versions
 -- what the crates above use of those below
-pub use Rattle.procedure_values.proofs as procedure_values
+pub use Rattle.procedure_stages.proofs.procedure_values as procedure_values

@@ -15,7 +15,7 @@ use Rattle.procedure_stages.specs.declared.stages.Progress.TheVariants.{Central 
 use Rattle.procedure_stages.specs.declared.steps.Effect.TheVariants.{PeerFeatures}
 use Rattle.procedure_stages.specs.declared.steps.Step.{Step}
 use Rattle.procedure_stages.specs.Kinds.{own_exchange, without_own}
-use Rattle.procedure_values.specs.Limits.{with_peer}
+use Rattle.procedure_stages.specs.procedure_values.Limits.{with_peer}
 use Rattle.procedures.specs.Table.{TableFacts}
 use Rattle.procedure_stages.specs.Closing.{is_open}
 use Rattle.procedure_stages.specs.Queue.{waiting_in}

@@ -22,13 +22,13 @@ use Rattle.exclusive_stages.specs.declared.stages.PeerAtPeripheral.TheVariants.{
 use Rattle.procedure_stages.specs.declared.steps.Effect.TheVariants.{PeerFeatures, AskHost}
 use Rattle.procedure_stages.specs.Kinds.{kind_at_central, kind_at_peripheral, own_exchange, without_own, role_of}
 use Rattle.procedure_stages.specs.declared.steps.Step.{Step}
-use Rattle.procedure_values.specs.Limits.{with_peer}
-use Rattle.procedure_values.specs.declared.asks.Ask.{Ask}
-use Rattle.procedure_values.specs.declared.asks.Ask.TheVariants.{Update as ask_update, Request as ask_request, Map as ask_map, Phy as ask_phy, Features as ask_features, Version as ask_version, Length as ask_length, Encrypt as ask_encrypt}
-use Rattle.procedure_values.specs.declared.drafts.Draft.{Draft}
-use Rattle.procedure_values.specs.declared.drafts.Draft.TheVariants.{VersionInd as version_ind, PhyInd, PhyRsp as phy_rsp}
-use Rattle.procedure_values.specs.declared.drafts.Rejection.{Rejection as TheRejection}
-use Rattle.procedure_values.specs.declared.drafts.Outgoing.TheVariants.{Nothing, Other}
+use Rattle.procedure_stages.specs.procedure_values.Limits.{with_peer}
+use Rattle.procedure_stages.specs.procedure_values.declared.asks.Ask.{Ask}
+use Rattle.procedure_stages.specs.procedure_values.declared.asks.Ask.TheVariants.{Update as ask_update, Request as ask_request, Map as ask_map, Phy as ask_phy, Features as ask_features, Version as ask_version, Length as ask_length, Encrypt as ask_encrypt}
+use Rattle.procedure_stages.specs.procedure_values.declared.drafts.Draft.{Draft}
+use Rattle.procedure_stages.specs.procedure_values.declared.drafts.Draft.TheVariants.{VersionInd as version_ind, PhyInd, PhyRsp as phy_rsp}
+use Rattle.procedure_stages.specs.procedure_values.declared.drafts.Rejection.{Rejection as TheRejection}
+use Rattle.procedure_stages.specs.procedure_values.declared.drafts.Outgoing.TheVariants.{Nothing, Other}
 use Rattle.procedures.specs.declared.outcome.Outcome.{Outcome}
 use Rattle.procedure_stages.specs.declared.reply.Reply.{Reply}
 use Rattle.procedure_stages.specs.declared.reply.Reply.TheVariants.{Nothing as no_reply, Reject, Answer}
@@ -44,13 +44,13 @@ use Rattle.procedures.specs.Table.{TableFacts, first_facts}
 use Rattle.procedure_stages.specs.Queue.{QueueFacts, with_draft, with_reply, without_next, next_by, next_draft, next_disconnect, is_past_instant, is_version_reply}
 use Rattle.procedure_stages.specs.Closing.{is_open, is_disconnecting}
 use Rattle.procedures.specs.Queue.{next_of}
-use Rattle.procedure_values.specs.Drafts.{waits_for_instant}
+use Rattle.procedure_stages.specs.procedure_values.Drafts.{waits_for_instant}
 use Rattle.procedures.specs.Outcomes.{unchanged, moved, moved_and_answered, rejected, with_effect, with_done}
 use Rattle.procedures.specs.Update.{follow, followed, granted, update_begun}
 use Rattle.procedure_stages.specs.Awaited.{awaits_features, awaits_lengths, is_own_encryption}
 use Rattle.exclusive_stages.specs.Awaited.{reads_as_answer, peer_answered, central_answered, awaits_phy_rsp, has_phy_of_central, awaits_phy_ind}
 use Rattle.procedures.specs.Request.{collided, outlived, request_judged}
-use Rattle.procedure_values.specs.Values.{are_valid}
+use Rattle.procedure_stages.specs.procedure_values.Values.{are_valid}
 use Rattle.procedures.specs.Phy.{phy_answered}
 use Rattle.procedures.specs.Length.{with_lengths}
 use Rattle.procedure_stages.specs.Opcodes.{is_opcode, first_opcode, later_opcode}

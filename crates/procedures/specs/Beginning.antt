@@ -1,13 +1,13 @@
 -- What a host asks, and which of it begins (Core 5.2, volume 6 part B, section 5.1; the order is our choice).
 use Rattle.std.specs.Prelude.{◌||◌, Bool, not, ◌&&◌, is_none, ℕ, position, Option, Some, None, true, false, List, remove, slice_get}
 use Rattle.ble_base.specs.declared.procedure_kinds.Kind.{Kind}
-use Rattle.procedure_values.specs.declared.asks.Ask.{Ask}
-use Rattle.procedure_values.specs.declared.asks.Ask.TheVariants.{Version}
-use Rattle.procedure_values.specs.declared.drafts.Draft.{Draft}
+use Rattle.procedure_stages.specs.procedure_values.declared.asks.Ask.{Ask}
+use Rattle.procedure_stages.specs.procedure_values.declared.asks.Ask.TheVariants.{Version}
+use Rattle.procedure_stages.specs.procedure_values.declared.drafts.Draft.{Draft}
 use Rattle.procedure_stages.specs.Kinds.{own_kind, is_kind, role_of}
-use Rattle.procedure_values.specs.Asks.{kind_of_ask}
-use Rattle.procedure_values.specs.Wants.{is_wanted, wanted_with}
-use Rattle.procedure_values.specs.Limits.{lengths_asked}
+use Rattle.procedure_stages.specs.procedure_values.Asks.{kind_of_ask}
+use Rattle.procedure_stages.specs.procedure_values.Wants.{is_wanted, wanted_with}
+use Rattle.procedure_stages.specs.procedure_values.Limits.{lengths_asked}
 use Rattle.procedure_stages.specs.Begun.{draft_begun, may_begin_now, progress_begun}
 use Rattle.procedure_stages.specs.declared.closing.Closing.{Closing}
 use Rattle.procedures.specs.Table.{TableFacts}

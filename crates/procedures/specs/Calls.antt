@@ -3,10 +3,10 @@ use Rattle.std.specs.Prelude.{ℕ, Bool, Result, List, [], ◌∷◌, ◌+◌}
 use Rattle.ble_base.specs.declared.error_codes.ErrCode.{ErrCode}
 use Rattle.data_pdu.specs.declared.ctrl.Ctrl.{Ctrl}
 use Rattle.data_pdu.specs.declared.ctrl.CtrlRead.{CtrlRead}
-use Rattle.procedure_values.specs.declared.asks.Ask.{Ask}
-use Rattle.procedure_values.specs.declared.drafts.Outgoing.{Outgoing}
-use Rattle.procedure_values.specs.declared.drafts.Outgoing.TheVariants.{Nothing, Other}
-use Rattle.procedure_values.specs.declared.drafts.Draft.TheVariants.{VersionInd}
+use Rattle.procedure_stages.specs.procedure_values.declared.asks.Ask.{Ask}
+use Rattle.procedure_stages.specs.procedure_values.declared.drafts.Outgoing.{Outgoing}
+use Rattle.procedure_stages.specs.procedure_values.declared.drafts.Outgoing.TheVariants.{Nothing, Other}
+use Rattle.procedure_stages.specs.procedure_values.declared.drafts.Draft.TheVariants.{VersionInd}
 use Rattle.procedures.specs.Table.{TableFacts}
 use Rattle.procedures.specs.Taking.{took_step}
 use Rattle.procedures.specs.Sending.{went_step, acked_step}

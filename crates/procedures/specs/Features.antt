@@ -1,7 +1,7 @@
 -- Feature exchange (Core 5.2, volume 6 part B, section 5.1.4).
 use Rattle.std.specs.Prelude.{ℕ, if◌then◌else◌}
 use Rattle.ble_base.specs.declared.procedure_kinds.Kind.TheVariants.{Features}
-use Rattle.procedure_values.specs.declared.drafts.Draft.TheVariants.{FeatureRsp}
+use Rattle.procedure_stages.specs.procedure_values.declared.drafts.Draft.TheVariants.{FeatureRsp}
 use Rattle.procedure_stages.specs.Kinds.{own_exchange, without_own}
 use Rattle.procedure_stages.specs.Awaited.{awaits_features}
 use Rattle.procedures.specs.declared.outcome.Outcome.{Outcome}

@@ -7,10 +7,10 @@ use Rattle.ble_base.specs.declared.counters.SlotNo.{SlotNo}
 use Rattle.ble_base.specs.ErrorCodes.{ll_response_timeout}
 use Rattle.data_pdu.specs.declared.ctrl.Ctrl.{Ctrl}
 use Rattle.data_pdu.specs.declared.ctrl.Ctrl.TheVariants.{TerminateInd}
-use Rattle.procedure_values.specs.declared.drafts.Draft.TheVariants.{Grant, Cipher}
+use Rattle.procedure_stages.specs.procedure_values.declared.drafts.Draft.TheVariants.{Grant, Cipher}
 use Rattle.exclusive_stages.specs.declared.stages.PeerAtCentral.TheVariants.{GrantUnsent, Absent}
-use Rattle.procedure_values.specs.declared.asks.Ask.{Ask}
-use Rattle.procedure_values.specs.declared.asks.Ask.TheVariants.{Update as ask_update}
+use Rattle.procedure_stages.specs.procedure_values.declared.asks.Ask.{Ask}
+use Rattle.procedure_stages.specs.procedure_values.declared.asks.Ask.TheVariants.{Update as ask_update}
 use Rattle.procedure_stages.specs.Held.{progress_held, done_held}
 use Rattle.procedure_stages.specs.InProgress.{peer_becomes}
 use Rattle.procedure_stages.specs.Opcodes.{connection_param_req_opcode}

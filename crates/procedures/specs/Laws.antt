@@ -4,8 +4,8 @@ use Rattle.ble_base.specs.declared.error_codes.ErrCode.{ErrCode}
 use Rattle.ble_base.specs.declared.procedure_kinds.Kind.{Kind}
 use Rattle.data_pdu.specs.declared.ctrl.Ctrl.{Ctrl}
 use Rattle.data_pdu.specs.declared.ctrl.Ctrl.TheVariants.{PhyRsp, PhyUpdateInd, EncRsp, StartEncReq, StartEncRsp, PauseEncRsp, UnknownRsp, FeatureRsp, LengthRsp, RejectInd, RejectExtInd}
-use Rattle.procedure_values.specs.declared.drafts.Outgoing.{Outgoing}
-use Rattle.procedure_values.specs.declared.drafts.Outgoing.TheVariants.{Other}
+use Rattle.procedure_stages.specs.procedure_values.declared.drafts.Outgoing.{Outgoing}
+use Rattle.procedure_stages.specs.procedure_values.declared.drafts.Outgoing.TheVariants.{Other}
 use Rattle.procedure_stages.specs.declared.stages.Progress.{Progress}
 use Rattle.procedure_stages.specs.declared.stages.Progress.TheVariants.{Central, Peripheral}
 use Rattle.procedure_stages.specs.Awaited.{awaits_features, awaits_lengths}

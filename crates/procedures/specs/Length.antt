@@ -1,10 +1,10 @@
 -- Data length update (Core 5.2, volume 6 part B, section 5.1.9).
 use Rattle.std.specs.Prelude.{ℕ, if◌then◌else◌}
 use Rattle.ble_base.specs.declared.procedure_kinds.Kind.TheVariants.{Length}
-use Rattle.procedure_values.specs.declared.drafts.Draft.{Draft}
-use Rattle.procedure_values.specs.declared.drafts.Draft.TheVariants.{LengthRsp}
-use Rattle.procedure_values.specs.declared.lengths.Lengths.{Lengths}
-use Rattle.procedure_values.specs.Limits.{rx_of, tx_of, with_peer}
+use Rattle.procedure_stages.specs.procedure_values.declared.drafts.Draft.{Draft}
+use Rattle.procedure_stages.specs.procedure_values.declared.drafts.Draft.TheVariants.{LengthRsp}
+use Rattle.procedure_stages.specs.procedure_values.declared.lengths.Lengths.{Lengths}
+use Rattle.procedure_stages.specs.procedure_values.Limits.{rx_of, tx_of, with_peer}
 use Rattle.procedure_stages.specs.Kinds.{own_exchange, without_own}
 use Rattle.procedure_stages.specs.Awaited.{awaits_lengths}
 use Rattle.procedures.specs.declared.outcome.Outcome.{Outcome}

@@ -20,4 +20,4 @@ pub mod Calls
 pub mod Laws
 -- what the crates above use of those below
 pub use Rattle.procedure_stages.specs as procedure_stages
-pub use Rattle.procedure_values.specs as procedure_values
+pub use Rattle.procedure_stages.specs.procedure_values as procedure_values

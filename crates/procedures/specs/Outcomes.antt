@@ -3,8 +3,8 @@ use Rattle.std.specs.Prelude.{None, false, ℕ, Some}
 use Rattle.ble_base.specs.declared.error_codes.ErrCode.{ErrCode}
 use Rattle.ble_base.specs.declared.procedure_kinds.Kind.{Kind}
 use Rattle.procedure_stages.specs.declared.stages.Progress.{Progress}
-use Rattle.procedure_values.specs.declared.drafts.Draft.{Draft}
-use Rattle.procedure_values.specs.declared.drafts.Draft.TheVariants.{UnknownRsp}
+use Rattle.procedure_stages.specs.procedure_values.declared.drafts.Draft.{Draft}
+use Rattle.procedure_stages.specs.procedure_values.declared.drafts.Draft.TheVariants.{UnknownRsp}
 use Rattle.procedure_stages.specs.declared.steps.Effect.TheVariants.{Nothing}
 use Rattle.procedure_stages.specs.declared.steps.Step.{Step}
 use Rattle.procedures.specs.declared.outcome.Outcome.{Outcome}

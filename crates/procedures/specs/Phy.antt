@@ -1,7 +1,7 @@
 -- PHY update, which changes nothing (Core 5.2, volume 6 part B, section 5.1.10; that no PHY changes is our choice).
 use Rattle.std.specs.Prelude.{true, if◌then◌else◌}
 use Rattle.ble_base.specs.declared.procedure_kinds.Kind.TheVariants.{Phy}
-use Rattle.procedure_values.specs.declared.drafts.Draft.TheVariants.{PhyInd, PhyRsp}
+use Rattle.procedure_stages.specs.procedure_values.declared.drafts.Draft.TheVariants.{PhyInd, PhyRsp}
 use Rattle.procedure_stages.specs.declared.stages.Central.{Central}
 use Rattle.exclusive_stages.specs.declared.stages.PeerAtCentral.TheVariants.{PhyIndUnsent}
 use Rattle.procedure_stages.specs.declared.stages.Progress.TheVariants.{Central as central, Peripheral as peripheral}

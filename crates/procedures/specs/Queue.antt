@@ -1,6 +1,6 @@
 -- Which control PDU of a table is sent next (Core 5.2, volume 6 part B, sections 5.3 and 5.1.6; the order is our choice).
 use Rattle.std.specs.Prelude.{ℕ, Bool, ◌&&◌}
-use Rattle.procedure_values.specs.declared.drafts.Outgoing.{Outgoing}
+use Rattle.procedure_stages.specs.procedure_values.declared.drafts.Outgoing.{Outgoing}
 use Rattle.procedure_stages.specs.Closing.{is_disconnecting}
 use Rattle.procedure_stages.specs.Queue.{next_after_rejections, next_by}
 use Rattle.procedures.specs.Table.{TableFacts}

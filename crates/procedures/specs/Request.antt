@@ -13,7 +13,7 @@ use Rattle.procedure_stages.specs.Kinds.{kind_at_central, kind_at_peripheral}
 use Rattle.procedure_stages.specs.Collisions.{collision}
 use Rattle.exclusive_stages.specs.Awaited.{peer_answered, central_answered}
 use Rattle.procedure_stages.specs.Opcodes.{connection_param_req_opcode}
-use Rattle.procedure_values.specs.Values.{are_valid}
+use Rattle.procedure_stages.specs.procedure_values.Values.{are_valid}
 use Rattle.procedures.specs.declared.outcome.Outcome.{Outcome}
 use Rattle.procedure_stages.specs.declared.steps.Effect.TheVariants.{AskHost}
 use Rattle.procedures.specs.Table.{TableFacts}

@@ -3,9 +3,9 @@ use Rattle.std.specs.Prelude.{ℕ, Bool, Option}
 use Rattle.ble_base.specs.declared.procedure_kinds.Kind.{Kind}
 use Rattle.data_pdu.specs.declared.ctrl.Ctrl.{Ctrl}
 use Rattle.instants.specs.declared.indications.Indication.{Indication}
-use Rattle.procedure_values.specs.declared.drafts.Outgoing.{Outgoing}
-use Rattle.procedure_values.specs.declared.drafts.Outgoing.TheVariants.{Nothing}
-use Rattle.procedure_values.specs.Drafts.{ctrl_of_outgoing, indication_of}
+use Rattle.procedure_stages.specs.procedure_values.declared.drafts.Outgoing.{Outgoing}
+use Rattle.procedure_stages.specs.procedure_values.declared.drafts.Outgoing.TheVariants.{Nothing}
+use Rattle.procedure_stages.specs.procedure_values.Drafts.{ctrl_of_outgoing, indication_of}
 use Rattle.procedure_stages.specs.Sent.{progress_after_sending, is_own}
 use Rattle.procedure_stages.specs.Acked.{progress_acked, done_by_ack}
 use Rattle.procedures.specs.Table.{TableFacts}

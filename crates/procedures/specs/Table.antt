@@ -2,12 +2,12 @@
 use Rattle.std.specs.Prelude.{List, Option, Bool, [], None, ℕ, false}
 use Rattle.ble_base.specs.declared.counters.SlotNo.{SlotNo}
 use Rattle.ble_base.specs.declared.roles.Role.{Role}
-use Rattle.procedure_values.specs.declared.asks.Ask.{Ask}
-use Rattle.procedure_values.specs.declared.drafts.Outgoing.{Outgoing}
-use Rattle.procedure_values.specs.declared.lengths.Lengths.{Lengths}
+use Rattle.procedure_stages.specs.procedure_values.declared.asks.Ask.{Ask}
+use Rattle.procedure_stages.specs.procedure_values.declared.drafts.Outgoing.{Outgoing}
+use Rattle.procedure_stages.specs.procedure_values.declared.lengths.Lengths.{Lengths}
 use Rattle.procedure_stages.specs.declared.stages.Progress.{Progress}
-use Rattle.procedure_values.specs.declared.drafts.Outgoing.TheVariants.{Nothing}
-use Rattle.procedure_values.specs.Limits.{first_lengths}
+use Rattle.procedure_stages.specs.procedure_values.declared.drafts.Outgoing.TheVariants.{Nothing}
+use Rattle.procedure_stages.specs.procedure_values.Limits.{first_lengths}
 use Rattle.procedure_stages.specs.InProgress.{first_progress}
 use Rattle.procedure_stages.specs.Queue.{QueueFacts, empty_queue}
 use Rattle.procedure_stages.specs.declared.closing.Closing.{Closing}

@@ -2,11 +2,11 @@
 use Rattle.std.specs.Prelude.{Bool, true, false, if◌then◌else◌, ◌||◌, Option, Some, None, ℕ}
 use Rattle.ble_base.specs.declared.procedure_kinds.Kind.{Kind}
 use Rattle.ble_base.specs.declared.procedure_kinds.Kind.TheVariants.{Version}
-use Rattle.procedure_values.specs.declared.drafts.Draft.TheVariants.{VersionInd}
+use Rattle.procedure_stages.specs.procedure_values.declared.drafts.Draft.TheVariants.{VersionInd}
 use Rattle.procedure_stages.specs.declared.stages.Progress.{Progress}
 use Rattle.procedure_stages.specs.Kinds.{own_exchange, without_own}
 use Rattle.procedure_stages.specs.Awaited.{is_version}
-use Rattle.procedure_values.specs.Wants.{is_wanted}
+use Rattle.procedure_stages.specs.procedure_values.Wants.{is_wanted}
 use Rattle.procedure_stages.specs.declared.reply.Reply.{Reply}
 use Rattle.procedure_stages.specs.declared.reply.Reply.TheVariants.{Nothing, Answer}
 use Rattle.procedures.specs.declared.outcome.Outcome.{Outcome}

@@ -1,6 +1,6 @@
 //! What a host asks, and which of it begins.
 ghost use Rattle.std.specs.Prelude.{◌≡◌, ◌&&◌, ◌||◌, ◌<◌};
-ghost use Rattle.procedure_values.specs.Wants.{IsAsk};
+ghost use Rattle.procedure_stages.specs.procedure_values.Wants.{IsAsk};
 ghost use Rattle.procedures.specs.Beginning.{is_version, may_ask_of, ask_step, is_ready};
 ghost use Rattle.procedures.specs.Beginning.{place_to_begin, with_first_draft};
 ghost use Rattle.procedures.specs.Beginning.{facts_begun, begin_step};
@@ -11,8 +11,7 @@ use crate::taking::since_after;
 use ble_base::{Kind, SlotNo};
 use procedure_stages::begun::{draft_begun, first_place, progress_begun};
 use procedure_stages::kinds::is_kind;
-use procedure_values::lengths::lengths_asked;
-use procedure_values::{Ask, Draft};
+use procedure_stages::{Ask, Draft, lengths_asked};
 
 /// Whether an exchange of versions is asked for.
 fn is_version(ask: &Ask) -> bool

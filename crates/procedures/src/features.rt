@@ -5,9 +5,8 @@ ghost use Rattle.procedures.specs.Features.{features_asked, features_taken};
 use crate::outcome::{Outcome, answered, moved, unchanged};
 use crate::table::ProcTable;
 use ble_base::Kind;
-use procedure_stages::Effect;
 use procedure_stages::awaited::awaits_features;
-use procedure_values::Draft;
+use procedure_stages::{Draft, Effect};
 
 /// The request of the peer is taken: LL_FEATURE_REQ at a peripheral, LL_PERIPHERAL_FEATURE_REQ at a
 /// central.

@@ -4,7 +4,7 @@ ghost use Rattle.std.specs.Prelude.{◌≡◌, ◌<◌, false, IsTrue};
 ghost use Rattle.std.specs.Result.{ForOk};
 ghost use Rattle.data_pdu.specs.Ranges.{IsInRange};
 ghost use Rattle.procedure_stages.specs.InProgress.{is_host_asked};
-ghost use Rattle.procedure_values.specs.Wants.{IsAsk};
+ghost use Rattle.procedure_stages.specs.procedure_values.Wants.{IsAsk};
 ghost use Rattle.procedures.specs.Going.{closing_given, is_over, entered_step, request_granted};
 ghost use Rattle.procedures.specs.Going.{request_refused, granted_by, host_answer_step, is_answer};
 ghost use Rattle.procedures.specs.Going.{terminate_step, owe_step, tick_of};
@@ -16,10 +16,9 @@ use crate::table::ProcTable;
 use ble_base::{ErrCode, Kind, SlotNo};
 use data_pdu::Ctrl;
 use exclusive_stages::PeerAtCentral;
-use procedure_stages::Closing;
 use procedure_stages::kinds::is_timed;
 use procedure_stages::opcodes::CONNECTION_PARAM_REQ;
-use procedure_values::{Ask, CipherPdu, Draft, NewParams, Rejection};
+use procedure_stages::{Ask, CipherPdu, Closing, Draft, NewParams, Rejection};
 
 /// The time in which the peer has to answer, 40 s (Core 5.2, volume 6 part B, section 5.2), in
 /// slots.

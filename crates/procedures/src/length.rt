@@ -6,8 +6,7 @@ use crate::outcome::{Outcome, answered, moved, unchanged};
 use crate::table::ProcTable;
 use ble_base::Kind;
 use procedure_stages::awaited::awaits_lengths;
-use procedure_stages::{Effect, Step};
-use procedure_values::{Draft, Lengths};
+use procedure_stages::{Draft, Effect, Lengths, Step};
 
 /// LL_LENGTH_RSP of this end.
 fn length_reply(lengths: &Lengths) -> Draft

@@ -31,9 +31,6 @@ pub use crate::outcome::Outcome;
 pub use crate::table::ProcTable;
 pub use exclusive_stages::{CentralStage, PeerAtCentral, PeerAtPeripheral, PeripheralStage};
 pub use procedure_stages::{
-    Ahead, Central, Closing, Effect, Exchange, OwnCentral, OwnPeripheral, Peripheral, Progress,
-    Reply, Step,
-};
-pub use procedure_values::{
-    Ask, CipherPdu, Draft, Lengths, NewParams, Outgoing, PayloadMax, Rejection,
+    Ahead, Ask, Central, CipherPdu, Closing, Draft, Effect, Exchange, Lengths, NewParams, Outgoing,
+    OwnCentral, OwnPeripheral, PayloadMax, Peripheral, Progress, Rejection, Reply, Step,
 };

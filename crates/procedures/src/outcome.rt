@@ -6,8 +6,7 @@ ghost use Rattle.procedures.specs.Outcomes.{with_effect, with_done};
 
 use crate::table::ProcTable;
 use ble_base::{ErrCode, Kind};
-use procedure_stages::{Effect, Progress, Reply, Step};
-use procedure_values::{Draft, Lengths, Rejection};
+use procedure_stages::{Draft, Effect, Lengths, Progress, Rejection, Reply, Step};
 
 /// What a control PDU of the peer does.
 #[derive(Clone, Copy)]

@@ -10,8 +10,7 @@ use crate::table::ProcTable;
 use ble_base::Kind;
 use exclusive_stages::{CentralStage, PeerAtCentral, PeerAtPeripheral, PeripheralStage};
 use procedure_stages::opcodes::PHY_REQ;
-use procedure_stages::{Central, OwnCentral, OwnPeripheral, Peripheral, Progress};
-use procedure_values::Draft;
+use procedure_stages::{Central, Draft, OwnCentral, OwnPeripheral, Peripheral, Progress};
 
 /// LL_PHY_REQ is taken at a central.
 pub(crate) fn phy_req_at_central(table: &ProcTable, c: Central) -> Outcome

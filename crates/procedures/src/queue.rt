@@ -6,7 +6,7 @@ ghost use Rattle.procedures.specs.Queue.{next_of};
 
 use crate::table::ProcTable;
 use ble_base::EventNo;
-use procedure_values::{Draft, Outgoing};
+use procedure_stages::{Draft, Outgoing};
 
 impl ProcTable {
     /// How many control PDUs wait to be sent.

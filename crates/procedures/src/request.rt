@@ -10,8 +10,7 @@ use ble_base::{ErrCode, Kind};
 use exclusive_stages::PeerAtCentral;
 use procedure_stages::collisions::collision;
 use procedure_stages::opcodes::CONNECTION_PARAM_REQ;
-use procedure_stages::{Central, Effect, Peripheral, Progress};
-use procedure_values::values::are_valid;
+use procedure_stages::{Central, Effect, Peripheral, Progress, are_valid};
 
 /// The outcome of the first PDU of the peripheral, unless it collides with the central's own
 /// procedure: that ends the link if the peer has sent a PDU of the own procedure, and rejects the

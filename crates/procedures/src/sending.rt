@@ -2,7 +2,7 @@
 ghost use Rattle.std.specs.Prelude.{◌≡◌, ◌<◌, ◌^◌, IfSome, IsSome, IsTrue};
 ghost use Rattle.data_pdu.specs.Ranges.{IsInRange};
 ghost use Rattle.instants.specs.Track.{HasInterval};
-ghost use Rattle.procedure_values.specs.Drafts.{is_out};
+ghost use Rattle.procedure_stages.specs.procedure_values.Drafts.{is_out};
 ghost use Rattle.procedures.specs.Sending.{next_ctrl_of, went_step, acked_step};
 
 use crate::table::ProcTable;
@@ -10,7 +10,7 @@ use crate::taking::since_after;
 use ble_base::{EventNo, Kind, SlotNo};
 use data_pdu::Ctrl;
 use instants::Indication;
-use procedure_values::Outgoing;
+use procedure_stages::Outgoing;
 
 impl ProcTable {
     /// Whether a control PDU was sent that is not acknowledged.

@@ -3,13 +3,12 @@ ghost use Rattle.std.specs.Prelude.{◌≡◌, not};
 ghost use Rattle.procedure_stages.specs.Closing.{is_open};
 ghost use Rattle.procedure_stages.specs.InProgress.{is_busy};
 ghost use Rattle.procedure_stages.specs.Kinds.{role_of};
-ghost use Rattle.procedure_values.specs.Limits.{rx_of, tx_of};
-ghost use Rattle.procedure_values.specs.Values.{IsPayloadMax};
+ghost use Rattle.procedure_stages.specs.procedure_values.Limits.{rx_of, tx_of};
+ghost use Rattle.procedure_stages.specs.procedure_values.Values.{IsPayloadMax};
 ghost use Rattle.procedures.specs.Table.{first_facts};
 
 use ble_base::{Role, SlotNo};
-use procedure_stages::{Closing, Progress, Queue};
-use procedure_values::{Lengths, Outgoing, PayloadMax, Wants};
+use procedure_stages::{Closing, Lengths, Outgoing, PayloadMax, Progress, Queue, Wants};
 use std::marker::Model;
 
 /// The table of control procedures of one end of a link (Core 5.2, volume 6 part B, section 5.1).

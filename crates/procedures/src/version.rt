@@ -7,8 +7,7 @@ use crate::outcome::{Outcome, moved};
 use crate::table::ProcTable;
 use ble_base::Kind;
 use procedure_stages::awaited::is_version;
-use procedure_stages::{Effect, Progress, Reply, Step};
-use procedure_values::Draft;
+use procedure_stages::{Draft, Effect, Progress, Reply, Step};
 
 /// What answers the peer's LL_VERSION_IND: the own one, unless it was queued already.
 fn version_reply(used: bool) -> Reply

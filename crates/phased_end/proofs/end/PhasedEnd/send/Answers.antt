@@ -1,8 +1,8 @@
 -- The proof of `PhasedEnd::send`: what is sent can be followed.
 use Rattle.std.proofs.Common.{rules, sym, subst}
 use Rattle.std.specs.Prelude.{IfSome}
-use Rattle.control_end.specs.Answers.{indication_next}
-use Rattle.control_end.specs.Following.{CanFollow}
+use Rattle.control_part.specs.control_end.Answers.{indication_next}
+use Rattle.control_part.specs.control_end.Following.{CanFollow}
 use Rattle.keyed_control.specs.KeyedSteps.{Sends}
 use Rattle.phased_end.specs.Held.{HeldKeyed}
 use Rattle.phased_end.proofs.Entered.{entered_as}
