@@ -1,20 +1,19 @@
 //! The events that a host gets for what control procedures did, as the octets of their packets.
 ghost use Rattle.link_model.specs.Receiving.{HasPayloadLengths};
 
-use crate::calls::code_of;
-use crate::pairs::check;
 use ble_base::{ChannelMap, ErrCode, Kind};
 use data_pdu::Ctrl;
 use hci_evt::{Event, write};
 use instants::Params;
 use link_model::{PeerFacts, PeerVersion};
+use link_scripts::code_of;
 use procedure_events::{
     KeptEvents, ReceptionEvents, event_known, event_of_done, event_of_effect, event_of_entry,
     event_of_refusal, events_of_kept, events_of_reception,
 };
 use procedures::Effect;
 use std::alloc::AllocError;
-use test_words::{Call, put_octets};
+use test_words::{Call, TakesCalls, first_wrong, put_octets};
 
 /// The link has handle 0. The peer has features 402F and version 0B FFFF 0001.
 const EVENTS: &str = "\
@@ -58,8 +57,21 @@ event kept request = 043e0b0600002000200000004800 none
 event kept version = none 040c080000000bffff0100
 ";
 
+/// The events, with no link.
+#[derive(Clone, Copy)]
+struct Events;
+
+impl TakesCalls for Events {
+    fn take(&mut self, side: &str, call: Call<'_>, told: &mut String) -> Result<(), AllocError> {
+        match side {
+            "#" => Ok(()),
+            _ => put_events_of(call, told),
+        }
+    }
+}
+
 /// Writes the octets of the events for what a procedure did.
-pub(crate) fn take(call: Call<'_>, told: &mut String) -> Result<(), AllocError> {
+fn put_events_of(call: Call<'_>, told: &mut String) -> Result<(), AllocError> {
     let (first, second) = (call.words[0], call.words[1]);
     match call.name {
         "done" => put_event(told, &event_of_done(0, &peer(), kind_named(first))),
@@ -185,5 +197,7 @@ fn put_kept(told: &mut String, events: &KeptEvents) -> Result<(), AllocError> {
 
 #[test]
 fn events_for_a_host(rt: HostRuntime) -> Result<(), AllocError> {
-    check(&rt, rt.alloc(), EVENTS)
+    let wrong = first_wrong(&mut Events, rt.alloc(), EVENTS)?;
+    assert_eq!(rt; wrong.as_str(), "");
+    Ok(())
 }

@@ -1,9 +1,7 @@
 //! Random calls on one end of a link, and random packets to it: each call gives what it may give.
-use crate::calls::ask_named;
-use crate::ends::End;
-use crate::random_packets::{header_in, octet, random_packet};
-use ble_base::{ErrCode, Role, SlotNo, Verdict};
+use ble_base::{ErrCode, Role, Verdict};
 use data_pdu::DataHeader;
+use link_scripts::{End, LTK, ask_named, header_in, octet, random_packet};
 use std::alloc::{AllocError, Global};
 
 /// The number of packets that reach each end.
@@ -37,7 +35,7 @@ const NONE: DataHeader = DataHeader {
 
 /// Counts what a call noted.
 fn count(end: &mut End, tally: &mut Tally) {
-    tally.most = tally.most.max(end.out.len());
+    tally.most = tally.most.max(end.note_count());
     end.clear();
 }
 
@@ -52,6 +50,7 @@ fn call(end: &mut End, tally: &mut Tally, slot: u32) {
         33..=47 => {
             end.give(&[value; 40]);
         }
+        48..=51 => end.key((value % 4 != 0).then_some(LTK), slot),
         _ => end.hand_up(),
     }
 }
@@ -59,14 +58,14 @@ fn call(end: &mut End, tally: &mut Tally, slot: u32) {
 /// The end sends its packet.
 fn send(end: &mut End, tally: &mut Tally, slot: u32) {
     let packet = end.send(slot);
-    tally.last = header_in(end.link.channel(), packet.as_slice());
+    tally.last = header_in(end.channel(), packet.as_slice());
     count(end, tally);
 }
 
 /// A random packet reaches the end, which may answer.
 fn receive(end: &mut End, tally: &mut Tally, slot: u32) {
-    let packet = random_packet(end.link.channel(), tally.last, &mut tally.state);
-    let verdict = end.link.judge(packet.as_slice());
+    let packet = random_packet(end.channel(), tally.last, &mut tally.state);
+    let verdict = end.judge(packet.as_slice());
     if verdict == Verdict::Good || verdict == Verdict::Forged {
         tally.heard = tally.heard.saturating_add(1);
     }
@@ -81,7 +80,7 @@ fn receive(end: &mut End, tally: &mut Tally, slot: u32) {
 /// Enters the next event, in this slot.
 fn enter(end: &mut End, tally: &mut Tally, slot: u32) {
     end.begin_turn(slot);
-    if end.link.next_anchor().0 > u64::from(slot) {
+    if end.next_anchor() > u64::from(slot) {
         tally.entered = tally.entered.saturating_add(1);
     }
     count(end, tally);
@@ -89,18 +88,18 @@ fn enter(end: &mut End, tally: &mut Tally, slot: u32) {
 
 /// Whether the end ends in this slot.
 fn ends(end: &mut End, slot: u32) -> bool {
-    let due = end.link.due(SlotNo(u64::from(slot)));
-    end.link.end_turn().is_some() || due.is_some()
+    let due = end.due(slot);
+    end.end_turn().is_some() || due.is_some()
 }
 
 /// Goes through the next event. A new end takes the place of one that ends.
 fn go_through(end: &mut End, tally: &mut Tally) {
-    let Ok(slot) = u32::try_from(end.link.next_anchor().0) else {
+    let Ok(slot) = u32::try_from(end.next_anchor()) else {
         return;
     };
     enter(end, tally, slot);
     call(end, tally, slot);
-    if end.link.setup().role == Role::Central {
+    if end.role() == Role::Central {
         send(end, tally, slot);
     }
     receive(end, tally, slot);

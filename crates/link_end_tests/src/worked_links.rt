@@ -1,6 +1,6 @@
 //! Links worked out by hand, turn by turn. The CONNECT_IND is in slot 0, and the anchors are 24
 //! slots apart from slot 2 on.
-use crate::pairs::check;
+use link_scripts::wrong_in;
 use std::alloc::AllocError;
 
 const LINKS: &str = "\
@@ -167,5 +167,7 @@ b awaits_key = no
 
 #[test]
 fn links_turn_by_turn(rt: HostRuntime) -> Result<(), AllocError> {
-    check(&rt, rt.alloc(), LINKS)
+    let wrong = wrong_in(rt.alloc(), LINKS)?;
+    assert_eq!(rt; wrong.as_str(), "");
+    Ok(())
 }

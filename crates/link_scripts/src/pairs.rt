@@ -4,19 +4,17 @@ ghost use Rattle.std.specs.Prelude.{◌<◌};
 use crate::air::{hear, put_payload};
 use crate::calls::{LTK, ask_named, take};
 use crate::ends::End;
-use crate::host_events;
 use crate::notes::{put_notes, put_numbers, put_reason};
 use ble_base::Role;
 use procedures::Effect;
 use std::alloc::{AllocError, Global};
-use std::process::Abort;
 use test_words::{Call, TakesCalls, first_wrong, put_octets, slot};
 
 /// A central, A, and a peripheral, B.
 #[derive(Drop)]
-pub(crate) struct Pair {
-    pub(crate) a: End,
-    pub(crate) b: End,
+pub struct Pair {
+    pub a: End,
+    pub b: End,
 }
 
 /// Each line has a call, and after " =" what it gives. Both ends have entered event 0 before the
@@ -27,16 +25,11 @@ pub(crate) struct Pair {
 /// 01 02. "air" is a turn too, and gives the payloads on the air, with "-" for an empty one, and why
 /// both ends end. After "come" with the name of a phase a new link has come so far with its
 /// encryption. "takes_a" and "takes_b" go there for each of up to eight packets that may arrive in
-/// place of the next one, and give whether A or B goes on, or why it ends. "event" is for the events
-/// that a host gets, with no link.
-pub(crate) fn check(rt: &impl Abort, alloc: Global, script: &str) -> Result<(), AllocError> {
-    let wrong = wrong_in(alloc, script)?;
-    assert_eq!(rt; wrong.as_str(), "");
-    Ok(())
-}
-
-/// The first line whose call gives something else, and what it gives; or nothing.
-fn wrong_in(alloc: Global, script: &str) -> Result<String, AllocError> {
+/// place of the next one, and give whether A or B goes on, or why it ends. With a "~" before its octets
+/// a packet acknowledges nothing new.
+///
+/// The result is the first line whose call gives something else, and what it gives; or nothing.
+pub fn wrong_in(alloc: Global, script: &str) -> Result<String, AllocError> {
     let mut pair = Pair::new(alloc)?;
     first_wrong(&mut pair, alloc, script)
 }
@@ -53,7 +46,6 @@ impl TakesCalls for Pair {
             "takes_a" => self.take_each(call, true, told),
             "takes_b" => self.take_each(call, false, told),
             "new" => self.begin_again(),
-            "event" => host_events::take(call, told),
             "#" => Ok(()),
             _ => told.push_str(" which end?"),
         }
@@ -62,7 +54,7 @@ impl TakesCalls for Pair {
 
 impl Pair {
     /// Both ends have entered event 0.
-    pub(crate) fn new(alloc: Global) -> Result<Self, AllocError> {
+    pub fn new(alloc: Global) -> Result<Self, AllocError> {
         let a = End::new(alloc, Role::Central)?;
         let b = End::new(alloc, Role::Peripheral)?;
         Ok(Pair { a, b })
@@ -90,7 +82,7 @@ impl Pair {
     }
 
     /// A new link takes the place of this one, and goes on until encryption came this far.
-    pub(crate) fn come(&mut self, phase: &str, told: &mut String) -> Result<(), AllocError> {
+    pub fn come(&mut self, phase: &str, told: &mut String) -> Result<(), AllocError> {
         self.begin_again()?;
         let last = slot_in(phase);
         for slot in SLOTS {
@@ -155,7 +147,7 @@ impl Pair {
         };
         exchange(&mut self.a, &mut self.b, turn, told)?;
         let end = if by_a { &mut self.a } else { &mut self.b };
-        match end.link.end_turn() {
+        match end.end_turn() {
             None => told.push_str(" ok"),
             Some(code) => put_octets(told, &[code.0]),
         }
@@ -165,14 +157,15 @@ impl Pair {
 /// The slots of the anchors before event 9.
 const SLOTS: [u32; 9] = [2, 26, 50, 74, 98, 122, 146, 170, 194];
 
-/// The slot of the next anchor once a link has come this far: the peripheral took LL_ENC_REQ, and
-/// has no key yet, or has it; the central took LL_START_ENC_REQ; both are in Secure; the peripheral
+/// The slot of the next anchor once a link has come this far: nothing was asked; the peripheral
+/// took LL_ENC_REQ, and has no key yet, or has it; the central took LL_START_ENC_REQ; both are in Secure; the peripheral
 /// took LL_PAUSE_ENC_REQ; the central took LL_PAUSE_ENC_RSP; the peripheral did; or it took the
 /// LL_ENC_REQ after the pause.
 fn slot_in(phase: &str) -> u32
     ensures { result < 1000 }
 {
     match phase {
+        "clear" => 26,
         "asked" | "keyed" => 50,
         "started" => 74,
         "secure" => 122,
@@ -252,13 +245,13 @@ fn put_turn(told: &mut String, name: &str, end: &mut End) -> Result<(), AllocErr
     put_notes(told, &end.out)?;
     put_effect(told, end.effect())?;
     put_effect(told, end.kept_effect())?;
-    put_reason(told, end.link.end_turn())
+    put_reason(told, end.end_turn())
 }
 
 /// Writes for what reason an end ends in a turn.
 fn put_end(told: &mut String, name: &str, end: &mut End) -> Result<(), AllocError> {
     told.push_str(name)?;
-    put_reason(told, end.link.end_turn())
+    put_reason(told, end.end_turn())
 }
 
 /// Writes what a PDU reports to the host: the most octets that are received and transmitted, or the

@@ -1,13 +1,10 @@
 //! Random payloads on an encrypted link: the right ones are taken, and a wrong one ends the link.
 ghost use Rattle.std.specs.Prelude.{◌<◌};
 
-use crate::air::other_packet;
-use crate::ends::{ACCESS, CRC_INIT};
-use crate::pairs::Pair;
-use crate::random_packets::octet;
 use air_frame::{Heard, unframe};
 use arrayvec::ArrayVec;
-use ble_base::{AIR_PACKET_OCTETS, ErrCode, Note, Outbox, Verdict};
+use ble_base::{AIR_PACKET_OCTETS, ErrCode, Verdict};
+use link_scripts::{ACCESS, CRC_INIT, Pair, header_in, octet, other_packet};
 use std::alloc::{AllocError, Global};
 
 /// The number of packets of the central.
@@ -61,7 +58,7 @@ fn wrong_packet(channel: u8, packet: &[u8], state: &mut u32) -> ArrayVec<u8, AIR
     match unframe(channel, ACCESS, CRC_INIT, packet) {
         Heard::Whole(pdu) => {
             let octets = wrong_octets(pdu.as_slice(), state);
-            other_packet(channel, packet, octets.as_slice())
+            other_packet(channel, header_in(channel, packet), octets.as_slice())
         }
         _ => ArrayVec::new(),
     }
@@ -72,16 +69,6 @@ fn one_if(is_so: bool) -> u32
     ensures { result < 2 }
 {
     if is_so { 1 } else { 0 }
-}
-
-/// Whether a PDU was taken.
-fn has_taken(out: &Outbox) -> bool {
-    for note in out.as_slice() {
-        if let Note::Took { .. } = note {
-            return true;
-        }
-    }
-    false
 }
 
 /// The host of the central gives some octets, 1 to 40, and the next event begins, in this slot.
@@ -97,7 +84,7 @@ fn begin(pair: &mut Pair, tally: &mut Tally, slot: u32) {
 fn take_right(pair: &mut Pair, tally: &mut Tally, packet: &[u8], slot: u32) {
     pair.b.hear(packet, slot);
     tally.right = tally.right.saturating_add(1);
-    tally.taken = tally.taken.saturating_add(one_if(has_taken(&pair.b.out)));
+    tally.taken = tally.taken.saturating_add(one_if(pair.b.has_taken()));
     pair.b.hand_up();
     if pair.b.replies() {
         let reply = pair.b.send(slot);
@@ -107,11 +94,11 @@ fn take_right(pair: &mut Pair, tally: &mut Tally, packet: &[u8], slot: u32) {
 
 /// A wrong packet arrives in place of a right one.
 fn take_wrong(pair: &mut Pair, tally: &mut Tally, packet: &[u8], slot: u32) {
-    let wrong = wrong_packet(pair.b.link.channel(), packet, &mut tally.state);
-    let is_forged = pair.b.link.judge(wrong.as_slice()) == Verdict::Forged;
+    let wrong = wrong_packet(pair.b.channel(), packet, &mut tally.state);
+    let is_forged = pair.b.judge(wrong.as_slice()) == Verdict::Forged;
     pair.b.hear(wrong.as_slice(), slot);
-    let is_none = !has_taken(&pair.b.out) && !pair.b.replies();
-    let ends = pair.b.link.end_turn() == Some(ErrCode::MIC_FAILURE);
+    let is_none = !pair.b.has_taken() && !pair.b.replies();
+    let ends = pair.b.end_turn() == Some(ErrCode::MIC_FAILURE);
     tally.wrong = tally.wrong.saturating_add(1);
     tally.forged = tally
         .forged
@@ -120,10 +107,10 @@ fn take_wrong(pair: &mut Pair, tally: &mut Tally, packet: &[u8], slot: u32) {
 
 /// Goes through the next event, and says whether the link goes on.
 fn goes_through(pair: &mut Pair, tally: &mut Tally) -> bool {
-    let slot = u32::try_from(pair.a.link.next_anchor().0).unwrap_or(0);
+    let slot = u32::try_from(pair.a.next_anchor()).unwrap_or(0);
     begin(pair, tally, slot);
     let packet = pair.a.send(slot);
-    let is_good = pair.b.link.judge(packet.as_slice()) == Verdict::Good;
+    let is_good = pair.b.judge(packet.as_slice()) == Verdict::Good;
     tally.good = tally.good.saturating_add(one_if(is_good));
     let is_right = octet(&mut tally.state) % 4 != 0;
     if is_right {

@@ -4,7 +4,7 @@ use std::alloc::AllocError;
 use test_words::{put_number, put_octets, put_value};
 
 /// Writes what was noted.
-pub(crate) fn put_notes(told: &mut String, out: &Outbox) -> Result<(), AllocError> {
+pub fn put_notes(told: &mut String, out: &Outbox) -> Result<(), AllocError> {
     for note in out.as_slice() {
         put_note(told, note)?;
     }
@@ -48,12 +48,7 @@ fn put_procedure(told: &mut String, note: &Note) -> Result<(), AllocError> {
 }
 
 /// Writes a name and two numbers.
-pub(crate) fn put_numbers(
-    told: &mut String,
-    name: &str,
-    one: u64,
-    other: u64,
-) -> Result<(), AllocError> {
+pub fn put_numbers(told: &mut String, name: &str, one: u64, other: u64) -> Result<(), AllocError> {
     told.push_str(name)?;
     put_number(told, one)?;
     put_number(told, other)
@@ -82,7 +77,7 @@ fn put_pdu(
 }
 
 /// Writes for what reason an end ends, if it does.
-pub(crate) fn put_reason(told: &mut String, reason: Option<ErrCode>) -> Result<(), AllocError> {
+pub fn put_reason(told: &mut String, reason: Option<ErrCode>) -> Result<(), AllocError> {
     match reason {
         None => Ok(()),
         Some(code) => put_code(told, " ends", code),

@@ -12,17 +12,19 @@ ghost use Rattle.link_end.specs.Tied.{IsTied};
 use acl_banks::{RxBank, TxBank};
 use adv_pdu::ConnectFields;
 use arrayvec::ArrayVec;
-use ble_base::{AIR_PACKET_OCTETS, Address, ChannelMap, ErrCode, Outbox, Role, SlotNo};
+use ble_base::{
+    AIR_PACKET_OCTETS, Address, ChannelMap, ErrCode, Note, Outbox, Role, SlotNo, Verdict,
+};
 use link_end::{LinkEnd, LinkSetup, LinkStep};
 use procedures::{Ask, Effect};
 use std::alloc::{AllocError, Global};
 use std::marker::Model;
 
 /// The access address of the link.
-pub(crate) const ACCESS: u32 = 0x7176_4129;
+pub const ACCESS: u32 = 0x7176_4129;
 
 /// Where the CRC of the link begins.
-pub(crate) const CRC_INIT: u32 = 1;
+pub const CRC_INIT: u32 = 1;
 
 /// The handle of the link at each end.
 const HANDLE: u16 = 0;
@@ -38,7 +40,7 @@ const IV_S: u32 = 0xDEAF_BABE;
 
 /// One end of a link, its buffers, and the first slot in which it may take octets.
 #[derive(Drop)]
-pub(crate) struct End {
+pub struct End {
     pub(crate) link: LinkEnd,
     tx: TxBank<2>,
     rx: RxBank<4>,
@@ -47,7 +49,7 @@ pub(crate) struct End {
     anchor: u64,
     /// What it noted, and what came of the packet that it took last.
     pub(crate) out: Outbox,
-    pub(crate) step: Option<LinkStep>,
+    step: Option<LinkStep>,
 }
 
 impl Model for End {
@@ -125,7 +127,7 @@ fn make_room(out: &mut Outbox)
 
 impl End {
     /// An end that has entered event 0, and empty buffers.
-    pub(crate) fn new(alloc: Global, role: Role) -> Result<Self, AllocError> {
+    pub fn new(alloc: Global, role: Role) -> Result<Self, AllocError> {
         let tx = TxBank::make(alloc)?;
         let rx = RxBank::make(alloc)?;
         Ok(End {
@@ -140,7 +142,7 @@ impl End {
     }
 
     /// A new end of the same role takes the place of this one.
-    pub(crate) fn begin_again(&mut self) {
+    pub fn begin_again(&mut self) {
         self.tx.drop_link(HANDLE);
         self.rx.drop_link(HANDLE);
         self.link = link_in_event_0(self.link.setup().role);
@@ -150,14 +152,14 @@ impl End {
     }
 
     /// Forgets what it noted, and what came of the packet that it took last.
-    pub(crate) fn clear(&mut self) {
+    pub fn clear(&mut self) {
         self.out.clear();
         self.step = None;
     }
 
     /// A turn in this slot begins: it enters its next event, if the anchor of that is in this slot,
     /// and fixes what it sends next.
-    pub(crate) fn begin_turn(&mut self, slot: u32) {
+    pub fn begin_turn(&mut self, slot: u32) {
         self.clear();
         if self.link.next_anchor().0 == u64::from(slot) {
             self.enter();
@@ -166,7 +168,7 @@ impl End {
     }
 
     /// Enters the next event.
-    pub(crate) fn enter(&mut self) {
+    pub fn enter(&mut self) {
         let slot = self.link.next_anchor();
         if slot.0 < 1 << 32 {
             self.anchor = slot.0;
@@ -177,18 +179,18 @@ impl End {
 
     /// Whether it has an exchange in this slot: that of the anchor, or the next one where the event
     /// goes on.
-    pub(crate) fn is_in(&self, slot: u32) -> bool {
+    pub fn is_in(&self, slot: u32) -> bool {
         let slot = u64::from(slot);
         slot == self.anchor || slot == self.anchor.saturating_add(1) && self.link.again()
     }
 
     /// Whether it wants the radio for the event entered last.
-    pub(crate) fn wants(&self) -> bool {
+    pub fn wants(&self) -> bool {
         self.link.wants(&self.tx)
     }
 
     /// The packet that it sends in this slot.
-    pub(crate) fn send(&mut self, slot: u32) -> ArrayVec<u8, AIR_PACKET_OCTETS> {
+    pub fn send(&mut self, slot: u32) -> ArrayVec<u8, AIR_PACKET_OCTETS> {
         make_room(&mut self.out);
         self.link
             .to_send(SlotNo(u64::from(slot)), &mut self.tx, &mut self.out)
@@ -196,7 +198,7 @@ impl End {
 
     /// Takes octets in this slot, if it took none since.
     #[tactic(auto, using(link_end::proofs::Tying::credited_tied, link_end::proofs::Tying::before_later))]
-    pub(crate) fn hear(&mut self, octets: &[u8], slot: u32) {
+    pub fn hear(&mut self, octets: &[u8], slot: u32) {
         let slot = u64::from(slot);
         if slot < self.next {
             return;
@@ -210,8 +212,55 @@ impl End {
         self.step = Some(step);
     }
 
+    /// The data channel of its event.
+    pub fn channel(&self) -> u8
+        ensures { result < 37 }
+    {
+        self.link.channel()
+    }
+
+    /// Its role.
+    pub fn role(&self) -> Role {
+        self.link.setup().role
+    }
+
+    /// The slot of the anchor of its next event.
+    pub fn next_anchor(&self) -> u64 {
+        self.link.next_anchor().0
+    }
+
+    /// Its verdict on octets.
+    pub fn judge(&self, octets: &[u8]) -> Verdict {
+        self.link.judge(octets)
+    }
+
+    /// Why it ends as this turn ends, if it does.
+    pub fn end_turn(&mut self) -> Option<ErrCode> {
+        self.link.end_turn()
+    }
+
+    /// Why it ends at the start of a turn in this slot, if it does.
+    pub fn due(&self, slot: u32) -> Option<ErrCode> {
+        self.link.due(SlotNo(u64::from(slot)))
+    }
+
+    /// How much it noted in this turn.
+    pub fn note_count(&self) -> usize {
+        self.out.len()
+    }
+
+    /// Whether it took a PDU in this turn.
+    pub fn has_taken(&self) -> bool {
+        for note in self.out.as_slice() {
+            if let Note::Took { .. } = note {
+                return true;
+            }
+        }
+        false
+    }
+
     /// What the layer above does with what it took.
-    pub(crate) fn effect(&self) -> Effect {
+    pub fn effect(&self) -> Effect {
         match self.step {
             None => Effect::Nothing,
             Some(step) => step.effect,
@@ -219,7 +268,7 @@ impl End {
     }
 
     /// What it does with a PDU that it kept, and which it looks at now.
-    pub(crate) fn kept_effect(&self) -> Effect {
+    pub fn kept_effect(&self) -> Effect {
         match self.step {
             None => Effect::Nothing,
             Some(step) => step.kept_effect,
@@ -227,7 +276,7 @@ impl End {
     }
 
     /// Whether it answers what it took.
-    pub(crate) fn replies(&self) -> bool {
+    pub fn replies(&self) -> bool {
         match self.step {
             None => false,
             Some(step) => step.reply,
@@ -235,37 +284,37 @@ impl End {
     }
 
     /// The host asks for a procedure.
-    pub(crate) fn ask(&mut self, ask: Ask)
+    pub fn ask(&mut self, ask: Ask)
         requires { IsAsk ask }
     {
         self.link.ask(ask);
     }
 
     /// The host answers a request of the peer.
-    pub(crate) fn answer(&mut self, answer: Result<Ask, ErrCode>)
+    pub fn answer(&mut self, answer: Result<Ask, ErrCode>)
         requires { ForOk answer IsAsk }
     {
         self.link.host_answer(answer);
     }
 
     /// The host answers for a key in this slot.
-    pub(crate) fn key(&mut self, ltk: Option<[u8; 16]>, slot: u32) {
+    pub fn key(&mut self, ltk: Option<[u8; 16]>, slot: u32) {
         self.link.key(ltk, SlotNo(u64::from(slot)));
     }
 
     /// The host ends the link in this slot.
-    pub(crate) fn finish(&mut self, reason: ErrCode, slot: u32) {
+    pub fn finish(&mut self, reason: ErrCode, slot: u32) {
         self.link.end(reason, SlotNo(u64::from(slot)));
     }
 
     /// The host takes a piece of data.
-    pub(crate) fn hand_up(&mut self) {
+    pub fn hand_up(&mut self) {
         self.rx.hand_up();
     }
 
     /// The host gives the start of a message. False where it has no octet, or the bank is full.
     #[tactic(auto, using(link_end::proofs::Tying::offer_tied))]
-    pub(crate) fn give(&mut self, body: &[u8]) -> bool {
+    pub fn give(&mut self, body: &[u8]) -> bool {
         let handle = self.link.setup().handle;
         !body.is_empty() && self.tx.offer(handle, true, body).is_ok()
     }

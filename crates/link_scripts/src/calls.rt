@@ -3,7 +3,7 @@ ghost use Rattle.procedure_values.specs.Wants.{IsAsk};
 
 use crate::ends::End;
 use crate::notes::put_reason;
-use ble_base::{ChannelMap, ErrCode, SlotNo};
+use ble_base::{ChannelMap, ErrCode};
 use procedures::Ask;
 use std::alloc::AllocError;
 use test_words::{Call, hex_number, octets_of, put_answer, put_number, put_value, slot};
@@ -12,7 +12,7 @@ use test_words::{Call, hex_number, octets_of, put_answer, put_number, put_value,
 const MOST: [u8; 251] = [7; 251];
 
 /// The long term key of the sample data of Core 5.2, volume 6 part C, section 1, and another one.
-pub(crate) const LTK: [u8; 16] = [
+pub const LTK: [u8; 16] = [
     0x4C, 0x68, 0x38, 0x41, 0x39, 0xF5, 0x74, 0xD8, 0x36, 0xBC, 0xF3, 0x4E, 0x9D, 0xFB, 0x01, 0xBF,
 ];
 
@@ -34,7 +34,7 @@ fn encryption(ltk: [u8; 16]) -> Ask
 /// What a host asks: an update to a timeout of 1 s, a request for 40 ms, a map of the channels 0 to
 /// 32, at most 251 octets, a PHY update, the features of the peer, an encryption, one with another
 /// key, or the version of the peer.
-pub(crate) fn ask_named(name: &str) -> Ask
+pub fn ask_named(name: &str) -> Ask
     ensures { IsAsk result }
 {
     match name {
@@ -60,12 +60,12 @@ pub(crate) fn ask_named(name: &str) -> Ask
 }
 
 /// The error that two digits spell.
-pub(crate) fn code_of(told: &String, word: &str) -> ErrCode {
+pub fn code_of(told: &String, word: &str) -> ErrCode {
     ErrCode(u8::try_from(hex_number(*told.allocator(), word)).unwrap_or(u8::MAX))
 }
 
 /// Makes a call of the host on an end.
-pub(crate) fn take(end: &mut End, call: Call<'_>, told: &mut String) -> Result<(), AllocError> {
+pub fn take(end: &mut End, call: Call<'_>, told: &mut String) -> Result<(), AllocError> {
     let [first, second, ..] = call.words;
     match call.name {
         "ask" => end.ask(ask_named(first)),
@@ -97,7 +97,7 @@ fn look(end: &mut End, call: Call<'_>, told: &mut String) -> Result<(), AllocErr
         "may_ask" => put_answer(told, end.link.may_ask(ask_named(first).kind())),
         "awaits_host" => put_answer(told, end.link.awaits_host()),
         "awaits_key" => put_answer(told, end.link.awaits_key()),
-        "due" => put_reason(told, end.link.due(SlotNo(u64::from(slot(first))))),
+        "due" => put_reason(told, end.due(slot(first))),
         _ => look_further(end, call.name, told),
     }
 }

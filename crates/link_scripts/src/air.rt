@@ -11,8 +11,8 @@ use std::alloc::AllocError;
 use test_words::{octets_of, put_octets};
 
 /// Writes the payload of an end's packet, or "-" where it is empty.
-pub(crate) fn put_payload(told: &mut String, end: &End, packet: &[u8]) -> Result<(), AllocError> {
-    match unframe(end.link.channel(), ACCESS, CRC_INIT, packet) {
+pub fn put_payload(told: &mut String, end: &End, packet: &[u8]) -> Result<(), AllocError> {
+    match unframe(end.channel(), ACCESS, CRC_INIT, packet) {
         Heard::Whole(pdu) => put_body(told, pdu.as_slice().get(2..).unwrap_or(&[])),
         _ => told.push_str(" none"),
     }
@@ -28,29 +28,29 @@ fn put_body(told: &mut String, body: &[u8]) -> Result<(), AllocError> {
 }
 
 /// An end hears a packet in this slot, or another one in its place, if a word has octets: the LLID
-/// and the payload of that.
-pub(crate) fn hear(end: &mut End, packet: &[u8], word: &str, slot: u32, told: &String) {
+/// and the payload of that. With a "~" before them the other one acknowledges nothing new.
+pub fn hear(end: &mut End, packet: &[u8], word: &str, slot: u32, told: &String) {
     if word.len() < 2 {
         end.hear(packet, slot);
     } else {
-        let octets = octets_of(*told.allocator(), word);
-        let other = other_packet(end.link.channel(), packet, octets.as_slice());
+        let channel = end.channel();
+        let spelled = word.strip_prefix('~');
+        let octets = octets_of(*told.allocator(), spelled.unwrap_or(word));
+        let like = header_in(channel, packet);
+        let nesn = like.nesn ^ spelled.is_some();
+        let other = other_packet(channel, DataHeader { nesn, ..like }, octets.as_slice());
         end.hear(other.as_slice(), slot);
     }
 }
 
-/// A packet with the sequence numbers of another one on this channel, and with an LLID and a
+/// A packet on this channel with the sequence numbers and MD of a header, and with an LLID and a
 /// payload.
-pub(crate) fn other_packet(
-    channel: u8,
-    like: &[u8],
-    octets: &[u8],
-) -> ArrayVec<u8, AIR_PACKET_OCTETS>
+pub fn other_packet(channel: u8, like: DataHeader, octets: &[u8]) -> ArrayVec<u8, AIR_PACKET_OCTETS>
     requires { channel < 37 }
 {
     let header = DataHeader {
         llid: octets.first().copied().unwrap_or(0) % 4,
-        ..header_in(channel, like)
+        ..like
     };
     packet(channel, header, &body_of(octets))
 }

@@ -27,7 +27,7 @@ const REQUEST: [u8; 24] = [
 const PHY_UPDATE: [u8; 5] = [0x18, 0, 0, 0, 0];
 
 /// The next octet of a fixed generator.
-pub(crate) fn octet(state: &mut u32) -> u8 {
+pub fn octet(state: &mut u32) -> u8 {
     *state = state.wrapping_mul(1_664_525).wrapping_add(1_013_904_223);
     (*state >> 24) as u8
 }
@@ -68,7 +68,7 @@ fn payload(llid: u8, state: &mut u32) -> ArrayVec<u8, PAYLOAD_OCTETS> {
 }
 
 /// The packet of a PDU on this channel.
-pub(crate) fn packet(
+pub fn packet(
     channel: u8,
     header: DataHeader,
     body: &ArrayVec<u8, PAYLOAD_OCTETS>,
@@ -87,7 +87,7 @@ pub(crate) fn packet(
 }
 
 /// The header of an end's packet on this channel.
-pub(crate) fn header_in(channel: u8, packet: &[u8]) -> DataHeader
+pub fn header_in(channel: u8, packet: &[u8]) -> DataHeader
     requires { channel < 37 }
 {
     match unframe(channel, ACCESS, CRC_INIT, packet) {
@@ -106,7 +106,7 @@ fn first_two(pdu: &[u8]) -> DataHeader {
 
 /// A random packet on this channel, to an end that sent this header last: mostly one that
 /// acknowledges it and is new.
-pub(crate) fn random_packet(
+pub fn random_packet(
     channel: u8,
     last: DataHeader,
     state: &mut u32,
