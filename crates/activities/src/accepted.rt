@@ -1,6 +1,6 @@
 //! What accepted commands change of the radio, advertising, scanning and initiating.
 ghost use Rattle.std.specs.Prelude.{◌≡◌};
-ghost use Rattle.host_view.specs.Unbuilt.{status_of};
+ghost use Rattle.host_view.specs.Status.{status_of};
 ghost use Rattle.controller_model.specs.Commands.{advertising_after, fields_given, initiator_after};
 ghost use Rattle.controller_model.specs.Commands.{own_address, peer_named, radio_after};
 ghost use Rattle.controller_model.specs.Commands.{scanning_after};

@@ -3,7 +3,7 @@ use Rattle.std.proofs.Common.{◌≡◌, ℕ, ◌+◌, List, [], ◌∷◌, ◌+
 use Rattle.std.proofs.lemmas.List.{drop_at}
 use Rattle.ble_base.specs.declared.notes.Note.{Note}
 use Rattle.h4_frames.specs.declared.packet.Fed.{Fed}
-use Rattle.h4_frames.specs.declared.packet.Fed.TheVariants.{More, Packet, LostSync}
+use Rattle.h4_frames.specs.declared.packet.Fed.TheVariants.{More}
 use Rattle.h4_frames.specs.declared.stage.Stage.{Stage}
 use Rattle.h4_frames.specs.Frames.{frames, frame_entry}
 use Rattle.h4_frames.specs.Machine.{framer_after}
@@ -18,7 +18,7 @@ use Rattle.controller_model.specs.Heard.{unheard}
 use Rattle.controller_model.specs.Outcome.{Outcome, facts_passed, notes_passed}
 use Rattle.controller_model.specs.Packets.{facts_doing, notes_doing, use_for, use_of}
 use Rattle.controller_model.specs.Side.{facts_after, facts_fed, facts_of, first_result, notes_after, notes_fed, outcome_unheard, result_of, with_octet}
-use Rattle.controller_model.proofs.Feds.{fed_octets, turn_octets}
+use Rattle.controller_model.proofs.Feds.{fed_octets, first_entry, turn_octets}
 use Rattle.controller_model.proofs.Pasts.{facts_more}
 use Rattle.controller_model.proofs.Always.{IsInTurn}
 use Rattle.controller_model.proofs.Exchanges.{OutcomeInEvent}
@@ -28,11 +28,6 @@ use Rattle.controller.specs.Knowing.{Goes, IsAt, IsWholeAt, Knows}
 use Rattle.controller.proofs.FrameOctets.{is_framed}
 
 -- ---- what an octet completes
-
-first_entry : (place : ℕ) (fed : Fed) → first_result (frame_entry place fed) ≡ fed
-first_entry place More = refl
-first_entry place (Packet packet) = refl
-first_entry place LostSync = refl
 
 completes : (octets : List ℕ) (octet : ℕ) (fed : Fed) → frames (octets ++ octet ∷ []) ≡ frames octets ++ frame_entry (length octets + 1) fed
     → fed ≡ result_of octets octet

@@ -5,7 +5,7 @@ ghost use Rattle.acl_banks.specs.declared.pieces.Piece.{Piece};
 ghost use Rattle.hci_cmd.specs.Command.{command_of};
 ghost use Rattle.hci_cmd.specs.declared.command.CmdRead.TheVariants.{Known};
 ghost use Rattle.host_view.specs.OnLinks.{asks_links};
-ghost use Rattle.host_view.specs.Unbuilt.{status_of};
+ghost use Rattle.host_view.specs.Status.{status_of};
 ghost use Rattle.controller_model.specs.link_commands.LinksCommanded.{events_commanded_on};
 ghost use Rattle.open_links.specs.Knowing.{Knows as KnowsLinks};
 ghost use Rattle.open_links.specs.OpenLinks.{Links};

@@ -35,10 +35,6 @@ use host_notes::{event_reported, follow_from, hear_on_link, tell_if};
 use link_model::LinkSetup;
 use scan_init::{Initiator, ScanAnswer, next_access};
 
-/// The most octets of a payload that the ends of this controller receive (volume 6 part B, section
-/// 4.5.10).
-const MOST_RECEIVED: u16 = 251;
-
 /// Whether the answer of a scanner has it send a SCAN_REQ.
 fn does_ask(answer: ScanAnswer) -> bool
     ensures { result ≡ does_ask answer }
@@ -127,7 +123,7 @@ impl<const L: usize, const T: usize, const R: usize> Controller<L, T, R> {
                 peer: pdu.sender(),
                 fields,
                 two: pdu.ch_sel(),
-                max_rx: MOST_RECEIVED,
+                max_rx: self.view.most_received(),
             };
             self.open(link, out);
         }
@@ -307,7 +303,7 @@ impl<const L: usize, const T: usize, const R: usize> Controller<L, T, R> {
             peer: pdu.sender(),
             fields,
             two: pdu.ch_sel(),
-            max_rx: MOST_RECEIVED,
+            max_rx: self.view.most_received(),
         })
     }
 

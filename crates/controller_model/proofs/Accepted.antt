@@ -1,28 +1,17 @@
 -- What an accepted command of advertising tells, and what one of counts leaves.
-use Rattle.std.proofs.Common.{◌≡◌, ℕ, suc, ◌≤◌, ◌==◌, Bool, true, false, List, inl, inr, cond, refl, arith}
+use Rattle.std.proofs.Common.{◌≡◌, ℕ, suc, ◌≤◌, ◌==◌, Bool, true, false, List, cond, refl, arith}
 use Rattle.std.specs.Prelude.{nat_le, nat_lt, not}
 use Rattle.std.proofs.lemmas.Bool.{and_parts, leb-true}
-use Rattle.std.proofs.lemmas.Bool.Decides.{eqb_tells, nat_tests}
+use Rattle.std.proofs.lemmas.Bool.Decides.{nat_tests}
 use Rattle.arrayvec.specs.ArrayVec.{ArrayVec}
 use Rattle.hci_cmd.specs.declared.command.HandleCount.{HandleCount}
 use Rattle.hci_cmd.specs.declared.command.Command.TheVariants.{HostCompleted, LeSetAdvParams, LeSetAdvData, LeSetScanResponse}
 use Rattle.host_view.specs.View.{View}
 use Rattle.host_view.specs.Changes.{after_counts, view_after}
 use Rattle.host_view.specs.Status.{are_intervals}
-use Rattle.host_view.specs.Unbuilt.{or_unbuilt, status_of}
+use Rattle.host_view.specs.Status.{status_of}
 use Rattle.host_view.specs.scan_init.Windows.{slots_of}
-
-pub table_accepts : (table unbuilt : ℕ) → or_unbuilt table unbuilt ≡ 0 → table ≡ 0
-table_accepts table unbuilt is =
-    elim (eqb_tells table 0) [
-      | inl same ↦ same.1
-      | inr other ↦ let refused : (table == 0) ≡ false = other.0 in rw refused at is
-    ]
-
--- a row with a code that is not 00 does not hold, nor does one of the next
-pub row_passes : (condition : Bool) (code rest : ℕ) → cond condition (suc code) rest ≡ 0 → (condition ≡ false) × (rest ≡ 0)
-row_passes true code rest is = absurd (omega (arith, is))
-row_passes false code rest is = (refl, is)
+use Rattle.link_commands.proofs.Ranges.{passes}
 
 pub not_not : (b : Bool) → not b ≡ false → b ≡ true
 not_not true is = refl
@@ -35,11 +24,11 @@ short count is = grind (arith, nat_tests)
 
 pub data_short : (view : View) (count : ℕ) (text : List ℕ) → status_of view (LeSetAdvData count text) ≡ 0 → count ≤ 31
 unfolding status_of
-data_short view count text accepted = short count (row_passes (nat_lt 31 count) _ _ (table_accepts _ _ accepted)).0
+data_short view count text accepted = short count (passes (nat_lt 31 count) _ _ accepted).0
 
 pub response_short : (view : View) (count : ℕ) (text : List ℕ) → status_of view (LeSetScanResponse count text) ≡ 0 → count ≤ 31
 unfolding status_of
-response_short view count text accepted = short count (row_passes (nat_lt 31 count) _ _ (table_accepts _ _ accepted)).0
+response_short view count text accepted = short count (passes (nat_lt 31 count) _ _ accepted).0
 
 -- ---- the parameters
 
@@ -55,14 +44,14 @@ pub set_while_off : (view : View) (min max kind own peer_kind : ℕ) (peer : Lis
     → status_of view (LeSetAdvParams min max kind own peer_kind peer channels policy) ≡ 0 → view.advertising.on ≡ false
 unfolding status_of
 set_while_off view min max kind own peer_kind peer channels policy accepted =
-    (row_passes view.advertising.on _ _ (table_accepts _ _ accepted)).0
+    (passes view.advertising.on _ _ accepted).0
 
 pub long_set : (view : View) (min max kind own peer_kind : ℕ) (peer : List ℕ) (channels policy : ℕ)
     → status_of view (LeSetAdvParams min max kind own peer_kind peer channels policy) ≡ 0 → 16 ≤ slots_of min
 unfolding status_of
 long_set view min max kind own peer_kind peer channels policy accepted =
-    let off = row_passes view.advertising.on _ _ (table_accepts _ _ accepted) in
-    let intervals = row_passes (not (are_intervals min max)) _ _ off.1 in
+    let off = passes view.advertising.on _ _ accepted in
+    let intervals = passes (not (are_intervals min max)) _ _ off.1 in
     long_interval min max (not_not (are_intervals min max) intervals.0)
 
 -- ---- counts of packets

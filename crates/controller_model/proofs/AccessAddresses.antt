@@ -11,7 +11,7 @@ use Rattle.hci_cmd.specs.declared.command.CmdRead.TheVariants.{Known, UnknownOpc
 use Rattle.hci_cmd.specs.Command.{command_of}
 use Rattle.host_view.specs.View.{View}
 use Rattle.host_view.specs.Changes.{view_after}
-use Rattle.host_view.specs.Unbuilt.{status_of}
+use Rattle.host_view.specs.Status.{status_of}
 use Rattle.host_view.proofs.TakenCommands.{connection_has_address}
 use Rattle.host_view.specs.scan_init.Access.{access_at, bit_count, is_valid_access, next_access_of, nth_access, valid_count}
 use Rattle.host_view.specs.scan_init.Initiating.{InitiatorFacts}
@@ -80,7 +80,7 @@ address_kept setup = record {
       sent = λ channel link doing. opening_passes (KnowsAddress setup) link facts knows;
       responds = λ channel on doing is_on. knows;
       taken = λ channel octets pdu on fields handle is_on hears takes free.
-          opening_passes (KnowsAddress setup) (link_taken on.params.own pdu fields handle) facts knows;
+          opening_passes (KnowsAddress setup) (link_taken facts.view on.params.own pdu fields handle) facts knows;
       scanned = λ channel octets pdu on doing is_on hears. knows;
       answered = λ channel octets pdu on doing is_on hears. knows;
       connects = λ channel octets pdu on access handle doing is_on hears answers next free in_range. refl;
@@ -221,7 +221,7 @@ phase_makes setup facts makes next = record {
   sent = λ channel link doing. absurd (subst MakesNone doing makes);
   responds = λ channel on doing is_on. may_make (goes_on facts (Responds channel)) tt next;
   taken = λ channel octets pdu on fields handle is_on hears takes free.
-      opening_passes MayMake (link_taken on.params.own pdu fields handle) facts (record { central = tt; has_next = λ makes so. next so });
+      opening_passes MayMake (link_taken facts.view on.params.own pdu fields handle) facts (record { central = tt; has_next = λ makes so. next so });
   scanned = λ channel octets pdu on doing is_on hears.
       let asks = true && does_ask (scan_answer on.params facts.view.accepted on.recent pdu) in
       may_make (goes_on (with_scanner (scanner_after on facts.view.accepted pdu) facts) (asks_if asks channel pdu)) (asks_makes IsOfCentral asks channel pdu) next;

@@ -11,7 +11,7 @@ use Rattle.host_view.specs.declared.view.Advertising.{Advertising as ViewAdverti
 use Rattle.host_view.specs.View.{View}
 use Rattle.host_view.specs.Changes.{view_after}
 use Rattle.host_view.specs.Refusals.{is_connectable}
-use Rattle.host_view.specs.Unbuilt.{status_of}
+use Rattle.host_view.specs.Status.{status_of}
 use Rattle.advertise.specs.declared.params.AdvParams.{AdvParams}
 use Rattle.advertise.specs.Advertising.{AdvertiserFacts}
 use Rattle.slot_plan.specs.declared.Activity.{Activity}
@@ -154,7 +154,7 @@ advertisers_kept setup = record {
       sent = λ channel link doing. opening_passes AdvertisersKnown link facts (opened_known link.role facts.view.advertising facts.advertising known);
       responds = λ channel on doing is_on. known;
       taken = λ channel octets pdu on fields handle is_on hears takes free.
-          let link = link_taken on.params.own pdu fields handle in
+          let link = link_taken facts.view on.params.own pdu fields handle in
           opening_passes AdvertisersKnown link facts (opened_known link.role facts.view.advertising facts.advertising known);
       scanned = λ channel octets pdu on doing is_on hears. known;
       answered = λ channel octets pdu on doing is_on hears. known;

@@ -13,7 +13,7 @@ use Rattle.hci_cmd.specs.Command.{command_of}
 use Rattle.hci_evt.specs.declared.event.Event.{Event}
 use Rattle.host_view.specs.View.{View}
 use Rattle.host_view.specs.Changes.{view_after}
-use Rattle.host_view.specs.Unbuilt.{status_of}
+use Rattle.host_view.specs.Status.{status_of}
 use Rattle.link_commands.specs.open_links.Data.{buffers_taken, links_given}
 use Rattle.link_commands.specs.open_links.OpenLinks.{Links, link_at}
 use Rattle.link_commands.specs.LinksCommanded.{links_commanded, view_commanded_on}

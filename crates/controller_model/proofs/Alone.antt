@@ -21,7 +21,7 @@ use Rattle.hci_evt.specs.Event.{mask_bit_of, written}
 use Rattle.host_view.specs.Links.{was_encrypted}
 use Rattle.host_view.specs.View.{View}
 use Rattle.host_view.specs.Noted.{view_noted}
-use Rattle.host_view.specs.Unbuilt.{status_of}
+use Rattle.host_view.specs.Status.{status_of}
 use Rattle.adv_pdu.specs.declared.pdu.AdvPdu.{AdvPdu}
 use Rattle.host_view.specs.scan_init.declared.reports.ReportKind.{ReportKind}
 use Rattle.host_view.specs.scan_init.Reports.{ScannerFacts, does_ask, kind_of, scan_answer}
@@ -319,7 +319,7 @@ grows setup least = record {
       sent = λ channel link doing. opening_passes (HasMade least) link facts more;
       responds = λ channel on doing is_on. more;
       taken = λ channel octets pdu on fields handle is_on hears takes free.
-          opening_passes (HasMade least) (link_taken on.params.own pdu fields handle) facts more;
+          opening_passes (HasMade least) (link_taken facts.view on.params.own pdu fields handle) facts more;
       scanned = λ channel octets pdu on doing is_on hears. more;
       answered = λ channel octets pdu on doing is_on hears. more;
       connects = λ channel octets pdu on access handle doing is_on hears answers next free in_range. omega (arith, more);

@@ -18,7 +18,7 @@ use Rattle.host_view.specs.View.{View}
 use Rattle.host_view.specs.declared.links.Link.{Link as ViewLink}
 use Rattle.host_view.specs.declared.view.Advertising.{Advertising as ViewAdvertising}
 use Rattle.host_view.specs.Noted.{opened_link, stopped_by, view_noted}
-use Rattle.host_view.specs.Unbuilt.{status_of}
+use Rattle.host_view.specs.Status.{status_of}
 use Rattle.host_view.specs.scan_init.Initiating.{InitiatorFacts}
 use Rattle.host_view.specs.scan_init.Reports.{ScannerFacts}
 use Rattle.host_view.specs.scan_init.Windows.{slots_of}
@@ -389,10 +389,6 @@ module _ (weak : Facts → Type 0) (ends : (reason : OpenLink → Option ℕ) (f
       (winner_before_doing slot facts) (facts_before_doing slot facts) (left_entering slot facts holds)
 
 module _ (weak fact : Facts → Type 0) (kept : IsKeptAtStarts weak fact) where
-  pub left_before_doing : (slot : ℕ) (facts : Facts) → fact facts → weak (facts_before_doing slot facts)
-  left_before_doing slot facts holds =
-      left_entering weak kept.ends kept.begins kept.enters kept.wins kept.fixes slot facts (kept.weakens facts holds)
-
   pub begun_doing : (P : Doing → Facts → Type 0) → ((doing : Doing) (facts : Facts) → MayBegin doing → weak facts → P doing facts)
       → (slot : ℕ) (on : Bool) (facts : Facts) → fact facts → P (outcome_begun slot on facts).next (outcome_begun slot on facts).facts
   begun_doing P does slot on facts holds =

@@ -3,17 +3,16 @@ use Rattle.std.proofs.Common.{◌≡◌, ℕ, ◌+◌, ◌==◌, ◌&&◌, Bool,
 use Rattle.std.specs.Prelude.{IfSome, is_some, ⊤}
 use Rattle.std.specs.List.{AllByRecursion}
 use Rattle.std.proofs.lemmas.Bool.{and_parts}
-use Rattle.acl_banks.specs.declared.pieces.Piece.{Piece}
 use Rattle.ble_base.specs.declared.notes.Note.{Note}
 use Rattle.ble_base.specs.declared.notes.Note.TheVariants.{Done}
 use Rattle.ble_base.specs.declared.procedure_kinds.Kind.{Kind}
 use Rattle.ble_base.specs.declared.roles.Role.{Role}
 use Rattle.ble_base.specs.declared.roles.Role.TheVariants.{Central, Peripheral}
 use Rattle.hci_cmd.specs.declared.command.Command.{Command}
-use Rattle.hci_cmd.specs.declared.command.Command.TheVariants.{Disconnect, LeConnectionUpdate, LeCreateCancel, LeEnableEncryption, LeKeyNegative, LeKeyReply, LeParamNegative, LeParamReply, LeReadRemoteFeatures, LeSetChannels, LeSetDataLength, ReadRemoteVersion, Reset}
+use Rattle.hci_cmd.specs.declared.command.Command.TheVariants.{Disconnect, LeConnectionUpdate, LeEnableEncryption, LeKeyNegative, LeKeyReply, LeParamNegative, LeParamReply, LeReadRemoteFeatures, LeSetChannels, LeSetDataLength, ReadRemoteVersion, Reset}
 use Rattle.hci_cmd.specs.declared.command.CmdRead.TheVariants.{Known}
 use Rattle.host_view.specs.OnLinks.{asks_links}
-use Rattle.host_view.specs.Unbuilt.{status_of}
+use Rattle.host_view.specs.Status.{status_of}
 use Rattle.host_view.specs.View.{View}
 use Rattle.host_view.specs.Changes.{view_after}
 use Rattle.link_commands.specs.open_links.link_model.declared.state.PeerFacts.{PeerFacts}
@@ -30,7 +29,7 @@ use Rattle.link_commands.specs.declared.moments.Moment.{Moment}
 use Rattle.link_commands.specs.Commands.{ask_unless, host_step_of, is_about, map_by, step_if_about, step_on}
 use Rattle.link_commands.specs.LinksCommanded.{events_commanded_on, events_known_in, known_in, link_after_if, links_commanded, links_commanded_from, place_commanded, view_commanded_on, view_known_on}
 use Rattle.link_commands.specs.Views.{events_if, kind_known, view_answered}
-use Rattle.controller_model.specs.Commands.{events_caused, facts_accepted, facts_asking, facts_commanded, facts_known, is_asking, links_after, moment_of, notes_asking, notes_before, notes_commanded, notes_known, received_after}
+use Rattle.controller_model.specs.Commands.{facts_accepted, facts_asking, facts_commanded, facts_known, is_asking, links_after, moment_of, notes_asking, notes_before, notes_commanded, notes_known}
 use Rattle.controller_model.specs.Events.{notes_of_events}
 use Rattle.controller_model.specs.Facts.{Setup, Facts}
 use Rattle.controller_model.proofs.Following.{ChangesLinks, note_changes}
@@ -104,7 +103,7 @@ place_asked P command moment true (Some link) holds asked =
     by None is of = holds
     by (Some step) is of = asked link step refl is of
 
-asked_from : (command : Command) (moment : Moment) (first handle : ℕ) (links : Links)
+pub asked_from : (command : Command) (moment : Moment) (first handle : ℕ) (links : Links)
     → link_from first handle (links_commanded_from first command moment links)
     ≡ place_commanded (is_about handle command) command moment (link_from first handle links)
 asked_from command moment first handle [] = none (is_about handle command)
@@ -221,9 +220,6 @@ asking_is setup facts command =
 
 -- ---- a command that asks
 
-pub asking_accepted : (view : View) (command : Command) → is_asking view command ≡ true → status_of view command ≡ 0
-asking_accepted view command asks = eqb-true (status_of view command) 0 (and_parts (status_of view command == 0) (asks_links view command) asks).0
-
 pub asking_links : (view : View) (command : Command) → is_asking view command ≡ true → asks_links view command ≡ true
 asking_links view command asks = (and_parts (status_of view command == 0) (asks_links view command) asks).1
 
@@ -235,31 +231,16 @@ by_links : (view : View) (command : Command) (links : Links) → asks_links view
 by_links view Reset links asks = unasked _ asks
 by_links view other links asks = refl
 
-by_received : (view : View) (command : Command) (received : List (ℕ × Piece)) → asks_links view command ≡ true
-    → received_after command received ≡ received
-by_received view Reset received asks = unasked _ asks
-by_received view other received asks = refl
-
 by_notes : (facts : Facts) (command : Command) → asks_links facts.view command ≡ true → notes_before facts command ≡ []
 by_notes facts Reset asks = unasked _ asks
 by_notes facts other asks = refl
-
-by_events : (facts : Facts) (command : Command) → asks_links facts.view command ≡ true → events_caused facts command ≡ []
-by_events facts LeCreateCancel asks = unasked _ asks
-by_events facts other asks = refl
 
 module _ (facts : Facts) (command : Command) (asks : is_asking facts.view command ≡ true) where
   pub asking_leaves : links_after command facts.links ≡ facts.links
   asking_leaves = by_links facts.view command facts.links (asking_links facts.view command asks)
 
-  pub asking_keeps : received_after command facts.received ≡ facts.received
-  asking_keeps = by_received facts.view command facts.received (asking_links facts.view command asks)
-
   pub asking_shuts_none : notes_before facts command ≡ []
   asking_shuts_none = by_notes facts command (asking_links facts.view command asks)
-
-  pub asking_causes_none : events_caused facts command ≡ []
-  asking_causes_none = by_events facts command (asking_links facts.view command asks)
 
 -- ---- what is answered at once
 

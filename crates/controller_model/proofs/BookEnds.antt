@@ -203,14 +203,14 @@ module _ (most handle : ℕ) (fact : Fact) (kept : IsKeptInBook most handle fact
   handed_on (Some link) piece waiting since count below same book =
       (book.0, kept.handed link.setup link.past piece waiting since count (subst (λ (n : ℕ). n < most) same below) same book.1)
 
-  pub handing_book : (place : Option OpenLink) (received : List (ℕ × Piece)) (since : List Note) (count : ℕ)
-      → AllByRecursion (λ piece. piece.0 < most) received
-      → IsBook most handle fact place (filter (is_piece_on handle) received) since count
-      → IsBookAfter most handle fact place [] since count (map note_received received)
-  handing_book place [] since count below book = book
-  handing_book place (piece ∷ received) since count below book =
-      let waiting = filter (is_piece_on handle) received in
-      handing_book place received (since ++ note_received piece ∷ []) count below.1
+  pub handing_book : (place : Option OpenLink) (first rest : List (ℕ × Piece)) (since : List Note) (count : ℕ)
+      → AllByRecursion (λ piece. piece.0 < most) first
+      → IsBook most handle fact place (filter (is_piece_on handle) (first ++ rest)) since count
+      → IsBookAfter most handle fact place (filter (is_piece_on handle) rest) since count (map note_received first)
+  handing_book place [] rest since count below book = book
+  handing_book place (piece ∷ first) rest since count below book =
+      let waiting = filter (is_piece_on handle) (first ++ rest) in
+      handing_book place first rest (since ++ note_received piece ∷ []) count below.1
       (by_handle piece.0 handle
       (λ same.
       handed_on place piece waiting since count below.0 same
@@ -235,48 +235,48 @@ module _ (most handle : ℕ) (fact : Fact) (kept : IsKeptInBook most handle fact
       at (suc complete) rest =
           (completed_other most handle first (suc complete) (omega (arith, room)) (λ same. absurd (omega (arith, past, same))), rest)
 
-  reported_here : (view : View) (link : OpenLink) (complete first : ℕ) (links : Links) (since : List Note) (count : ℕ)
+  reported_here : (view : View) (link : OpenLink) (complete first : ℕ) (links : Links) (waiting : List (ℕ × Piece)) (since : List Note) (count : ℕ)
       → complete_in link ≡ complete → first ≡ handle → first + suc (length links) ≤ most
-      → IsBook most handle fact (Some link) [] since count
-      → IsBookAfter most handle fact (Some (cond (nat_lt 0 complete) (link_after DataReported link) link)) [] since count
+      → IsBook most handle fact (Some link) waiting since count
+      → IsBookAfter most handle fact (Some (cond (nat_lt 0 complete) (link_after DataReported link) link)) waiting since count
       (notes_of_events view (map event_completed (completed_by first complete ++ completed_from (first + 1) links)))
-  reported_here view link zero first links since count is same room book =
-      others_noted most handle fact kept (Some link) [] since count
+  reported_here view link zero first links waiting since count is same room book =
+      others_noted most handle fact kept (Some link) waiting since count
       (notes_of_events view (map event_completed (completed_from (first + 1) links)))
       (reports_apart view (first + 1) links (omega (arith, same)) (omega (arith, room))) book
-  reported_here view link (suc complete) first links since count is same room book =
+  reported_here view link (suc complete) first links waiting since count is same room book =
       let event = note_completed first (suc complete) in
       let after = notes_of_events view (map event_completed (completed_from (first + 1) links)) in
-      subst (λ (some : Bool). IsBookAfter most handle fact (Some (cond some (link_after DataReported link) link)) [] since count (event ∷ after))
+      subst (λ (some : Bool). IsBookAfter most handle fact (Some (cond some (link_after DataReported link) link)) waiting since count (event ∷ after))
       (sym (lt-ltb 0 (suc complete) (omega arith)))
-      (others_noted most handle fact kept (Some (link_after DataReported link)) [] (since ++ event ∷ []) count after
+      (others_noted most handle fact kept (Some (link_after DataReported link)) waiting (since ++ event ∷ []) count after
       (reports_apart view (first + 1) links (omega (arith, same)) (omega (arith, room))) (
         book.0,
-        subst (λ (n : ℕ). fact link.setup (link.past ++ DataReported ∷ []) [] (since ++ note_completed n (suc complete) ∷ []) count) (sym same)
-            (kept.reported link.setup link.past [] since count complete (omega (arith, same, room)) is book.1),
+        subst (λ (n : ℕ). fact link.setup (link.past ++ DataReported ∷ []) waiting (since ++ note_completed n (suc complete) ∷ []) count) (sym same)
+            (kept.reported link.setup link.past waiting since count complete (omega (arith, same, room)) is book.1),
       ))
 
-  pub reporting_book : (view : View) (first : ℕ) (links : Links) (since : List Note) (count : ℕ) → first + length links ≤ most
-      → IsBook most handle fact (link_from first handle links) [] since count
-      → IsBookAfter most handle fact (link_from first handle (links_reported links)) [] since count
+  pub reporting_book : (view : View) (first : ℕ) (links : Links) (waiting : List (ℕ × Piece)) (since : List Note) (count : ℕ) → first + length links ≤ most
+      → IsBook most handle fact (link_from first handle links) waiting since count
+      → IsBookAfter most handle fact (link_from first handle (links_reported links)) waiting since count
       (notes_of_events view (map event_completed (completed_from first links)))
-  reporting_book view first [] since count room book = book
-  reporting_book view first (None ∷ links) since count room book =
-      at (first == handle) refl (reporting_book view (first + 1) links since count (omega (arith, room))) book
+  reporting_book view first [] waiting since count room book = book
+  reporting_book view first (None ∷ links) waiting since count room book =
+      at (first == handle) refl (reporting_book view (first + 1) links waiting since count (omega (arith, room))) book
     where
       at : (test : Bool) → (first == handle) ≡ test
-          → (IsBook most handle fact (link_from (first + 1) handle links) [] since count
-          → IsBookAfter most handle fact (link_from (first + 1) handle (links_reported links)) [] since count
+          → (IsBook most handle fact (link_from (first + 1) handle links) waiting since count
+          → IsBookAfter most handle fact (link_from (first + 1) handle (links_reported links)) waiting since count
           (notes_of_events view (map event_completed (completed_from (first + 1) links))))
-          → IsBook most handle fact (cond test None (link_from (first + 1) handle links)) [] since count
-          → IsBookAfter most handle fact (cond test None (link_from (first + 1) handle (links_reported links))) [] since count
+          → IsBook most handle fact (cond test None (link_from (first + 1) handle links)) waiting since count
+          → IsBookAfter most handle fact (cond test None (link_from (first + 1) handle (links_reported links))) waiting since count
           (notes_of_events view (map event_completed (completed_from (first + 1) links)))
       at true e rest book =
-          others_noted most handle fact kept None [] since count (notes_of_events view (map event_completed (completed_from (first + 1) links)))
+          others_noted most handle fact kept None waiting since count (notes_of_events view (map event_completed (completed_from (first + 1) links)))
           (reports_apart view (first + 1) links (let same = eqb-true first handle e in omega (arith, same)) (omega (arith, room))) book
       at false e rest book = rest book
-  reporting_book view first (Some link ∷ links) since count room book =
-      at (first == handle) refl (λ since count. reporting_book view (first + 1) links since count (omega (arith, room))) book
+  reporting_book view first (Some link ∷ links) waiting since count room book =
+      at (first == handle) refl (λ since count. reporting_book view (first + 1) links waiting since count (omega (arith, room))) book
     where
       apart : (complete : ℕ) → first ≢ handle → AreOther most handle (notes_of_events view (map event_completed (completed_by first complete)))
       apart zero differs = tt
@@ -289,21 +289,21 @@ module _ (most handle : ℕ) (fact : Fact) (kept : IsKeptInBook most handle fact
       both (suc complete) = refl
 
       at : (test : Bool) → (first == handle) ≡ test
-          → ((since : List Note) (count : ℕ) → IsBook most handle fact (link_from (first + 1) handle links) [] since count
-          → IsBookAfter most handle fact (link_from (first + 1) handle (links_reported links)) [] since count
+          → ((since : List Note) (count : ℕ) → IsBook most handle fact (link_from (first + 1) handle links) waiting since count
+          → IsBookAfter most handle fact (link_from (first + 1) handle (links_reported links)) waiting since count
           (notes_of_events view (map event_completed (completed_from (first + 1) links))))
-          → IsBook most handle fact (cond test (Some link) (link_from (first + 1) handle links)) [] since count
-          → IsBookAfter most handle fact (cond test (Some (link_reported link)) (link_from (first + 1) handle (links_reported links))) [] since count
+          → IsBook most handle fact (cond test (Some link) (link_from (first + 1) handle links)) waiting since count
+          → IsBookAfter most handle fact (cond test (Some (link_reported link)) (link_from (first + 1) handle (links_reported links))) waiting since count
           (notes_of_events view (map event_completed (completed_by first (complete_in link) ++ completed_from (first + 1) links)))
       at true e rest book =
-          reported_here view link (complete_in link) first links since count refl (eqb-true first handle e) room book
+          reported_here view link (complete_in link) first links waiting since count refl (eqb-true first handle e) room book
       at false e rest book =
           let differs : first ≢ handle = λ same. absurd (let h : true ≡ false = sym (eq-eqb first handle same) ∙ e in absurd cc) in
           let here = notes_of_events view (map event_completed (completed_by first (complete_in link))) in
           let place = link_from (first + 1) handle links in
-          subst (λ (notes : List Note). IsBookAfter most handle fact (link_from (first + 1) handle (links_reported links)) [] since count notes)
+          subst (λ (notes : List Note). IsBookAfter most handle fact (link_from (first + 1) handle (links_reported links)) waiting since count notes)
           (sym (both (complete_in link)))
-          (and_then most handle fact kept (link_from (first + 1) handle (links_reported links)) [] since count here
+          (and_then most handle fact kept (link_from (first + 1) handle (links_reported links)) waiting since count here
           (notes_of_events view (map event_completed (completed_from (first + 1) links)))
           (rest (fold (note_since handle) since here) (fold (count_since handle) count here)
-          (others_noted most handle fact kept place [] since count here (apart (complete_in link) differs) book)))
+          (others_noted most handle fact kept place waiting since count here (apart (complete_in link) differs) book)))

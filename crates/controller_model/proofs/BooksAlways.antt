@@ -15,7 +15,7 @@ use Rattle.hci_cmd.specs.declared.command.CmdRead.TheVariants.{Known, UnknownOpc
 use Rattle.hci_cmd.specs.Command.{command_of}
 use Rattle.hci_evt.specs.declared.event.Event.TheVariants.{BufferOverflow, HardwareError}
 use Rattle.host_view.specs.Links.{was_encrypted}
-use Rattle.host_view.specs.Unbuilt.{status_of}
+use Rattle.host_view.specs.Status.{status_of}
 use Rattle.adv_pdu.specs.declared.pdu.AdvPdu.{AdvPdu}
 use Rattle.host_view.specs.scan_init.Reports.{ScannerFacts, does_ask, scan_answer}
 use Rattle.slot_plan.specs.declared.Activity.{Activity}
@@ -32,7 +32,7 @@ use Rattle.controller_model.specs.declared.doing.Doing.{Doing}
 use Rattle.controller_model.specs.Step.{Step, HostOctet, TurnBegins, PacketHeard, NothingHeard, TurnEnds}
 use Rattle.controller_model.specs.Facts.{Setup, Facts, first_facts}
 use Rattle.controller_model.specs.Commands.{facts_accepted, facts_commanded, facts_known, is_asking, links_after, moment_of, notes_commanded, received_after}
-use Rattle.controller_model.specs.Data.{event_completed, facts_ended_turn, facts_handed, facts_offered, note_received, notes_ended_turn, notes_handed, notes_offered, is_full}
+use Rattle.controller_model.specs.Data.{event_completed, facts_ended_turn, facts_handed, facts_offered, notes_ended_turn, notes_handed, notes_offered, notes_pieces, pieces_handed, is_full}
 use Rattle.controller_model.specs.Entering.{notes_all_entering}
 use Rattle.controller_model.specs.Events.{notes_of_events}
 use Rattle.controller_model.specs.Heard.{asks_if, events_received, events_reported, has_room, link_heard, link_received, link_taken, notes_taken, opens, replies_in, reply_if, scanner_after, with_scanner, facts_with_words}
@@ -42,6 +42,8 @@ use Rattle.controller_model.specs.Packets.{facts_doing, notes_doing}
 use Rattle.controller_model.specs.Radio.{outcome_begun}
 use Rattle.controller_model.specs.Side.{facts_after, facts_fed, facts_of, notes_after, notes_fed, notes_from, notes_of, result_of}
 use Rattle.controller_model.specs.Since.{count_fed, count_given, count_since, empties_from, empties_of, is_piece_on, note_completed, note_since, since_opened}
+use Rattle.host_view.specs.Flow.{left_of}
+use Rattle.controller_model.proofs.Handing.{handed_are, handed_first}
 use Rattle.controller_model.proofs.Always.{facts_ended, holds_step, leaving_is, left_doing, links_won, opening_passes}
 use Rattle.controller_model.proofs.BookEnds.{ending_book, handing_book, opening_book, reporting_book}
 use Rattle.controller_model.proofs.Books.{Fact, IsBook, IsBookAfter, IsKeptInBook, IsSilent, and_then, by_handle, is_not, one_more, others_noted, silent_book}
@@ -231,7 +233,7 @@ module _ (handle : ℕ) (fact : Fact) (setup : Setup) (kept : IsKeptInBook setup
     responds = λ channel on doing is_on. book;
     taken = λ channel octets pdu on fields other is_on hears takes free.
         let new = free_is_new facts.links other free in
-        opened_book (link_taken on.params.own pdu fields other) facts since count new.0 new.1 book;
+        opened_book (link_taken facts.view on.params.own pdu fields other) facts since count new.0 new.1 book;
     scanned = λ channel octets pdu on doing is_on hears. scanned_book true channel pdu on facts since count book;
     answered = λ channel octets pdu on doing is_on hears. scanned_book false channel pdu on facts since count book;
     connects = λ channel octets pdu on access other doing is_on hears answers next free in_range. book;
@@ -243,12 +245,18 @@ module _ (handle : ℕ) (fact : Fact) (setup : Setup) (kept : IsKeptInBook setup
   handed_book : (facts : Facts) (since : List Note) (count : ℕ) → HaveOwnHandles setup facts → AreBelow most facts.received
       → IsBookOf most handle fact facts since count → IsBookOfAfter most handle fact (facts_handed facts) since count (notes_handed facts)
   handed_book facts since count own below book =
-      let pieces = map note_received facts.received in
+      let pieces = notes_pieces facts in
       let reports = notes_of_events facts.view (map event_completed (completed_from 0 facts.links)) in
-      and_then most handle fact kept (link_at handle (links_reported facts.links)) [] since count pieces reports
-      (reporting_book most handle fact kept facts.view 0 facts.links (fold (note_since handle) since pieces) (fold (count_since handle) count pieces)
-      (omega (arith, own.many))
-      (handing_book most handle fact kept (link_at handle facts.links) facts.received since count below book))
+      let first = pieces_handed facts in
+      let left = left_of facts.view facts.received in
+      let waiting = filter (is_piece_on handle) left in
+      and_then most handle fact kept (link_at handle (links_reported facts.links)) waiting since count pieces reports
+      (reporting_book most handle fact kept facts.view 0 facts.links waiting (fold (note_since handle) since pieces)
+      (fold (count_since handle) count pieces) (omega (arith, own.many))
+      (handing_book most handle fact kept (link_at handle facts.links) first left since count
+      (handed_are (λ (piece : ℕ × Piece). piece.0 < most) facts.view facts.received below)
+      (subst (λ (all : List (ℕ × Piece)). IsBook most handle fact (link_at handle facts.links) (filter (is_piece_on handle) all) since count)
+      (sym (handed_first facts.view facts.received)) book)))
 
   -- then links end
   ended_book : (facts : Facts) (since : List Note) (count : ℕ) → HaveOwnHandles setup facts → AreBelow most facts.received

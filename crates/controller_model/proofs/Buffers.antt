@@ -54,6 +54,7 @@ use Rattle.controller_model.specs.Heard.{asks_if, has_room, link_received, link_
 use Rattle.controller_model.specs.Packets.{facts_doing, links_sending}
 use Rattle.controller_model.specs.Radio.{links_fixing}
 use Rattle.controller_model.specs.Side.{facts_of}
+use Rattle.controller_model.proofs.Handing.{left_less}
 use Rattle.controller_model.proofs.Asked.{IsAskedStep, place_asked}
 use Rattle.controller_model.proofs.Always.{IsKept, always, facts_opening, links_won, opening_passes, received_shut}
 use Rattle.controller_model.proofs.Places.{refusal_at, refusal_is}
@@ -393,7 +394,7 @@ buffers_kept setup = record {
           opening_passes (FitsBuffers setup) link facts (opened_fits setup (record { link = link; opened = facts.turn.slot }) facts.links fits);
       responds = λ channel on doing is_on. fits;
       taken = λ channel octets pdu on fields handle is_on hears takes free.
-          let link = link_taken on.params.own pdu fields handle in
+          let link = link_taken facts.view on.params.own pdu fields handle in
           opening_passes (FitsBuffers setup) link facts (opened_fits setup (record { link = link; opened = facts.turn.slot }) facts.links fits);
       scanned = λ channel octets pdu on doing is_on hears.
           sent_fits setup facts.turn.slot (asks_if (true && does_ask (scan_answer on.params facts.view.accepted on.recent pdu)) channel pdu) facts.links fits;
@@ -494,7 +495,7 @@ pieces_kept setup = record {
       fixes = λ doing facts fits. fits;
       does = λ doing facts may fits. fits;
     };
-    reports = λ facts fits. omega arith;
+    reports = λ facts fits. let less = left_less facts.view facts.received in omega (arith, less, fits);
     words = λ handle facts listens fits. fits;
     passes = λ facts fits. record {
       rests = fits;
@@ -504,7 +505,7 @@ pieces_kept setup = record {
       sent = λ channel link doing. opening_passes (FitsPieces setup) link facts (opened_pieces setup link facts fits);
       responds = λ channel on doing is_on. fits;
       taken = λ channel octets pdu on fields handle is_on hears takes free.
-          let link = link_taken on.params.own pdu fields handle in
+          let link = link_taken facts.view on.params.own pdu fields handle in
           opening_passes (FitsPieces setup) link facts (opened_pieces setup link facts fits);
       scanned = λ channel octets pdu on doing is_on hears. fits;
       answered = λ channel octets pdu on doing is_on hears. fits;

@@ -42,7 +42,7 @@ use Rattle.controller_model.proofs.OtherNotes.{acl_handle_is, past_bits, two_oct
 
 -- ---- a piece as an ACL packet
 
-flag_of : (start : Bool) (n : ℕ) → n < 4096 → ((n + boundary_of start) % 65536 / 4096 % 4 == 2) ≡ start
+pub flag_of : (start : Bool) (n : ℕ) → n < 4096 → ((n + boundary_of start) % 65536 / 4096 % 4 == 2) ≡ start
 flag_of true n below =
     let flags : (n + 0x2000) % 65536 / 4096 % 4 ≡ 2 = ap (λ m. m / 4096 % 4) (past_bits n 0x2000 below (omega arith)) ∙ omega (arith, below) in
     ap (λ m. m == 2) flags
@@ -50,16 +50,16 @@ flag_of false n below =
     let flags : (n + 0x1000) % 65536 / 4096 % 4 ≡ 1 = ap (λ m. m / 4096 % 4) (past_bits n 0x1000 below (omega arith)) ∙ omega (arith, below) in
     ap (λ m. m == 2) flags
 
-start_is : (piece : ℕ × Piece) → piece.0 < 4096 → starts_message (acl_packet piece) ≡ piece.1.start
+pub start_is : (piece : ℕ × Piece) → piece.0 < 4096 → starts_message (acl_packet piece) ≡ piece.1.start
 unfolding little_endian
 start_is piece below =
     ap (λ (n : ℕ). n / 4096 % 4 == 2) (two_octets_hold (piece.0 + boundary_of piece.1.start)) ∙ flag_of piece.1.start piece.0 below
 
-body_is : (piece : ℕ × Piece) → drop 5 (acl_packet piece) ≡ piece.1.body.items
+pub body_is : (piece : ℕ × Piece) → drop 5 (acl_packet piece) ≡ piece.1.body.items
 unfolding little_endian
 body_is piece = refl
 
-handed_data : (handle : ℕ) (piece : ℕ × Piece) → piece.0 < 4096 → piece.0 ≡ handle
+pub handed_data : (handle : ℕ) (piece : ℕ × Piece) → piece.0 < 4096 → piece.0 ≡ handle
     → data_up handle (note_received piece) ≡ data_of_piece piece
 handed_data handle piece below same =
     let octets = acl_packet piece in
@@ -70,12 +70,12 @@ handed_data handle piece below same =
 
 -- ---- notes with no data
 
-not_handed : (handle : ℕ) (note : Note) → is_handed_up_on handle note ≡ false → data_up handle note ≡ []
+pub not_handed : (handle : ℕ) (note : Note) → is_handed_up_on handle note ≡ false → data_up handle note ≡ []
 not_handed handle (Up packet) none =
     ap (λ (here : Bool). cond here (marked_octets (starts_message packet.items) (drop 5 packet.items)) []) none
 not_handed handle note none = refl
 
-none_up : (handle : ℕ) (notes : List Note) → AllByRecursion (λ note. data_up handle note ≡ []) notes → flat_map (data_up handle) notes ≡ []
+pub none_up : (handle : ℕ) (notes : List Note) → AllByRecursion (λ note. data_up handle note ≡ []) notes → flat_map (data_up handle) notes ≡ []
 none_up handle [] are = refl
 none_up handle (note ∷ notes) are = (λ i. are.0 i ++ none_up handle notes are.1 i)
 
@@ -95,9 +95,6 @@ unfolding little_endian
 no_data_completed handle other count = refl
 
 -- ---- what an end accepts
-
-accepted_in : EndFacts → List Pdu
-accepted_in facts = facts.acknowledgement.accepted
 
 silent_same : (setup : EndSetup) (facts : EndFacts) (step : EndStep) → IsSilent step
     → (end_after setup facts step).acknowledgement.accepted ≡ facts.acknowledgement.accepted
@@ -227,10 +224,10 @@ pub data_is_handed : (setup : Setup) (past : List Step) (handle : ℕ) (link : O
 data_is_handed setup past handle link few is =
     (book_of handle (IsHandedUp setup.links handle few) setup (handed_kept setup.links handle few) past link is).1
 
-pub all_is_handed : (setup : Setup) (past : List Step) (handle : ℕ) (link : OpenLink) → setup.links ≤ 4096 → is_between_turns past ≡ true
-    → link_at handle (facts_of setup past).links ≡ Some link
+pub all_is_handed : (setup : Setup) (past : List Step) (handle : ℕ) (link : OpenLink) → setup.links ≤ 6 → is_between_turns past ≡ true
+    → (facts_of setup past).view.flow.on ≡ false → link_at handle (facts_of setup past).links ≡ Some link
     → flat_map (data_up handle) (since_opened handle (notes_of setup past)) ≡ data_of (facts_in link).acknowledgement.accepted
-all_is_handed setup past handle link few between is =
+all_is_handed setup past handle link few between off is =
     let handed = flat_map (data_up handle) (since_opened handle (notes_of setup past)) in
-    sym (append-nil handed) ∙ ap (λ received. handed ++ data_waiting handle received) (sym (nothing_waits setup past between))
-    ∙ data_is_handed setup past handle link few is
+    sym (append-nil handed) ∙ ap (λ received. handed ++ data_waiting handle received) (sym (nothing_waits setup past few between off))
+    ∙ data_is_handed setup past handle link (omega (arith, few)) is

@@ -16,7 +16,7 @@ use Rattle.hci_cmd.specs.declared.command.CmdRead.{CmdRead}
 use Rattle.hci_cmd.specs.declared.command.CmdRead.TheVariants.{Known, UnknownOpcode, BadLength}
 use Rattle.hci_cmd.specs.Command.{command_of}
 use Rattle.hci_evt.specs.declared.event.Event.TheVariants.{HardwareError}
-use Rattle.host_view.specs.Unbuilt.{status_of}
+use Rattle.host_view.specs.Status.{status_of}
 use Rattle.host_view.specs.View.{View}
 use Rattle.link_commands.specs.open_links.link_model.Step.{EventEntered}
 use Rattle.link_commands.specs.open_links.link_model.Facts.{Facts as EndFacts}
@@ -63,12 +63,12 @@ use Rattle.controller_model.proofs.Asked.{noted_asking, notes_at_once}
 abbrev next_in : ℕ → OpenLink → EndFacts
 next_in slot link = facts_entered link.setup slot (facts_in link)
 
-none_of : (ends : Option ErrCode) → is_none ends ≡ true → ends ≡ None
+pub none_of : (ends : Option ErrCode) → is_none ends ≡ true → ends ≡ None
 none_of None is = refl
 none_of (Some code) is = absurd cc
 
 -- a PDU of the encryption may be queued
-owing_track : (c d : Control) → Owing c d → d.track ≡ c.track
+pub owing_track : (c d : Control) → Owing c d → d.track ≡ c.track
 owing_track c d (Same is) = ap (λ (x : Control). x.track) is
 owing_track c d (Owed ctrl may is) = ap (λ (x : Control). x.track) is ∙ table_alone c (Owes ctrl) refl
 

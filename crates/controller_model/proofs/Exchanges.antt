@@ -124,14 +124,6 @@ doing_stays doing facts is =
 
 -- ---- a turn begins
 
-entered_only : (place : Option OpenLink) → HasEntered (in_event place)
-entered_only None = tt
-entered_only (Some link) = at (has_entered link) refl
-  where
-    at : (test : Bool) → has_entered link ≡ test → HasEntered (if test then Some link else None)
-    at true is = is
-    at false is = tt
-
 -- the link that is looked at is the one under the handle
 exchange_in_event : (role : Role) (handle : ℕ) (links : Links) → HasEntered (link_at handle links) → IsInEvent (exchange_begins role handle) links
 exchange_in_event Central handle links has = has

@@ -12,7 +12,7 @@ use Rattle.hci_cmd.specs.declared.command.Command.{Command}
 use Rattle.hci_cmd.specs.declared.command.CmdRead.{CmdRead}
 use Rattle.hci_cmd.specs.declared.command.CmdRead.TheVariants.{Known, UnknownOpcode, BadLength}
 use Rattle.hci_cmd.specs.Command.{command_of}
-use Rattle.host_view.specs.Unbuilt.{status_of}
+use Rattle.host_view.specs.Status.{status_of}
 use Rattle.controller_model.specs.Step.{Step, HostOctet, TurnBegins, PacketHeard, NothingHeard, TurnEnds}
 use Rattle.controller_model.specs.Facts.{Setup, Facts, first_facts}
 use Rattle.controller_model.specs.Commands.{facts_commanded, facts_known}
@@ -25,7 +25,7 @@ use Rattle.controller_model.proofs.Always.{IsInTurn, IsKeptInTurns, opening_pass
 use Rattle.controller_model.specs.Host.{commands_from, commands_in, commands_of, host_octets, opcode_in, opcodes_in, opcodes_of}
 use Rattle.controller_model.proofs.Asked.{of_asking}
 
-first_entry : (place : ℕ) (fed : Fed) → first_result (frame_entry place fed) ≡ fed
+pub first_entry : (place : ℕ) (fed : Fed) → first_result (frame_entry place fed) ≡ fed
 first_entry place More = refl
 first_entry place (Packet packet) = refl
 first_entry place LostSync = refl
@@ -153,7 +153,7 @@ octets_kept setup octets = record {
     central_listens = λ handle doing. is;
     sent = λ channel link doing. opening_passes (Has octets) link facts is;
     responds = λ channel on doing is_on. is;
-    taken = λ channel heard pdu on fields handle is_on hears takes free. opening_passes (Has octets) (link_taken on.params.own pdu fields handle) facts is;
+    taken = λ channel heard pdu on fields handle is_on hears takes free. opening_passes (Has octets) (link_taken facts.view on.params.own pdu fields handle) facts is;
     scanned = λ channel heard pdu on doing is_on hears. is;
     answered = λ channel heard pdu on doing is_on hears. is;
     connects = λ channel heard pdu on access handle doing is_on hears answers next free in_range. is;

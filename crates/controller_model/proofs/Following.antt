@@ -5,6 +5,8 @@ use Rattle.std.specs.List.{AllByRecursion}
 use Rattle.ble_base.specs.declared.notes.Note.{Note}
 use Rattle.ble_base.specs.declared.notes.Note.TheVariants.{Up, Opened, Shut, Took}
 use Rattle.hci_evt.specs.declared.event.Event.{Event}
+use Rattle.hci_evt.specs.declared.event.MaskBit.{MaskBit}
+use Rattle.hci_evt.specs.declared.event.MaskBit.TheVariants.{Always, Main, Meta}
 use Rattle.hci_evt.specs.Event.{mask_bit_of, written}
 use Rattle.host_view.specs.Links.{was_encrypted}
 use Rattle.host_view.specs.declared.links.Link.{Link as ViewLink}
@@ -102,6 +104,32 @@ note_changes view (Opened handle role own peer) of = absurd of
 note_changes view (Shut handle reason) of = absurd of
 note_changes view (Took handle number llid body) of = started_changes view handle (is_start_rsp llid body.items)
 note_changes view other of = refl
+
+-- the masks are those of before
+abbrev told_if : View → Bool → Event → List Event → List Note
+told_if view passed event events =
+    map (λ event. Up (record { items = written event }))
+    (if passed then event ∷ filter (λ event. passes view (mask_bit_of event)) events
+    else filter (λ event. passes view (mask_bit_of event)) events)
+
+passes_same : (view : View) (links : List (Option ViewLink)) (bit : MaskBit) → passes (record view { links = links }) bit ≡ passes view bit
+passes_same view links Always = refl
+passes_same view links (Main bit) = refl
+passes_same view links (Meta bit) = refl
+
+pub told_same : (view : View) (links : List (Option ViewLink)) (events : List Event)
+    → notes_of_events (record view { links = links }) events ≡ notes_of_events view events
+told_same view links [] = refl
+told_same view links (event ∷ events) =
+    by (passes (record view { links = links }) (mask_bit_of event)) (passes view (mask_bit_of event)) (passes_same view links (mask_bit_of event))
+    (told_same view links events)
+  where
+    by : (one other : Bool) → one ≡ other → notes_of_events (record view { links = links }) events ≡ notes_of_events view events
+        → told_if (record view { links = links }) one event events ≡ told_if view other event events
+    by true true same rest = ap (λ notes. Up (record { items = written event }) ∷ notes) rest
+    by false false same rest = rest
+    by true false same rest = absurd cc
+    by false true same rest = absurd cc
 
 abbrev pub view_followed : View → List Note → View
 view_followed view notes = record view { links = (fold view_noted view notes).links }

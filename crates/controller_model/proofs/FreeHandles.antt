@@ -1,5 +1,5 @@
 -- While a controller initiates it has a free handle.
-use Rattle.std.proofs.Common.{◌≡◌, ℕ, ◌≤◌, true, false, Option, Some, None, List, refl, ap, arith}
+use Rattle.std.proofs.Common.{◌≡◌, ℕ, ◌-◌, ◌≤◌, true, false, Option, Some, None, List, ◌++◌, replicate, refl, ap, arith}
 use Rattle.std.specs.Prelude.{is_some, IsSome}
 use Rattle.ble_base.specs.declared.roles.Role.TheVariants.{Central, Peripheral}
 use Rattle.ble_base.specs.declared.roles.Role.{Role}
@@ -12,6 +12,7 @@ use Rattle.controller_model.specs.Step.{Step, HostOctet, TurnBegins, PacketHeard
 use Rattle.controller_model.specs.Facts.{Setup, Facts}
 use Rattle.controller_model.specs.Side.{facts_after, facts_of}
 use Rattle.controller_model.proofs.Always.{IsInTurn, advertising_noted, initiator_stopped, kept_always, octet_keeps}
+use Rattle.controller_model.proofs.OpenPlaces.{opens}
 use Rattle.controller_model.proofs.Room.{HasRoom, may_connect, room_after}
 use Rattle.controller_model.proofs.ViewRoom.{IsKnown, IsRoomLeft, KnowsOwn, Makes, first_known, first_own, full_view, octet_known, own_after, turn_known}
 
@@ -71,6 +72,11 @@ module _ (setup : Setup) (few : setup.links ≤ 6) where
       }) past
 
 -- ---- at any time
+
+-- the places of the view are those of the controller, and then free
+pub places_agree : (setup : Setup) (past : List Step) → setup.links ≤ 6
+    → opens (facts_of setup past).view.links ≡ opens (facts_of setup past).links ++ replicate (6 - setup.links) false
+places_agree setup past few = (always_in_step setup few past).in_turn.0.places
 
 some_free : (setup : Setup) (facts : Facts) (free : Option ℕ) → free_from 0 facts.links ≡ free → IsInStep setup facts
     → is_some facts.initiator ≡ true → IsSome free

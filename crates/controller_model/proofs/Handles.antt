@@ -11,16 +11,16 @@ use Rattle.adv_pdu.specs.Pdu.{sender_of}
 use Rattle.host_view.specs.scan_init.Reports.{does_ask, scan_answer}
 use Rattle.link_commands.specs.open_links.link_model.declared.setup.LinkSetup.{LinkSetup}
 use Rattle.link_commands.specs.open_links.link_model.Setup.{Setup as EndSetup}
-use Rattle.link_commands.specs.open_links.link_model.Step.{Step as EndStep, DataGiven, DataReported, PduFixed, PacketSent, PacketReceived, WordsGiven}
+use Rattle.link_commands.specs.open_links.link_model.Step.{Step as EndStep, DataGiven, PduFixed, PacketSent, PacketReceived, WordsGiven}
 use Rattle.slot_plan.specs.declared.Activity.{Activity}
 use Rattle.slot_plan.specs.declared.Activity.TheVariants.{Link, Advertise, Scan, Initiate}
 use Rattle.link_commands.specs.open_links.Data.{complete_in, link_reported}
 use Rattle.link_commands.specs.open_links.OpenLinks.{Links, OpenLink, HasHandle, HaveHandles, IsFreeHandle, free_from, link_after, link_at, link_from, link_served, with_change, with_change_from, without_links}
-use Rattle.link_commands.specs.open_links.Turns.{ending_in, link_entered, links_without, place_without}
+use Rattle.link_commands.specs.open_links.Turns.{link_entered, links_without, place_without}
 use Rattle.link_commands.proofs.open_links.Counts.{count_at_first, count_changing, count_ending, count_opening, count_resetting}
+use Rattle.link_commands.proofs.open_links.Steps.{reported_setup, without_handles}
 use Rattle.link_commands.proofs.open_links.Unmoved.{entered_setup}
 use Rattle.link_commands.proofs.open_links.Ends.{stay_with_handles, stays_where_not_due}
-use Rattle.link_commands.proofs.open_links.UnderHandles.{map_at}
 use Rattle.link_commands.proofs.open_links.Handles.{changed_have, free_is, none_have, opened_has, place_keeps}
 use Rattle.controller_model.specs.declared.doing.Doing.{Doing}
 use Rattle.controller_model.specs.declared.doing.Doing.TheVariants.{Advertises, AwaitsRequest, Responds, Requests, AwaitsResponse, Connects, CentralSends, CentralListens, PeripheralListens, PeripheralSends, Rests}
@@ -30,14 +30,12 @@ use Rattle.controller_model.specs.Step.{Step}
 use Rattle.controller_model.specs.Facts.{Setup, Facts}
 use Rattle.controller_model.specs.Commands.{links_after, moment_of}
 use Rattle.controller_model.specs.Heard.{asks_if, facts_connecting, fields_sent, has_room, link_made, link_received, link_taken, opens, replies_in, reply_if, scanner_after, with_scanner, facts_with_words}
-use Rattle.controller_model.specs.Data.{facts_ended_turn, facts_handed}
-use Rattle.controller_model.specs.Links.{facts_without}
 use Rattle.controller_model.specs.Packets.{facts_doing, links_sending}
 use Rattle.controller_model.specs.Outcome.{facts_passed}
 use Rattle.controller_model.specs.Radio.{links_fixing}
 use Rattle.controller_model.specs.Side.{facts_of}
 use Rattle.controller_model.proofs.Asked.{asked_handles, asked_many, asked_none}
-use Rattle.controller_model.proofs.Always.{IsKept, MayBegin, always, links_won, opening_passes, without_is}
+use Rattle.controller_model.proofs.Always.{IsKept, MayBegin, always, links_won, opening_passes}
 use Rattle.controller_model.proofs.Phases.{EachOutcome}
 use Rattle.controller_model.proofs.Places.{link_receiving, receiving_is, refused_if, refusal_at}
 
@@ -65,14 +63,10 @@ map_keeps change none first handle (place ∷ links) free =
     at true is rest = ap change is ∙ none
     at false is rest = rest is
 
-shut_have : (first : ℕ) (links : Links) → HaveHandles first (without_links links)
-shut_have first [] = tt
-shut_have first (place ∷ links) = (tt, shut_have (first + 1) links)
-
 reset_opens : (links : Links) → OpensNone links (without_links links)
 reset_opens links = record {
   many = count_resetting links;
-  handles = λ have. shut_have 0 links;
+  handles = λ have. without_handles 0 links;
   free = λ handle none. map_keeps (λ place. None) refl 0 handle links none;
 }
 
@@ -82,19 +76,6 @@ staying_opens reason links = record {
   handles = λ have. stay_with_handles reason 0 links have;
   free = λ handle none. stays_where_not_due reason 0 handle links ∙ ap (place_without reason) none;
 }
-
--- a link that ends, for a reason that some links have, leaves its place empty, and no other
-pub without_at : (reason : OpenLink → Option ℕ) (handle : ℕ) (facts : Facts)
-    → link_at handle (facts_without reason facts).links ≡ place_without reason (link_at handle facts.links)
-without_at reason handle facts =
-    ap (λ (ended : Facts). link_at handle ended.links) (without_is reason facts) ∙ stays_where_not_due reason 0 handle facts.links
-
--- as a turn ends, each link is reported, and then may end
-pub ended_turn_at : (handle : ℕ) (facts : Facts)
-    → link_at handle (facts_ended_turn facts).links ≡ place_without ending_in (option_map link_reported (link_at handle facts.links))
-ended_turn_at handle facts =
-    without_at ending_in handle (facts_handed facts)
-    ∙ ap (place_without ending_in) (map_at (option_map link_reported) 0 handle facts.links refl)
 
 mapped_have : (change : OpenLink → OpenLink) → ((link : OpenLink) → (change link).setup ≡ link.setup) → (first : ℕ) (links : Links)
     → HaveHandles first links → HaveHandles first (map (option_map change) links)
@@ -113,12 +94,8 @@ mapped_opens change links same = record {
 pub entered_same : (slot : ℕ) (link : OpenLink) → (link_entered slot link).setup ≡ link.setup
 entered_same slot link = entered_setup slot link
 
-reported_if : (reports : Bool) (link : OpenLink) → (if reports then link_after DataReported link else link).setup ≡ link.setup
-reported_if true link = refl
-reported_if false link = refl
-
 pub reported_same : (link : OpenLink) → (link_reported link).setup ≡ link.setup
-reported_same link = reported_if (nat_lt 0 (complete_in link)) link
+reported_same link = reported_setup (nat_lt 0 (complete_in link)) link
 
 -- a change of one place
 change_free : (change : Option OpenLink → Option OpenLink) → change None ≡ None → (first handle other : ℕ) (links : Links)
@@ -277,11 +254,11 @@ passes_fits setup facts fits = record {
   central_listens = λ handle doing. fits_doing setup (CentralListens handle) facts fits.many fits.handles tt;
   sent = λ channel link doing. opened_fits setup link facts fits;
   responds = λ channel on doing is_on. fits_doing setup (Responds channel) facts fits.many fits.handles tt;
-  taken = λ channel octets pdu on fields handle is_on hears takes free. opened_fits setup (link_taken on.params.own pdu fields handle) facts fits;
+  taken = λ channel octets pdu on fields handle is_on hears takes free. opened_fits setup (link_taken facts.view on.params.own pdu fields handle) facts fits;
   scanned = λ channel octets pdu on doing is_on hears. asks_fits setup (true && does_ask (scan_answer on.params facts.view.accepted on.recent pdu)) channel pdu (with_scanner (scanner_after on facts.view.accepted pdu) facts) fits.many fits.handles;
   answered = λ channel octets pdu on doing is_on hears. asks_fits setup (false && does_ask (scan_answer on.params facts.view.accepted on.recent pdu)) channel pdu (with_scanner (scanner_after on facts.view.accepted pdu) facts) fits.many fits.handles;
   connects = λ channel octets pdu on access handle doing is_on hears answers next free in_range.
-      fits_doing setup (Connects channel (link_made on.params.own pdu (fields_sent setup on access facts) handle)) (facts_connecting setup facts)
+      fits_doing setup (Connects channel (link_made facts.view on.params.own pdu (fields_sent setup on access facts) handle)) (facts_connecting setup facts)
       fits.many fits.handles (free_is_new facts.links handle free);
   received = λ handle octets.
       reply_fits setup (replies_in facts.turn.slot (has_room setup facts) (link_at handle facts.links) octets) (has_room setup facts)

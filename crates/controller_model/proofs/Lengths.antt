@@ -7,7 +7,7 @@ use Rattle.ble_base.specs.declared.roles.Role.TheVariants.{Central, Peripheral}
 use Rattle.hci_cmd.specs.declared.command.Command.{Command}
 use Rattle.hci_cmd.specs.declared.command.Command.TheVariants.{Reset, LeSetAdvParams, LeSetAdvEnable}
 use Rattle.host_view.specs.View.{View}
-use Rattle.host_view.specs.Unbuilt.{status_of}
+use Rattle.host_view.specs.Status.{status_of}
 use Rattle.advertise.specs.declared.params.AdvParams.{AdvParams}
 use Rattle.advertise.specs.Advertising.{AdvertiserFacts}
 use Rattle.host_view.specs.scan_init.Windows.{slots_of}
@@ -100,7 +100,7 @@ long_kept setup = record {
       sent = λ channel link doing. opening_passes IsLong link facts (opened_long link.role facts.advertising long);
       responds = λ channel on doing is_on. long;
       taken = λ channel octets pdu on fields handle is_on hears takes free.
-          opening_passes IsLong (link_taken on.params.own pdu fields handle) facts (opened_long Peripheral facts.advertising long);
+          opening_passes IsLong (link_taken facts.view on.params.own pdu fields handle) facts (opened_long Peripheral facts.advertising long);
       scanned = λ channel octets pdu on doing is_on hears. long;
       answered = λ channel octets pdu on doing is_on hears. long;
       connects = λ channel octets pdu on access handle doing is_on hears answers next free in_range. long;

@@ -2,6 +2,7 @@
 pub mod Pasts
 pub mod Phases
 pub mod Following
+pub mod Handing
 pub mod Asked
 pub mod Always
 pub mod Handles
@@ -9,6 +10,9 @@ pub mod Places
 pub mod Exchanges
 pub mod Buffers
 pub mod BetweenTurns
+pub mod FlowOff
+pub mod HostBuffers
+pub mod HostWindow
 pub mod ProcedureEvents
 pub mod EndNotes
 pub mod TurnNotes

@@ -30,7 +30,7 @@ use Rattle.controller_model.specs.declared.doing.Doing.{Doing}
 use Rattle.controller_model.specs.declared.doing.Doing.TheVariants.{Advertises, CentralSends, PeripheralSends}
 use Rattle.link_commands.specs.open_links.declared.offers.Offer.{Offer}
 use Rattle.link_commands.specs.open_links.declared.offers.Offer.TheVariants.{NoLink, Empty, Overflow, Kept}
-use Rattle.controller_model.specs.Data.{acl_packet, event_completed, facts_handed, note_received, notes_ended_turn, notes_handed, notes_offered}
+use Rattle.controller_model.specs.Data.{acl_packet, event_completed, facts_handed, note_received, notes_ended_turn, notes_handed, notes_offered, notes_pieces, pieces_handed}
 use Rattle.controller_model.specs.Entering.{events_entering, notes_all_entering}
 use Rattle.controller_model.specs.Heard.{events_received, events_reported, has_room, link_heard, notes_taken, opens, scanner_heard}
 use Rattle.controller_model.specs.Links.{ends_for, events_opened, note_opened, note_shut, notes_ended, notes_leaving, notes_opened}
@@ -151,7 +151,7 @@ module _ (P : Note → Type 0) (of : IsOfOthers P) where
 
   pub handed_too : (facts : Facts) → All P (notes_handed facts)
   handed_too facts =
-      All-append P (map note_received facts.received) _ (pieces_too facts.received)
+      All-append P (notes_pieces facts) _ (pieces_too (pieces_handed facts))
       (events_too facts.view (map event_completed (completed_from 0 facts.links)))
 
   -- links that end
@@ -166,7 +166,7 @@ module _ (P : Note → Type 0) (of : IsOfOthers P) where
       → All P (notes_ended_turn facts)
   ended_turn_too facts shut =
       All-append P (notes_handed facts) (notes_leaving (facts_handed facts)) (handed_too facts)
-      (ends_too facts.view (ends_for ending_in (facts_handed facts)) shut)
+      (ends_too (facts_handed facts).view (ends_for ending_in (facts_handed facts)) shut)
 
   pub offered_too : (view : View) (offer : Offer) (handle : ℕ) → All P (notes_offered view offer handle)
   offered_too view NoLink handle = All-nil P

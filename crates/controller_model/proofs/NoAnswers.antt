@@ -12,7 +12,7 @@ use Rattle.hci_cmd.specs.declared.command.CmdRead.TheVariants.{Known}
 use Rattle.hci_evt.specs.Event.{mask_bit_of, written}
 use Rattle.hci_evt.specs.declared.event.Event.{Event}
 use Rattle.hci_evt.specs.declared.event.Event.TheVariants.{DisconnectionComplete, CommandComplete, CommandStatus, HardwareError, CompletedPackets, BufferOverflow}
-use Rattle.host_view.specs.Unbuilt.{status_of}
+use Rattle.host_view.specs.Status.{status_of}
 use Rattle.host_view.specs.View.{View}
 use Rattle.link_commands.specs.open_links.OpenLinks.{handles_from}
 use Rattle.link_commands.specs.open_links.declared.offers.Offer.{Offer}

@@ -1,8 +1,11 @@
 -- A controller that has no link and is about to make none, as its turns go on.
-use Rattle.std.proofs.Common.{◌≡◌, ℕ, zero, suc, ◌+◌, ◌==◌, Bool, true, false, Option, Some, None, [], ◌∷◌, ◌++◌, replicate, map, refl, ap, sym, ◌∙◌, subst}
-use Rattle.std.specs.Prelude.{⊤, flat_map, if◌then◌else◌}
+use Rattle.std.proofs.Common.{◌≡◌, ℕ, zero, suc, ◌+◌, ◌==◌, Bool, true, false, Option, Some, None, List, [], ◌∷◌, ◌++◌, replicate, map, refl, ap, sym, ◌∙◌, subst}
+use Rattle.std.specs.Prelude.{⊤, flat_map, fold, if◌then◌else◌}
 use Rattle.std.specs.Option.{option_map}
+use Rattle.acl_banks.specs.declared.pieces.Piece.{Piece}
 use Rattle.host_view.specs.View.{View}
+use Rattle.host_view.specs.Flow.{left_of}
+use Rattle.host_view.specs.Noted.{view_noted}
 use Rattle.hci_cmd.specs.declared.command.Command.{Command}
 use Rattle.hci_cmd.specs.declared.command.Command.TheVariants.{Reset}
 use Rattle.link_commands.specs.open_links.link_model.Step.{PacketSent, PduFixed}
@@ -18,7 +21,7 @@ use Rattle.link_commands.specs.LinksCommanded.{links_commanded_from, place_comma
 use Rattle.link_commands.specs.Commands.{is_about}
 use Rattle.controller_model.specs.Facts.{Facts}
 use Rattle.controller_model.specs.Commands.{links_after}
-use Rattle.controller_model.specs.Data.{event_completed, facts_ended_turn, facts_handed, note_received, notes_ended_turn}
+use Rattle.controller_model.specs.Data.{event_completed, facts_ended_turn, facts_handed, note_received, notes_ended_turn, pieces_handed}
 use Rattle.controller_model.specs.Entering.{notes_all_entering}
 use Rattle.controller_model.specs.Events.{notes_of_events}
 use Rattle.controller_model.specs.Links.{notes_ended}
@@ -26,6 +29,7 @@ use Rattle.controller_model.specs.Packets.{facts_doing, links_sending, notes_doi
 use Rattle.controller_model.specs.Radio.{links_fixing}
 use Rattle.controller_model.proofs.Alike.{Alike}
 use Rattle.controller_model.proofs.Following.{view_followed}
+use Rattle.controller_model.proofs.Handing.{handed_none, left_none}
 use Rattle.controller_model.proofs.Always.{IsKeptAtStarts, MayBegin, leaving_is, links_won, received_shut, view_shut}
 
 -- ---- no link
@@ -131,11 +135,19 @@ none_noted (PeripheralSends handle) facts none = ap (notes_sent facts.turn.slot)
 none_noted (Advertises channel) facts none = refl
 none_noted other facts none = refl
 
+-- nothing waits, so nothing is sent, and nothing waits further
+none_to_hand : (facts : Facts) → facts.received ≡ [] → pieces_handed facts ≡ []
+none_to_hand facts nothing = handed_none facts.view facts.received nothing
+
+none_kept_back : (facts : Facts) → facts.received ≡ [] → left_of facts.view facts.received ≡ []
+none_kept_back facts nothing = left_none facts.view facts.received nothing
+
 pub nothing_reported : (facts : Facts) → AreNone facts.links → facts.received ≡ [] → notes_ended_turn facts ≡ []
 nothing_reported facts none nothing =
     let still = subst AreNone (sym (none_reported facts.links none)) none in
-    λ i. (map note_received (nothing i) ++ notes_of_events facts.view (map event_completed (completed_none 0 facts.links none i)))
-    ++ flat_map (notes_ended facts.view) (none_end ending_in 0 (links_reported facts.links) still i)
+    λ i. (map note_received (none_to_hand facts nothing i)
+    ++ notes_of_events facts.view (map event_completed (completed_none 0 facts.links none i)))
+    ++ flat_map (notes_ended (facts_handed facts).view) (none_end ending_in 0 (links_reported facts.links) still i)
 
 pub none_changed : (handle : ℕ) (change : OpenLink → OpenLink) (links : Links) → AreNone links → with_change handle change links ≡ links
 none_changed handle change links none = none_change (option_map change) refl 0 handle links none
@@ -220,4 +232,7 @@ pub ended_like : (other facts : Facts) → IsLike other facts → IsLike other (
 ended_like other facts like =
     subst (IsLike other) (sym (leaving_is (facts_handed facts)))
     ((start_like other).ends ending_in (facts_handed facts)
-    (links_like other facts _ refl refl refl (none_reported facts.links like.none) (sym like.nothing) refl like))
+    (links_like other facts _ refl
+    (ap (λ (pieces : List (ℕ × Piece)). record facts.view { links = (fold view_noted facts.view (map note_received pieces)).links })
+    (none_to_hand facts like.nothing)) refl (none_reported facts.links like.none)
+    (none_kept_back facts like.nothing ∙ sym like.nothing) refl like))

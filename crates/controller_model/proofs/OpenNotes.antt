@@ -35,7 +35,7 @@ use Rattle.controller_model.specs.declared.doing.Doing.TheVariants.{Advertises, 
 use Rattle.controller_model.specs.Step.{Step, HostOctet, TurnBegins, PacketHeard, NothingHeard, TurnEnds}
 use Rattle.controller_model.specs.Facts.{Setup, Facts}
 use Rattle.controller_model.specs.Commands.{facts_commanded, notes_commanded}
-use Rattle.controller_model.specs.Data.{event_completed, facts_handed, facts_offered, is_full, note_received, notes_handed, notes_offered}
+use Rattle.controller_model.specs.Data.{event_completed, facts_handed, facts_offered, is_full, note_received, notes_handed, notes_offered, notes_pieces, pieces_handed}
 use Rattle.controller_model.specs.Entering.{notes_all_entering}
 use Rattle.controller_model.specs.Events.{notes_of_events}
 use Rattle.controller_model.specs.Heard.{asks_if, events_received, events_reported, has_room, link_heard, link_received, link_taken, notes_taken, opens, replies_in, reply_if, scanner_after, with_scanner, facts_with_words}
@@ -46,6 +46,7 @@ use Rattle.controller_model.specs.Packets.{facts_doing, links_sending, notes_doi
 use Rattle.controller_model.specs.Radio.{outcome_begun}
 use Rattle.controller_model.specs.Side.{facts_after, facts_fed, facts_of, notes_after, notes_fed, result_of}
 use Rattle.controller_model.specs.Since.{is_data_note, is_piece_on, note_completed}
+use Rattle.controller_model.proofs.Handing.{handed_are, none_handed}
 use Rattle.controller_model.proofs.Always.{leaving_is, left_doing}
 use Rattle.controller_model.proofs.Books.{Fact, IsKeptInBook, by_handle, elsewhere_sent, elsewhere_took}
 use Rattle.controller_model.proofs.BookEnds.{reports_apart}
@@ -58,10 +59,10 @@ use Rattle.controller_model.proofs.Places.{at_changed, at_received, link_receivi
 use Rattle.controller_model.proofs.ProcedureEvents.{reception_events}
 
 -- a fact that says nothing
-abbrev AnyFact : Fact
+abbrev pub AnyFact : Fact
 AnyFact setup past waiting since count = ⊤
 
-any_kept : (most handle : ℕ) → IsKeptInBook most handle AnyFact
+pub any_kept : (most handle : ℕ) → IsKeptInBook most handle AnyFact
 any_kept most handle = record {
   opened = λ setup same. tt;
   other = λ setup past waiting since count note is fact. tt;
@@ -293,7 +294,7 @@ module _ (handle : ℕ) (setup : Setup) (few : setup.links ≤ 4096) where
     sent = λ channel link doing. opened_in link facts (facts_passed (opens link facts)).links;
     responds = λ channel on doing is_on. tt;
     taken = λ channel octets pdu on fields other is_on hears takes free.
-        let link = link_taken on.params.own pdu fields other in
+        let link = link_taken facts.view on.params.own pdu fields other in
         opened_in link facts (facts_passed (opens link facts)).links;
     scanned = λ channel octets pdu on doing is_on hears. scanned_in true channel pdu on facts own;
     answered = λ channel octets pdu on doing is_on hears. scanned_in false channel pdu on facts own;
@@ -353,10 +354,11 @@ module _ (handle : ℕ) (setup : Setup) (few : setup.links ≤ 4096) where
       → (link_at handle facts.links ≡ None → filter (is_piece_on handle) facts.received ≡ []) → link_at handle facts.links ≡ place
       → (IsSome (link_at handle facts.links) → IsSome (link_at handle after)) → AreOpenIn facts.links after (notes_handed facts)
   handed_by None facts after own below waits is stays =
-      let pieces = map note_received facts.received in
       let reports = notes_of_events facts.view (map event_completed (completed_from 0 facts.links)) in
-      others facts.links after (pieces ++ reports)
-      (both_other most handle pieces reports (pieces_other facts.received below (waits is))
+      others facts.links after (notes_handed facts)
+      (both_other most handle (notes_pieces facts) reports
+      (pieces_other (pieces_handed facts) (handed_are (λ (piece : ℕ × Piece). piece.0 < most) facts.view facts.received below)
+      (none_handed (is_piece_on handle) facts.view facts.received (waits is)))
       (reports_other facts.view 0 facts.links (omega (arith, own.many)) is))
   handed_by (Some link) facts after own below waits is stays =
       let some = subst (λ (found : Option OpenLink). IsSome found) (sym is) refl in

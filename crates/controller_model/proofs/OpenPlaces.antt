@@ -60,10 +60,6 @@ count_many (link ∷ links) =
     sum_by-append (λ (place : Option ViewLink). cond (is_some place) 1 0) (link ∷ []) links
     ∙ count_one (is_some link) (opens links) (count_by is_some links) (count_many links)
 
-many_more : (place : Bool) (places : List Bool) → many (place ∷ places) ≤ many places + 1
-many_more true places = omega arith
-many_more false places = omega arith
-
 many_less : (place : Bool) (places : List Bool) → many places ≤ many (place ∷ places)
 many_less true places = omega arith
 many_less false places = omega arith

@@ -18,7 +18,7 @@ use Rattle.hci_evt.specs.declared.event.Event.{Event}
 use Rattle.hci_evt.specs.declared.event.Event.TheVariants.{CommandComplete, CommandStatus, CompletedPackets, DisconnectionComplete}
 use Rattle.host_view.specs.Noted.{acl_handle, two_octets}
 use Rattle.host_view.specs.View.{View}
-use Rattle.host_view.specs.Unbuilt.{status_of}
+use Rattle.host_view.specs.Status.{status_of}
 use Rattle.adv_pdu.specs.declared.pdu.AdvPdu.{AdvPdu}
 use Rattle.host_view.specs.scan_init.declared.reports.ReportKind.{ReportKind}
 use Rattle.host_view.specs.scan_init.declared.scanner.ScanAnswer.{ScanAnswer}

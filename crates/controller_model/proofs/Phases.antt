@@ -32,7 +32,7 @@ pub record EachOutcome (setup : Setup) (facts : Facts) (P : Outcome → Type 0) 
   pub taken : (channel : ℕ) (octets : List ℕ) (pdu : AdvPdu) (on : AdvertiserFacts) (fields : ConnectFields) (handle : ℕ)
       → facts.advertising.on ≡ Some on → pdu_heard channel octets ≡ Some pdu
       → advertiser_answer on.params facts.view.accepted pdu ≡ Takes fields → free_from 0 facts.links ≡ Some handle
-      → P (opens (link_taken on.params.own pdu fields handle) facts)
+      → P (opens (link_taken facts.view on.params.own pdu fields handle) facts)
   pub scanned : (channel : ℕ) (octets : List ℕ) (pdu : AdvPdu) (on : ScannerFacts) → facts.turn.doing ≡ Scans channel
       → facts.scanning.on ≡ Some on → pdu_heard channel octets ≡ Some pdu → P (scanner_heard (Some on) true channel pdu facts)
   pub answered : (channel : ℕ) (octets : List ℕ) (pdu : AdvPdu) (on : ScannerFacts) → facts.turn.doing ≡ AwaitsResponse channel
@@ -42,7 +42,7 @@ pub record EachOutcome (setup : Setup) (facts : Facts) (P : Outcome → Type 0) 
       → answers_by_connecting on pdu facts ≡ true → next_access_of setup facts ≡ Some access
       → free_from 0 facts.links ≡ Some handle → is_in_range (fields_sent setup on access facts) ≡ true
       → P (goes_on (facts_connecting setup facts)
-      (Connects channel (link_made on.params.own pdu (fields_sent setup on access facts) handle)))
+      (Connects channel (link_made facts.view on.params.own pdu (fields_sent setup on access facts) handle)))
   pub received : (handle : ℕ) (octets : List ℕ) → P (link_heard setup handle octets facts)
 
 module _ (setup : Setup) (facts : Facts) (P : Outcome → Type 0) (each : EachOutcome setup facts P) where
@@ -103,7 +103,7 @@ module _ (setup : Setup) (facts : Facts) (P : Outcome → Type 0) (each : EachOu
       → facts.turn.doing ≡ Initiates channel → facts.initiator ≡ Some on → pdu_heard channel octets ≡ Some pdu
       → answers_by_connecting on pdu facts ≡ true → next_access_of setup facts ≡ Some access
       → free_from 0 facts.links ≡ Some handle → is_in_range (fields_sent setup on access facts) ≡ in_range
-      → P (makes (link_if in_range (link_made on.params.own pdu (fields_sent setup on access facts) handle)) setup channel facts)
+      → P (makes (link_if in_range (link_made facts.view on.params.own pdu (fields_sent setup on access facts) handle)) setup channel facts)
   range_is false channel octets pdu on access handle doing is_on hears answers next free fits = each.rests
   range_is true channel octets pdu on access handle doing is_on hears answers next free fits =
       each.connects channel octets pdu on access handle doing is_on hears answers next free fits

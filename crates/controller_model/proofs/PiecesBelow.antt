@@ -14,6 +14,7 @@ use Rattle.controller_model.specs.Facts.{Setup, Facts, first_facts}
 use Rattle.controller_model.specs.Heard.{has_room, link_taken, piece_taken}
 use Rattle.controller_model.specs.Side.{facts_of}
 use Rattle.controller_model.specs.Step.{Step}
+use Rattle.controller_model.proofs.Handing.{left_are}
 use Rattle.controller_model.proofs.Always.{IsKept, always, opening_passes, received_shut}
 use Rattle.controller_model.proofs.Books.{kept_has}
 use Rattle.controller_model.proofs.Handles.{HaveOwnHandles, below_at, handles_kept, own_handles}
@@ -84,7 +85,7 @@ pieces_kept setup =
           fixes = λ doing facts are. record { own = starts.fixes doing facts are.own; below = are.below };
           does = λ doing facts may are. record { own = starts.does doing facts may are.own; below = are.below };
         };
-        reports = λ facts are. record { own = handles.turns.reports facts are.own; below = tt };
+        reports = λ facts are. record { own = handles.turns.reports facts are.own; below = left_are (λ (piece : ℕ × Piece). piece.0 < most) facts.view facts.received are.below };
         words = λ handle facts listens are. record { own = handles.turns.words handle facts listens are.own; below = are.below };
         passes = λ facts are.
             let passes = handles.turns.passes facts are.own in
@@ -101,7 +102,7 @@ pieces_kept setup =
               responds = λ channel on doing is_on. record { own = passes.responds channel on doing is_on; below = are.below };
               taken = λ channel octets pdu on fields handle is_on hears takes free. record {
                 own = passes.taken channel octets pdu on fields handle is_on hears takes free;
-                below = opening_passes (λ next. AreBelow most next.received) (link_taken on.params.own pdu fields handle) facts
+                below = opening_passes (λ next. AreBelow most next.received) (link_taken facts.view on.params.own pdu fields handle) facts
                     (past_below most (link_at handle facts.links) handle facts.received are.below);
               };
               scanned = λ channel octets pdu on doing is_on hears. record {

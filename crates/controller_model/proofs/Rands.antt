@@ -21,7 +21,7 @@ use Rattle.hci_cmd.specs.declared.command.CmdRead.{CmdRead}
 use Rattle.hci_cmd.specs.declared.command.CmdRead.TheVariants.{Known, UnknownOpcode, BadLength}
 use Rattle.hci_cmd.specs.Command.{command_of, layout_of, layouts}
 use Rattle.hci_evt.specs.Event.{written}
-use Rattle.host_view.specs.Unbuilt.{status_of}
+use Rattle.host_view.specs.Status.{status_of}
 use Rattle.controller_model.specs.Step.{Step, HostOctet, TurnBegins, PacketHeard, NothingHeard, TurnEnds}
 use Rattle.controller_model.specs.Facts.{Setup, Facts, first_facts}
 use Rattle.controller_model.specs.Answers.{complete_answer, next_word}
@@ -119,7 +119,7 @@ advertiser_grows (Some on) channel pdu facts = answered (advertiser_answer on.pa
   where
     under : (free : Option ℕ) (fields : ConnectFields) → GrowBy facts 0 (facts_passed (taken_under free on.params.own pdu fields facts))
     under None fields = none_more facts facts refl refl
-    under (Some handle) fields = opened_grows facts (link_taken on.params.own pdu fields handle)
+    under (Some handle) fields = opened_grows facts (link_taken facts.view on.params.own pdu fields handle)
 
     new : (test : Bool) (fields : ConnectFields) → GrowBy facts 0 (facts_passed (taken_if test on.params.own pdu fields facts))
     new true fields = under (free_from 0 facts.links) fields

@@ -69,7 +69,7 @@ is_report handle count below = eq-eqb _ handle (event_handle_is handle count bel
 
 -- ---- what an end counts as reported
 
-given_same : (handle : ℕ) (start : Bool) (octets : List ℕ) (outgoing : Data) → (data_given handle start octets outgoing).reported ≡ outgoing.reported
+pub given_same : (handle : ℕ) (start : Bool) (octets : List ℕ) (outgoing : Data) → (data_given handle start octets outgoing).reported ≡ outgoing.reported
 given_same handle start [] outgoing = refl
 given_same handle start (octet ∷ octets) outgoing = refl
 
@@ -109,7 +109,7 @@ gone_same : (goes : Bool) (slot : ℕ) (facts : EndFacts) → (control_gone_if g
 gone_same true slot facts = refl
 gone_same false slot facts = refl
 
-sent_as_same : (payload : List ℕ) (is_new : Bool) (outgoing : Data) → (data_sent_as payload is_new outgoing).reported ≡ outgoing.reported
+pub sent_as_same : (payload : List ℕ) (is_new : Bool) (outgoing : Data) → (data_sent_as payload is_new outgoing).reported ≡ outgoing.reported
 sent_as_same payload true outgoing = refl
 sent_as_same payload false outgoing = refl
 
@@ -118,7 +118,7 @@ sent_same slot facts =
     let gone = control_gone_if (takes_leave facts) slot facts in
     sent_as_same (payload_made gone.encryption.end gone.outgoing.fixed) (is_acked gone.acknowledgement) gone.outgoing ∙ gone_same (takes_leave facts) slot facts
 
-acked_same : (acked : Bool) (outgoing : Data) → (data_acked_if acked outgoing).reported ≡ outgoing.reported
+pub acked_same : (acked : Bool) (outgoing : Data) → (data_acked_if acked outgoing).reported ≡ outgoing.reported
 acked_same true outgoing = refl
 acked_same false outgoing = refl
 

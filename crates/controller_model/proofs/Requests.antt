@@ -13,7 +13,7 @@ use Rattle.hci_cmd.specs.declared.command.Command.TheVariants.{HostCompleted, Re
 use Rattle.host_view.specs.View.{View}
 use Rattle.host_view.specs.Changes.{view_after}
 use Rattle.host_view.specs.InRange.{IsLinkRequest}
-use Rattle.host_view.specs.Unbuilt.{status_of}
+use Rattle.host_view.specs.Status.{status_of}
 use Rattle.host_view.proofs.TakenCommands.{connection_parameters, takes_map}
 use Rattle.host_view.specs.scan_init.Initiating.{InitiatorFacts}
 use Rattle.controller_model.specs.Step.{Step}
@@ -107,7 +107,7 @@ asks_kept setup = record {
           (record { map_is = may.map_is; request = stopped_asks link.role facts.initiator may.request });
       responds = λ channel on doing is_on. record { map_is = may.map_is; request = may.request };
       taken = λ channel octets pdu on fields handle is_on hears takes free.
-          let link = link_taken on.params.own pdu fields handle in
+          let link = link_taken facts.view on.params.own pdu fields handle in
           opening_passes MayAsk link facts
           (record { map_is = may.map_is; request = stopped_asks link.role facts.initiator may.request });
       scanned = λ channel octets pdu on doing is_on hears. record { map_is = may.map_is; request = may.request };

@@ -14,7 +14,7 @@ use Rattle.hci_cmd.specs.declared.command.Command.TheVariants.{Reset}
 use Rattle.hci_cmd.specs.declared.command.CmdRead.{CmdRead}
 use Rattle.hci_cmd.specs.declared.command.CmdRead.TheVariants.{Known, UnknownOpcode, BadLength}
 use Rattle.hci_cmd.specs.Command.{are_parameters, command_of, counts_layout, layout_of, layouts, read_with}
-use Rattle.host_view.specs.Unbuilt.{status_of}
+use Rattle.host_view.specs.Status.{status_of}
 use Rattle.controller_model.specs.Step.{Step, HostOctet}
 use Rattle.controller_model.specs.Facts.{Setup, Facts}
 use Rattle.controller_model.specs.Host.{commands_accepted_after, commands_accepted_by, commands_accepted_in}

@@ -11,12 +11,13 @@ use Rattle.host_view.specs.Changes.{view_after}
 use Rattle.host_view.specs.Refusals.{count_if, is_connectable, is_full, is_generated}
 use Rattle.host_view.specs.Status.{advertising_on_rows, if_turned_on}
 use Rattle.host_view.specs.Refusals.{first_refusal}
-use Rattle.host_view.specs.Unbuilt.{status_of}
+use Rattle.host_view.specs.Status.{status_of}
 use Rattle.host_view.proofs.TakenCommands.{connection_has_room}
 use Rattle.host_view.specs.scan_init.Initiating.{InitiatorFacts}
+use Rattle.link_commands.proofs.Ranges.{passes as row_passes}
 use Rattle.controller_model.specs.Facts.{Setup}
 use Rattle.controller_model.specs.Commands.{initiator_after}
-use Rattle.controller_model.proofs.Accepted.{row_passes, same_after_counts, set_while_off, table_accepts}
+use Rattle.controller_model.proofs.Accepted.{same_after_counts, set_while_off}
 use Rattle.controller_model.proofs.OpenPlaces.{many, count_many, opens, view_opens}
 
 -- ---- what the view tells
@@ -76,7 +77,7 @@ turned_on_room view passed connectable =
 enable_passed : (view : View) (value : ℕ) → status_of view (LeSetAdvEnable value) ≡ 0
     → first_refusal (if_turned_on ((value == 1) && not view.advertising.on) (advertising_on_rows view)) ≡ 0
 unfolding status_of
-enable_passed view value accepted = (row_passes (nat_lt 1 value) _ _ (table_accepts _ _ accepted)).1
+enable_passed view value accepted = (row_passes (nat_lt 1 value) _ _ accepted).1
 
 turned_rows : (turned : Bool) (rows : List (Bool × ℕ)) → turned ≡ true → first_refusal (if_turned_on turned rows) ≡ 0 → first_refusal rows ≡ 0
 turned_rows true rows is passed = passed

@@ -14,7 +14,7 @@ use Rattle.hci_cmd.specs.declared.command.Command.{Command}
 use Rattle.hci_cmd.specs.declared.command.Command.TheVariants.{HostCompleted, Reset, LeSetRandomAddress, LeSetAdvParams, LeSetAdvData, LeSetScanResponse, LeSetAdvEnable, LeSetScanEnable, LeCreateConnection, LeCreateCancel}
 use Rattle.host_view.specs.View.{View}
 use Rattle.host_view.specs.Changes.{view_after}
-use Rattle.host_view.specs.Unbuilt.{status_of}
+use Rattle.host_view.specs.Status.{status_of}
 use Rattle.advertise.specs.declared.params.AdvParams.{AdvParams}
 use Rattle.advertise.specs.Advertising.{AdvertiserFacts, advertisement}
 use Rattle.host_view.specs.scan_init.declared.scanner.ScanParams.{ScanParams}
@@ -327,7 +327,7 @@ initiator_fits setup view slot LeCreateCancel initiator six held fits = tt
 initiator_fits setup view slot other initiator six held fits = fits
 
 -- a packet of a link that was wanted is wanted still
-shut_from : (first handle : ℕ) (links : Links) → link_from first handle (without_links links) ≡ None
+pub shut_from : (first handle : ℕ) (links : Links) → link_from first handle (without_links links) ≡ None
 shut_from first handle [] = refl
 shut_from first handle (place ∷ links) = at (first == handle) (shut_from (first + 1) handle links)
   where
@@ -469,7 +469,7 @@ passes_well setup facts well = record {
   central_listens = λ handle doing. sends_doing (CentralListens handle) facts well.can tt;
   sent = λ channel link doing. opened_sends link facts well.can;
   responds = λ channel on doing is_on. sends_doing (Responds channel) facts well.can (subst DoingFits doing well.does);
-  taken = λ channel octets pdu on fields handle is_on hears takes free. opened_sends (link_taken on.params.own pdu fields handle) facts well.can;
+  taken = λ channel octets pdu on fields handle is_on hears takes free. opened_sends (link_taken facts.view on.params.own pdu fields handle) facts well.can;
   scanned = λ channel octets pdu on doing is_on hears.
       sends_doing (asks_if (true && does_ask (scan_answer on.params facts.view.accepted on.recent pdu)) channel pdu)
       (with_scanner (scanner_after on facts.view.accepted pdu) facts)
@@ -482,7 +482,7 @@ passes_well setup facts well = record {
       (asks_fit (false && does_ask (scan_answer on.params facts.view.accepted on.recent pdu)) channel pdu (subst DoingFits doing well.does) (six_heard channel octets pdu hears));
   connects = λ channel octets pdu on access handle doing is_on hears answers next free in_range.
       let initiator = subst InitiatorFits is_on well.can.initiator in
-      sends_doing (Connects channel (link_made on.params.own pdu (fields_sent setup on access facts) handle)) (facts_connecting setup facts)
+      sends_doing (Connects channel (link_made facts.view on.params.own pdu (fields_sent setup on access facts) handle)) (facts_connecting setup facts)
       (can_still facts (facts_connecting setup facts) refl refl refl refl well.can) (
         subst DoingFits doing well.does,
         connection_fits setup on access facts on.params.own (sender_of pdu) initiator.0 (six_heard channel octets pdu hears) initiator.1 next in_range,

@@ -18,7 +18,7 @@ use Rattle.hci_cmd.specs.declared.command.CmdRead.{CmdRead}
 use Rattle.hci_cmd.specs.declared.command.CmdRead.TheVariants.{Known, UnknownOpcode, BadLength}
 use Rattle.hci_cmd.specs.Command.{command_of}
 use Rattle.hci_evt.specs.declared.event.Event.TheVariants.{HardwareError}
-use Rattle.host_view.specs.Unbuilt.{status_of}
+use Rattle.host_view.specs.Status.{status_of}
 use Rattle.host_view.specs.View.{View}
 use Rattle.link_commands.specs.open_links.link_model.control_end.Answers.{timeout_of}
 use Rattle.link_commands.specs.open_links.link_model.control_end.Held.{held_of}
@@ -380,7 +380,7 @@ left_noted : (setup : Setup) (facts : Facts) (handle reason : ℕ) (link : OpenL
     → Contains (notes_after setup facts TurnEnds) (Shut handle (record { 0 = reason }))
 left_noted setup facts handle reason link is_open leaves =
     Contains-append_right (notes_handed facts) (notes_leaving (facts_handed facts)) _
-    (ended_noted ending_in facts.view (facts_handed facts).links handle reason link is_open (left_is link reason leaves))
+    (ended_noted ending_in (facts_handed facts).view (facts_handed facts).links handle reason link is_open (left_is link reason leaves))
 
 -- at a Reset
 later_noted : (place : Option OpenLink) (first : ℕ) (links : Links) (note : Note)

@@ -16,7 +16,7 @@ use Rattle.hci_evt.specs.declared.event.Event.{Event}
 use Rattle.hci_evt.specs.declared.event.Event.TheVariants.{HardwareError, CompletedPackets, BufferOverflow}
 use Rattle.hci_evt.specs.Event.{mask_bit_of, written}
 use Rattle.host_view.specs.View.{View}
-use Rattle.host_view.specs.Unbuilt.{status_of}
+use Rattle.host_view.specs.Status.{status_of}
 use Rattle.controller_model.specs.Step.{Step, HostOctet, TurnBegins, PacketHeard, NothingHeard, TurnEnds}
 use Rattle.controller_model.specs.Facts.{Setup, Facts}
 use Rattle.controller_model.specs.Answers.{answer_to}

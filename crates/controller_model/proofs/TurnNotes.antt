@@ -29,7 +29,7 @@ use Rattle.controller_model.specs.Facts.{Setup, Facts}
 use Rattle.controller_model.specs.Events.{notes_of_events, passes}
 use Rattle.controller_model.specs.declared.doing.Doing.{Doing}
 use Rattle.controller_model.specs.declared.doing.Doing.TheVariants.{Advertises, CentralSends, PeripheralSends}
-use Rattle.controller_model.specs.Data.{event_completed, facts_handed, note_received, notes_handed}
+use Rattle.controller_model.specs.Data.{event_completed, facts_handed, note_received, notes_handed, notes_pieces, pieces_handed}
 use Rattle.controller_model.specs.Entering.{notes_all_entering}
 use Rattle.controller_model.specs.Heard.{asks_if, does_report, events_received, events_reported, has_room, link_received, link_taken, notes_taken, replies_in, reply_if, report_event, report_events, scanner_after, with_scanner, facts_with_words}
 use Rattle.controller_model.specs.Links.{connection_complete, facts_ending, note_opened, note_shut, notes_ended, notes_ending, notes_leaving, notes_opened, wants_enhanced}
@@ -224,7 +224,7 @@ module _ (most : ℕ) (P : Note → Type 0) (each : EachNote most P) where
             both (notes_opened facts.view link) [] (opened_noted facts.view link (subst (λ n. link.handle < n) many new.0)) nothing;
         responds = λ channel on doing is_on. nothing;
         taken = λ channel octets pdu on fields handle is_on hears takes free.
-            let link = link_taken on.params.own pdu fields handle in
+            let link = link_taken facts.view on.params.own pdu fields handle in
             both (notes_opened facts.view link) []
             (opened_noted facts.view link (subst (λ n. handle < n) many (free_is_new facts.links handle free).0)) nothing;
         scanned = λ channel octets pdu on doing is_on hears.
@@ -274,5 +274,5 @@ module _ (most : ℕ) (P : Note → Type 0) (each : EachNote most P) where
       let many : length facts.links ≡ most = own.many ∙ is in
       let after : length (links_reported facts.links) ≡ most = (mapped_opens link_reported facts.links reported_same).many ∙ many in
       both (notes_handed facts) (notes_leaving (facts_handed facts))
-      (both (map note_received facts.received) _ (pieces_noted facts.received) (completed_noted facts.view (completed_from 0 facts.links)))
-      (ends_noted facts.view ending_in 0 (links_reported facts.links) (omega (arith, after)))
+      (both (notes_pieces facts) _ (pieces_noted (pieces_handed facts)) (completed_noted facts.view (completed_from 0 facts.links)))
+      (ends_noted (facts_handed facts).view ending_in 0 (links_reported facts.links) (omega (arith, after)))

@@ -24,7 +24,7 @@ use Rattle.hci_evt.specs.declared.event.Event.TheVariants.{BufferOverflow, Compl
 use Rattle.hci_evt.specs.Event.{mask_bit_of, written}
 use Rattle.host_view.specs.Links.{was_encrypted}
 use Rattle.host_view.specs.View.{View}
-use Rattle.host_view.specs.Unbuilt.{status_of}
+use Rattle.host_view.specs.Status.{status_of}
 use Rattle.host_view.specs.scan_init.Reports.{ScannerFacts, does_ask, scan_answer}
 use Rattle.slot_plan.specs.declared.Activity.{Activity}
 use Rattle.slot_plan.specs.declared.Activity.TheVariants.{Link, Advertise, Scan, Initiate}
@@ -52,7 +52,7 @@ use Rattle.controller_model.specs.Facts.{Setup, Facts, first_facts}
 use Rattle.controller_model.specs.Answers.{answer_to}
 use Rattle.link_commands.specs.LinksCommanded.{events_commanded_on, links_commanded}
 use Rattle.controller_model.specs.Commands.{events_caused, facts_commanded, facts_known, is_asking, links_after, moment_of, notes_before, notes_commanded, notes_known}
-use Rattle.controller_model.specs.Data.{event_completed, facts_ended_turn, facts_handed, facts_offered, note_received, notes_ended_turn, notes_handed, notes_offered, offer_of}
+use Rattle.controller_model.specs.Data.{event_completed, facts_ended_turn, facts_handed, facts_offered, note_received, notes_ended_turn, notes_handed, notes_offered, offer_of, notes_pieces, pieces_handed}
 use Rattle.controller_model.specs.Events.{notes_of_events, passes}
 use Rattle.controller_model.specs.Heard.{asks_if, events_received, events_reported, has_room, link_heard, link_received, link_taken, links_refusing, notes_taken, opens, replies_in, reply_if, scanner_after, with_scanner, facts_with_words}
 use Rattle.controller_model.specs.Links.{events_opened, note_opened, note_shut, notes_ended, notes_ending, notes_leaving, notes_opened}
@@ -599,7 +599,7 @@ module _ (handle : ℕ) where
       sent = λ channel link doing. opens_noted link facts notes (subst (IsNew facts.links) doing own.new).0 is;
       responds = λ channel on doing is_on. is;
       taken = λ channel octets pdu on fields other is_on hears takes free.
-          opens_noted (link_taken on.params.own pdu fields other) facts notes (free_is_new facts.links other free).0 is;
+          opens_noted (link_taken facts.view on.params.own pdu fields other) facts notes (free_is_new facts.links other free).0 is;
       scanned = λ channel octets pdu on doing is_on hears. scanned_noted true channel pdu on facts notes is;
       answered = λ channel octets pdu on doing is_on hears. scanned_noted false channel pdu on facts notes is;
       connects = λ channel octets pdu on access other doing is_on hears answers next free in_range. is;
@@ -617,10 +617,10 @@ module _ (handle : ℕ) where
 
     handed_noted : (facts : Facts) (notes : List Note) → IsNoted (link_at handle facts.links) notes → IsNotedAfter (link_at handle (links_reported facts.links)) notes (notes_handed facts)
     handed_noted facts notes is =
-        let handed = map note_received facts.received in
+        let handed = notes_pieces facts in
         let events = map event_completed (completed_from 0 facts.links) in
         elsewhere (link_at handle (links_reported facts.links)) notes (notes_handed facts)
-        (both_else handed (notes_of_events facts.view events) (pieces_else facts.received) (events_else facts.view events))
+        (both_else handed (notes_of_events facts.view events) (pieces_else (pieces_handed facts)) (events_else facts.view events))
         (subst (λ place. IsNoted place notes) (sym (map_at (option_map link_reported) 0 handle facts.links refl)) (reported_noted (link_at handle facts.links) notes is))
 
     -- then links end

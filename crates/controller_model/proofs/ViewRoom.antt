@@ -19,7 +19,7 @@ use Rattle.host_view.specs.View.{View, no_links}
 use Rattle.host_view.specs.Changes.{view_after}
 use Rattle.host_view.specs.Noted.{view_noted}
 use Rattle.host_view.specs.Refusals.{is_connectable}
-use Rattle.host_view.specs.Unbuilt.{status_of}
+use Rattle.host_view.specs.Status.{status_of}
 use Rattle.advertise.specs.declared.answers.AdvAnswer.TheVariants.{Ignore, Respond, Connect as Takes}
 use Rattle.advertise.specs.declared.params.AdvParams.{AdvParams}
 use Rattle.advertise.specs.Answers.{advertiser_answer, is_scan_answered}
@@ -38,7 +38,8 @@ use Rattle.controller_model.specs.declared.doing.Doing.TheVariants.{Advertises, 
 use Rattle.controller_model.specs.Step.{Step, HostOctet, TurnBegins, PacketHeard, NothingHeard, TurnEnds}
 use Rattle.controller_model.specs.Facts.{Setup, Facts, first_facts}
 use Rattle.controller_model.specs.Commands.{facts_accepted, initiator_after, is_asking, links_after, moment_of}
-use Rattle.controller_model.specs.Data.{facts_ended_turn, facts_handed}
+use Rattle.controller_model.specs.Data.{facts_ended_turn, facts_handed, notes_pieces}
+use Rattle.controller_model.proofs.Handing.{handed_open}
 use Rattle.controller_model.specs.Heard.{has_room, asks_if, facts_connecting, fields_sent, link_made, link_taken, notes_received, replies_in, reply_if, scanner_after, with_scanner, facts_with_words}
 use Rattle.controller_model.specs.Outcome.{facts_passed}
 use Rattle.controller_model.specs.Packets.{facts_doing}
@@ -316,7 +317,7 @@ module _ (setup : Setup) (few : setup.links ≤ 6) (Room : Bool → ℕ → View
         );
         responds = λ channel on doing is_on. (doing_known (Responds channel) facts known, tt);
         taken = λ channel octets pdu on fields handle is_on hears takes free.
-            let link = link_taken on.params.own pdu fields handle in
+            let link = link_taken facts.view on.params.own pdu fields handle in
             opening_passes InTurn link facts (
               doing_known Rests (facts_opening link facts)
                   (opened_known link facts (free_is_new facts.links handle free).0 known
@@ -335,7 +336,7 @@ module _ (setup : Setup) (few : setup.links ≤ 6) (Room : Bool → ℕ → View
             let after = scanner_after on facts.view.accepted pdu in
             (doing_known (asks_if asks channel pdu) (with_scanner after facts) known, asks_makes (P (is_some facts.initiator)) asks channel pdu);
         connects = λ channel octets pdu on access handle doing is_on hears answers next free in_range.
-            let link = link_made on.params.own pdu (fields_sent setup on access facts) handle in (
+            let link = link_made facts.view on.params.own pdu (fields_sent setup on access facts) handle in (
               doing_known (Connects channel link) (facts_connecting setup facts) known,
               subst (λ (initiates : Bool). P initiates link) (sym (ap is_some is_on)) (left.connects link refl),
             );
@@ -371,6 +372,6 @@ module _ (setup : Setup) (few : setup.links ≤ 6) (Room : Bool → ℕ → View
   turn_known facts NothingHeard turn own both =
       unheard_is setup facts (λ outcome. InTurn (facts_passed outcome)) (passes_known facts own both) facts.turn.doing refl
   turn_known facts TurnEnds turn own both =
-      let handed = still_known facts _ (mapped_opens link_reported facts.links) both.0 in
+      let handed = followed_known facts (notes_pieces facts) _ (handed_open facts) (mapped_opens link_reported facts.links) both.0 in
       let left = subst (IsKnown Room setup) (sym (leaving_is (facts_handed facts))) (ended_known ending_in (facts_handed facts) handed) in
       (doing_known Rests (facts_ended_turn facts) left, tt)

@@ -14,7 +14,7 @@ use Rattle.host_view.specs.Changes.{view_after}
 use Rattle.host_view.specs.View.{View}
 use Rattle.host_view.specs.OnLinks.{asks_links}
 use Rattle.host_view.specs.Status.{named_address}
-use Rattle.host_view.specs.Unbuilt.{status_of}
+use Rattle.host_view.specs.Status.{status_of}
 use Rattle.advertise.specs.declared.params.AdvParams.{AdvParams}
 use Rattle.advertise.specs.Advertising.{AdvertiserFacts}
 use Rattle.advertise.specs.Defaults.{no_address}

@@ -1,12 +1,14 @@
 -- Data between a controller and its host: packets of the host, what the host receives as a turn ends, and the links that
 -- end then (Core 5.2, volume 4 part E, sections 4.1, 5.4.2, 7.7.19 and 7.7.26; volume 6 part B, section 5.1.6).
-use Rattle.std.specs.Prelude.{ℕ, ◌+◌, ◌==◌, Bool, List, [], ◌∷◌, ◌++◌, length, map, if◌then◌else◌}
+use Rattle.std.specs.Prelude.{ℕ, ◌+◌, ◌==◌, Bool, List, [], ◌∷◌, ◌++◌, fold, length, map, if◌then◌else◌}
 use Rattle.ble_base.specs.declared.notes.Note.{Note}
 use Rattle.ble_base.specs.declared.notes.Note.TheVariants.{Up}
 use Rattle.acl_banks.specs.declared.pieces.Piece.{Piece}
 use Rattle.hci_evt.specs.declared.event.Event.{Event}
 use Rattle.hci_evt.specs.declared.event.Event.TheVariants.{CompletedPackets, BufferOverflow}
 use Rattle.host_view.specs.View.{View}
+use Rattle.host_view.specs.Flow.{handed_of, left_of}
+use Rattle.host_view.specs.Noted.{view_noted}
 use Rattle.wire_fields.specs.Field.{little_endian}
 use Rattle.link_commands.specs.open_links.declared.offers.Completed.{Completed}
 use Rattle.link_commands.specs.open_links.declared.offers.Offer.{Offer}
@@ -56,14 +58,28 @@ note_received received = Up (record { items = acl_packet received })
 abbrev pub event_completed : Completed → Event
 event_completed completed = CompletedPackets completed.handle completed.count
 
--- the host receives the pieces that links took, in order, and then which packets are complete, by handle
+-- the host receives the pieces that links took, in order: all of them, or with flow control on as many as it can still
+-- take (section 4.2). The others wait on
+abbrev pub pieces_handed : Facts → List (ℕ × Piece)
+pieces_handed facts = handed_of facts.view facts.received
+
+abbrev pub notes_pieces : Facts → List Note
+notes_pieces facts = map note_received (pieces_handed facts)
+
+-- and then which packets are complete, by handle
 abbrev pub notes_handed : Facts → List Note
 notes_handed facts =
-    map note_received facts.received
-    ++ notes_of_events facts.view (map event_completed (completed_from 0 facts.links))
+    notes_pieces facts ++ notes_of_events facts.view (map event_completed (completed_from 0 facts.links))
+
+-- the view counts on its links what the host received
+abbrev pub view_pieces : Facts → View
+view_pieces facts = record facts.view { links = (fold view_noted facts.view (notes_pieces facts)).links }
+
+abbrev pub facts_pieces : Facts → Facts
+facts_pieces facts = record facts { view = view_pieces facts; received = left_of facts.view facts.received }
 
 abbrev pub facts_handed : Facts → Facts
-facts_handed facts = record facts { links = links_reported facts.links; received = [] }
+facts_handed facts = record (facts_pieces facts) { links = links_reported facts.links }
 
 -- then the links end that are to end
 abbrev pub notes_ended_turn : Facts → List Note

@@ -5,7 +5,6 @@ use Rattle.ble_base.specs.declared.addresses.Address.{Address}
 use Rattle.ble_base.specs.declared.notes.Note.{Note}
 use Rattle.ble_base.specs.declared.roles.Role.TheVariants.{Central, Peripheral}
 use Rattle.ble_base.specs.ErrorCodes.{unsupported_remote_feature}
-use Rattle.ble_base.specs.Limits.{payload_octets}
 use Rattle.acl_banks.specs.declared.pieces.Piece.{Piece}
 use Rattle.adv_pdu.specs.declared.pdu.AdvPdu.{AdvPdu}
 use Rattle.adv_pdu.specs.declared.pdu.ConnectFields.{ConnectFields}
@@ -21,6 +20,7 @@ use Rattle.hci_evt.specs.declared.event.Event.{Event}
 use Rattle.hci_evt.specs.declared.event.Event.TheVariants.{AdvertisingReport, KeyRequest, ParamRequest}
 use Rattle.hci_evt.specs.Event.{mask_bit_of}
 use Rattle.host_view.specs.View.{View}
+use Rattle.host_view.specs.Flow.{most_received}
 use Rattle.host_view.specs.Links.{was_encrypted}
 use Rattle.host_view.specs.Noted.{view_noted}
 use Rattle.link_commands.specs.open_links.link_model.declared.setup.LinkSetup.{LinkSetup}
@@ -68,20 +68,16 @@ unheard other facts = goes_on facts Rests
 
 -- ---- an advertiser that hears a request (section 4.4.2)
 
--- the most octets of a payload that the ends of this controller receive (section 4.5.10; our choice)
-abbrev pub most_received : ℕ
-most_received = payload_octets
-
--- a link that it takes, under a free handle
-abbrev pub link_taken : Address → AdvPdu → ConnectFields → ℕ → LinkSetup
-link_taken own pdu fields handle = record {
+-- a link that it takes, under a free handle. An end receives no more octets than its host takes in a packet
+abbrev pub link_taken : View → Address → AdvPdu → ConnectFields → ℕ → LinkSetup
+link_taken view own pdu fields handle = record {
   role = Peripheral;
   handle = handle;
   own = own;
   peer = sender_of pdu;
   fields = fields;
   two = ch_sel_of pdu;
-  max_rx = most_received;
+  max_rx = most_received view;
 }
 
 -- a second link between two devices is not opened (section 4.5)
@@ -90,7 +86,7 @@ is_new_between own peer links = not (has_link_between own peer links)
 
 abbrev pub taken_under : Option ℕ → Address → AdvPdu → ConnectFields → Facts → Outcome
 taken_under None own pdu fields facts = goes_on facts Rests
-taken_under (Some handle) own pdu fields facts = opens (link_taken own pdu fields handle) facts
+taken_under (Some handle) own pdu fields facts = opens (link_taken facts.view own pdu fields handle) facts
 
 abbrev pub taken_if : Bool → Address → AdvPdu → ConnectFields → Facts → Outcome
 taken_if false own pdu fields facts = goes_on facts Rests
@@ -166,15 +162,15 @@ abbrev pub fields_sent : Setup → InitiatorFacts → ℕ → Facts → ConnectF
 fields_sent setup on access facts =
     record (connect_fields on.params.link access (next_word setup facts.drawn) facts.view.map) { sca = 0 }
 
-abbrev pub link_made : Address → AdvPdu → ConnectFields → ℕ → LinkSetup
-link_made own pdu fields handle = record {
+abbrev pub link_made : View → Address → AdvPdu → ConnectFields → ℕ → LinkSetup
+link_made view own pdu fields handle = record {
   role = Central;
   handle = handle;
   own = own;
   peer = sender_of pdu;
   fields = fields;
   two = ch_sel_of pdu;
-  max_rx = most_received;
+  max_rx = most_received view;
 }
 
 -- it draws a random word and takes an access address, and whether there is another is known to the view
@@ -193,7 +189,7 @@ abbrev pub link_under : Option ℕ → Setup → InitiatorFacts → AdvPdu → �
 link_under None setup on pdu access facts = None
 link_under (Some handle) setup on pdu access facts =
     link_if (is_in_range (fields_sent setup on access facts))
-    (link_made on.params.own pdu (fields_sent setup on access facts) handle)
+    (link_made facts.view on.params.own pdu (fields_sent setup on access facts) handle)
 
 abbrev pub link_with : Option ℕ → Setup → InitiatorFacts → AdvPdu → Facts → Option LinkSetup
 link_with None setup on pdu facts = None

@@ -1,7 +1,7 @@
 //! What the commands of a host ask of links. The body does nothing: the contract is the law.
 ghost use Rattle.std.specs.Prelude.{◌≡◌};
 ghost use Rattle.hci_cmd.specs.declared.command.Command.{Command};
-ghost use Rattle.host_view.specs.Unbuilt.{status_of};
+ghost use Rattle.host_view.specs.Status.{status_of};
 ghost use Rattle.host_view.specs.View.{View};
 ghost use Rattle.link_commands.specs.Commands.{AsksInRange};
 

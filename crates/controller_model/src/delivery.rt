@@ -1,16 +1,20 @@
 //! Laws of the data of one controller: what waits in it, and for how long. The bodies are empty:
 //! the contracts are the laws.
-ghost use Rattle.std.specs.Prelude.{◌≡◌, ◌≤◌, ◌+◌, ◌++◌, ℕ, true, List, [], Some, None, IsSome};
+ghost use Rattle.std.specs.Prelude.{◌≡◌, ◌≤◌, ◌+◌, ◌++◌, ◌⊎◌, ℕ, true, false, List, [], Some, None};
+ghost use Rattle.std.specs.Prelude.{IsSome};
 ghost use Rattle.std.specs.Prelude.{filter, flat_map, length};
 ghost use Rattle.std.specs.List.{Contains};
 ghost use Rattle.ack_bit.specs.Nonempty.{nonempty};
 ghost use Rattle.ble_base.specs.declared.notes.Note.{Note};
+ghost use Rattle.host_view.specs.Flow.{outstanding};
+ghost use Rattle.host_view.specs.declared.view.TheConstants.{MOST_LINKS};
 ghost use Rattle.link_commands.specs.open_links.link_model.Data.{data_of, is_empty};
 ghost use Rattle.link_commands.specs.open_links.link_model.Numbers.{numbered_notes, sent_note, took_note};
 ghost use Rattle.link_commands.specs.open_links.Data.{buffers_taken, complete_in};
 ghost use Rattle.link_commands.specs.open_links.OpenLinks.{OpenLink, facts_in, link_at};
 ghost use Rattle.controller_model.specs.Between.{is_between_turns};
-ghost use Rattle.controller_model.specs.Facts.{Setup};
+ghost use Rattle.controller_model.specs.Data.{facts_handed, pieces_handed};
+ghost use Rattle.controller_model.specs.Facts.{Setup, Facts};
 ghost use Rattle.controller_model.specs.Shutting.{StaysIn};
 ghost use Rattle.controller_model.specs.Side.{facts_after, facts_of, notes_after, notes_of};
 ghost use Rattle.controller_model.specs.Since.{AreOfShutLink, ReportsInAll, data_up, data_waiting};
@@ -28,13 +32,40 @@ pub fn no_more_than_its_buffers()
         → length (facts_of setup past).received ≤ setup.air_buffers }
 {}
 
-/// Between turns no piece of data waits for the host, and no complete packet waits to be reported.
+/// Between turns no complete packet waits to be reported, and no piece of data waits for a host whose
+/// flow control is off.
 pub fn nothing_waits_between_turns()
-    ensures received { (setup : Setup) (past : List Step) → is_between_turns past ≡ true
+    ensures received { (setup : Setup) (past : List Step) → setup.links ≤ MOST_LINKS
+        → is_between_turns past ≡ true → (facts_of setup past).view.flow.on ≡ false
         → (facts_of setup past).received ≡ [] }
     ensures complete { (setup : Setup) (past : List Step) (handle : ℕ) (link : OpenLink)
         → is_between_turns past ≡ true → link_at handle (facts_of setup past).links ≡ Some link
         → complete_in link ≡ 0 }
+{}
+
+/// A host takes packets of data of the least length at least (Core 5.2, volume 4 part E, section
+/// 7.3.39; that a lesser size is refused is our choice).
+pub fn a_host_takes_the_least_payload()
+    ensures { (setup : Setup) (past : List Step)
+        → 27 ≤ (facts_of setup past).view.flow.acl_length }
+{}
+
+/// As a turn ends the host receives pieces of data, in order, until none waits or, with its flow
+/// control on, until it holds as many packets of all links as it has buffers. What it does not
+/// receive waits, in order (Core 5.2, volume 4 part E, section 4.2).
+pub fn the_host_receives_what_it_can_take()
+    ensures in_order { (facts : Facts)
+        → pieces_handed facts ++ (facts_handed facts).received ≡ facts.received }
+    ensures all_or_full { (facts : Facts) → outstanding facts.view.links ≤ facts.view.flow.acl_count
+        → ((facts_handed facts).received ≡ []) ⊎ ((facts.view.flow.on ≡ true)
+        × (outstanding facts.view.links + length (pieces_handed facts)
+        ≡ facts.view.flow.acl_count)) }
+    ensures no_more { (facts : Facts) → facts.view.flow.on ≡ true
+        → outstanding facts.view.links ≤ facts.view.flow.acl_count
+        → outstanding facts.view.links + length (pieces_handed facts) ≤ facts.view.flow.acl_count }
+    ensures at_any_time { (setup : Setup) (past : List Step)
+        → outstanding (facts_of setup past).view.links
+        ≤ (facts_of setup past).view.flow.acl_count }
 {}
 
 /// Since the link under a handle was opened, the notes of what was sent on it are those of the PDUs
@@ -68,8 +99,8 @@ pub fn a_link_notes_what_its_end_notes()
 
 /// The data that the host received in ACL packets of a handle since its link was opened, and then
 /// that of the pieces that wait for the host, is the data of the PDUs that the end of the link
-/// accepted, in order. Between turns nothing waits, so that the host has all of it. A handle in ACL
-/// data has 12 bits (Core 5.2, volume 4 part E, section 5.4.2).
+/// accepted, in order. Between turns nothing waits for a host whose flow control is off, so that it
+/// has all of it. A handle in ACL data has 12 bits (Core 5.2, volume 4 part E, section 5.4.2).
 pub fn data_is_handed_up_in_order()
     ensures at_any_time { (setup : Setup) (past : List Step) (handle : ℕ) (link : OpenLink)
         → setup.links ≤ 4096 → link_at handle (facts_of setup past).links ≡ Some link
@@ -77,7 +108,8 @@ pub fn data_is_handed_up_in_order()
         ++ data_waiting handle (facts_of setup past).received
         ≡ data_of (facts_in link).acknowledgement.accepted }
     ensures between_turns { (setup : Setup) (past : List Step) (handle : ℕ) (link : OpenLink)
-        → setup.links ≤ 4096 → is_between_turns past ≡ true
+        → setup.links ≤ MOST_LINKS → is_between_turns past ≡ true
+        → (facts_of setup past).view.flow.on ≡ false
         → link_at handle (facts_of setup past).links ≡ Some link
         → flat_map (data_up handle) (since_opened handle (notes_of setup past))
         ≡ data_of (facts_in link).acknowledgement.accepted }

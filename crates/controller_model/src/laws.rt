@@ -22,7 +22,7 @@ ghost use Rattle.hci_cmd.specs.declared.command.CmdRead.TheVariants.{Known};
 ghost use Rattle.hci_evt.specs.Event.{written};
 ghost use Rattle.hci_evt.specs.declared.event.Event.{Event};
 ghost use Rattle.hci_evt.specs.declared.event.Event.TheVariants.{HardwareError};
-ghost use Rattle.host_view.specs.Unbuilt.{status_of};
+ghost use Rattle.host_view.specs.Status.{status_of};
 ghost use Rattle.host_view.specs.View.{View};
 ghost use Rattle.host_view.specs.declared.view.TheConstants.{MOST_LINKS};
 ghost use Rattle.advertise.specs.Advertising.{AdvertiserFacts};

@@ -10,9 +10,9 @@ mod rows;
 
 pub use crate::commands::accepted_commands_ask_in_range;
 pub use crate::delivery::{
-    a_link_notes_its_pdus, a_link_notes_what_its_end_notes, complete_packets_are_reported,
-    data_is_handed_up_in_order, no_more_than_its_buffers, nothing_waits_between_turns,
-    only_open_links_have_notes,
+    a_host_takes_the_least_payload, a_link_notes_its_pdus, a_link_notes_what_its_end_notes,
+    complete_packets_are_reported, data_is_handed_up_in_order, no_more_than_its_buffers,
+    nothing_waits_between_turns, only_open_links_have_notes, the_host_receives_what_it_can_take,
 };
 pub use crate::doing::{Doing, Turn};
 pub use crate::laws::{
@@ -25,4 +25,4 @@ pub use crate::laws::{
 pub use crate::rows::{
     worked_advertisement, worked_answers, worked_connection, worked_data, worked_link, worked_rows,
 };
-pub use link_commands::Moment;
+pub use link_commands::{Moment, a_sealed_packet_is_opened};

@@ -16,6 +16,8 @@ mod command_tests;
 #[cfg(test)]
 mod data_tests;
 #[cfg(test)]
+mod host_flow_tests;
+#[cfg(test)]
 mod link_tests;
 #[cfg(test)]
 mod procedure_tests;

@@ -17,7 +17,7 @@ use Rattle.hci_cmd.specs.declared.command.CmdRead.TheVariants.{Known, UnknownOpc
 use Rattle.hci_cmd.specs.Command.{command_of}
 use Rattle.hci_evt.specs.declared.event.Event.TheVariants.{RemoteFeatures, RemoteVersion}
 use Rattle.host_view.specs.View.{View}
-use Rattle.host_view.specs.Unbuilt.{status_of}
+use Rattle.host_view.specs.Status.{status_of}
 use Rattle.run_model.specs.controller_model.link_model.declared.state.PeerFacts.{PeerFacts}
 use Rattle.run_model.specs.controller_model.link_model.declared.state.PeerVersion.{PeerVersion}
 use Rattle.run_model.specs.controller_model.open_links.OpenLinks.{Links, OpenLink, facts_in, link_at}

@@ -6,3 +6,4 @@ pub mod CommandAnswers
 pub mod AnswersHeld
 pub mod SideLines
 pub mod LineAnswers
+pub mod FlowHeld

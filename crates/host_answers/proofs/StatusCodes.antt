@@ -1,13 +1,12 @@
 -- The status of each command is one octet.
-use Rattle.std.proofs.Common.{◌≡◌, ℕ, ◌==◌, ◌%◌, Bool, true, false, if◌then◌else◌, List, [], ◌∷◌, refl}
+use Rattle.std.proofs.Common.{◌≡◌, ℕ, ◌%◌, Bool, true, false, if◌then◌else◌, List, [], ◌∷◌, refl}
 use Rattle.std.specs.Prelude.{◌&&◌, nat_lt}
 use Rattle.std.proofs.lemmas.Bool.{and_parts, ltb-true}
 use Rattle.std.proofs.Math.Nat.{mod-eq_of_lt}
 use Rattle.hci_cmd.specs.declared.command.Command.{Command}
-use Rattle.hci_cmd.specs.declared.command.Command.TheVariants.{LeEnableEncryption, LeSetAdvEnable, LeSetScanEnable}
+use Rattle.hci_cmd.specs.declared.command.Command.TheVariants.{LeSetAdvEnable, LeSetScanEnable}
 use Rattle.host_view.specs.Refusals.{first_refusal}
-use Rattle.host_view.specs.Status.{advertising_on_rows, if_turned_on, rows_of, scan_on_rows}
-use Rattle.host_view.specs.Unbuilt.{status_of, unbuilt_status_of}
+use Rattle.host_view.specs.Status.{advertising_on_rows, if_turned_on, rows_of, scan_on_rows, status_of}
 use Rattle.host_view.specs.View.{View}
 
 -- each code is below 256
@@ -34,15 +33,10 @@ first_code (row ∷ rows) are =
     let both = and_parts (nat_lt row.1 256) (are_codes rows) are in
     code_by row.0 row.1 (first_refusal rows) both.0 (first_code rows both.1)
 
-unbuilt_code : (command : Command) → nat_lt (unbuilt_status_of command) 256 ≡ true
-unbuilt_code (LeEnableEncryption handle rand ediv key) = refl
-unbuilt_code other = refl
-
 status_code : (view : View) (command : Command) → nat_lt (status_of view command) 256 ≡ true
 unfolding status_of
 status_code view command =
-    let table = first_refusal (rows_of view command) in
-    code_by (table == 0) (unbuilt_status_of command) table (unbuilt_code command) (first_code (rows_of view command) (row_codes view command))
+    first_code (rows_of view command) (row_codes view command)
 
 pub one_octet : (view : View) (command : Command) → status_of view command % 256 ≡ status_of view command
 one_octet view command = mod-eq_of_lt (ltb-true (status_of view command) 256 (status_code view command))

@@ -1,4 +1,5 @@
 -- The definitions of this crate.
 pub mod Answered
+pub mod Flows
 pub mod Calls
 pub mod Rows

@@ -13,10 +13,10 @@ use Rattle.hci_cmd.specs.declared.command.Command.{Command}
 use Rattle.hci_cmd.specs.declared.command.Command.TheVariants.{Disconnect, LeConnectionUpdate, LeEnableEncryption, LeKeyNegative, LeKeyReply, LeParamNegative, LeParamReply, LeReadRemoteFeatures, LeSetChannels, LeSetDataLength, LeSetPhy, ReadRemoteVersion}
 use Rattle.exclusive_stages.specs.declared.stages.PeerAtCentral.{PeerAtCentral}
 use Rattle.exclusive_stages.specs.declared.stages.PeerAtCentral.TheVariants.{Absent, GrantUnsent}
-use Rattle.open_links.specs.procedure_values.declared.asks.Ask.{Ask}
-use Rattle.open_links.specs.procedure_values.declared.asks.Ask.TheVariants.{Encrypt, Features, Length, Map, Phy, Request, Update, Version}
-use Rattle.open_links.specs.procedure_values.Asks.{is_same_kind, kind_of_ask}
-use Rattle.open_links.specs.procedure_values.Wants.{count_of}
+use Rattle.link_commands.specs.open_links.procedure_values.declared.asks.Ask.{Ask}
+use Rattle.link_commands.specs.open_links.procedure_values.declared.asks.Ask.TheVariants.{Encrypt, Features, Length, Map, Phy, Request, Update, Version}
+use Rattle.link_commands.specs.open_links.procedure_values.Asks.{is_same_kind, kind_of_ask}
+use Rattle.link_commands.specs.open_links.procedure_values.Wants.{count_of}
 use Rattle.procedure_events.specs.procedure_stages.declared.closing.Closing.{Closing}
 use Rattle.procedure_events.specs.procedure_stages.declared.closing.Closing.TheVariants.{Open}
 use Rattle.procedure_events.specs.procedure_stages.declared.stages.Progress.{Progress}
@@ -29,17 +29,17 @@ use Rattle.procedure_events.specs.procedure_stages.declared.steps.Effect.TheVari
 use Rattle.procedure_events.specs.procedures.Beginning.{may_ask_of}
 use Rattle.procedure_events.specs.procedures.Going.{host_answer_step, is_answer, terminate_step}
 use Rattle.procedure_events.specs.procedures.Table.{TableFacts}
-use Rattle.open_links.specs.control_model.Control.{Answers, Asks, Control, Disconnects, table_if}
-use Rattle.open_links.proofs.control_model.Calls.{open_step}
+use Rattle.link_commands.specs.open_links.control_model.Control.{Answers, Asks, Control, Disconnects, table_if}
+use Rattle.link_commands.proofs.open_links.control_model.Calls.{open_step}
 use Rattle.link_pairs.specs.control_octets.Fitting.{AskFits, EncryptFits, RequestFits}
 use Rattle.link_pairs.specs.joint_controls.Joint.{is_map}
-use Rattle.open_links.specs.link_model.Facts.{Facts}
-use Rattle.open_links.specs.link_model.Hosts.{asked_unless, facts_answered, facts_asked, facts_disconnected, is_to_come}
-use Rattle.open_links.specs.link_model.Rows.{central_with}
-use Rattle.open_links.specs.link_model.Setup.{Setup}
-use Rattle.open_links.specs.link_model.Step.{Step, ProcedureAsked}
-use Rattle.open_links.specs.link_model.End.{facts_after}
-use Rattle.open_links.proofs.link_model.KnownEnds.{IsPast}
+use Rattle.link_commands.specs.open_links.link_model.Facts.{Facts}
+use Rattle.link_commands.specs.open_links.link_model.Hosts.{asked_unless, facts_answered, facts_asked, facts_disconnected, is_to_come}
+use Rattle.link_commands.specs.open_links.link_model.Rows.{central_with}
+use Rattle.link_commands.specs.open_links.link_model.Setup.{Setup}
+use Rattle.link_commands.specs.open_links.link_model.Step.{Step, ProcedureAsked}
+use Rattle.link_commands.specs.open_links.link_model.End.{facts_after}
+use Rattle.link_commands.proofs.open_links.link_model.KnownEnds.{IsPast}
 use Rattle.host_view.specs.declared.links.Link.{Link}
 use Rattle.host_view.specs.View.{View}
 use Rattle.host_view.specs.declared.links.Asked.{Asked}
@@ -47,7 +47,7 @@ use Rattle.host_view.specs.Changes.{answered, asking, with_asked}
 use Rattle.host_view.specs.Links.{is_asked, is_central_role, link_in, update_kind}
 use Rattle.host_view.specs.Refusals.{are_parameters, asked_row, both_phys_rows, count_if, first_refusal, link_rows, parameters_row}
 use Rattle.host_view.specs.Status.{connection_update_rows, data_length_rows, disconnect_rows, enable_encryption_rows, is_data_length, is_reason, parameter_request_row, rows_of}
-use Rattle.host_view.specs.Unbuilt.{status_of}
+use Rattle.host_view.specs.Status.{status_of}
 use Rattle.link_commands.proofs.Ranges.{length_fits, map_fits, not_not, params_fit, passes}
 use Rattle.link_commands.specs.declared.moments.Moment.{Moment}
 use Rattle.link_commands.specs.Commands.{answered_if, ask_unless, facts_commanded, host_step_of, is_about, link_commanded, map_by, transmit_maximum, update_by}

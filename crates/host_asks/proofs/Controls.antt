@@ -2,14 +2,12 @@
 use Rattle.std.proofs.Common.{◌≡◌, ℕ, Bool, true, false, ◌&&◌, if◌then◌else◌, Option, Some, None, is_some, is_none, refl, ap, sym, ◌∙◌, subst}
 use Rattle.ble_base.specs.ErrorCodes.{instant_passed}
 use Rattle.ble_base.specs.declared.error_codes.ErrCode.{ErrCode}
-use Rattle.ble_base.specs.declared.roles.Role.{Role}
-use Rattle.ble_base.specs.declared.roles.Role.TheVariants.{Central, Peripheral}
 use Rattle.data_pdu.specs.declared.ctrl.Ctrl.{Ctrl}
 use Rattle.data_pdu.specs.declared.ctrl.CtrlRead.{CtrlRead}
 use Rattle.data_pdu.specs.declared.ctrl.CtrlRead.TheVariants.{Known}
 use Rattle.instants.specs.declared.indications.Indication.{Indication}
 use Rattle.instants.specs.Track.{event_of, next_number, track_after_take}
-use Rattle.open_links.specs.procedure_values.Drafts.{is_out}
+use Rattle.link_commands.specs.open_links.procedure_values.Drafts.{is_out}
 use Rattle.procedure_events.specs.procedure_stages.declared.steps.Effect.{Effect}
 use Rattle.procedure_events.specs.procedure_stages.declared.steps.Effect.TheVariants.{Indicated}
 use Rattle.procedure_events.specs.procedure_stages.declared.steps.Step.{Step as TableStep}
@@ -19,15 +17,16 @@ use Rattle.procedure_events.specs.procedures.Queue.{next_of}
 use Rattle.procedure_events.specs.procedures.Sending.{acked_step}
 use Rattle.procedure_events.specs.procedures.Table.{TableFacts}
 use Rattle.procedure_events.specs.procedures.Taking.{facts_with, lacks_room, outcome_of, took_step}
-use Rattle.open_links.specs.control_model.Control.{Control, Step, Enters, Owes, SeesAcknowledged, Sends, Takes, after, ended, following, goes_out, is_to_come, indicated_by, moved, table_if, taken, went}
-use Rattle.open_links.proofs.control_model.Calls.{open_step, settled_as}
-use Rattle.open_links.specs.control_end.declared.answers.Taken.{Taken}
-use Rattle.open_links.specs.control_end.Answers.{done_by_acknowledgement, effect_shown, nothing_taken, step_shown, taken_of}
-use Rattle.open_links.specs.control_end.Held.{Held, held_after, held_of}
-use Rattle.open_links.proofs.control_end.Depending.{step_held}
-use Rattle.open_links.proofs.link_model.Views.{Owing, Taking, TakingKept}
-use Rattle.open_links.proofs.link_model.Views.{Ended, Handed, NoneKept, Over, Owed, Same, TakesKept, Withheld}
+use Rattle.link_commands.specs.open_links.control_model.Control.{Control, Step, Enters, Owes, SeesAcknowledged, Sends, Takes, after, ended, following, goes_out, is_to_come, indicated_by, moved, table_if, taken, went}
+use Rattle.link_commands.proofs.open_links.control_model.Calls.{open_step, settled_as}
+use Rattle.link_commands.specs.open_links.control_end.declared.answers.Taken.{Taken}
+use Rattle.link_commands.specs.open_links.control_end.Answers.{done_by_acknowledgement, effect_shown, nothing_taken, step_shown, taken_of}
+use Rattle.link_commands.specs.open_links.control_end.Held.{Held, held_after, held_of}
+use Rattle.link_commands.proofs.open_links.control_end.Depending.{step_held}
+use Rattle.link_commands.proofs.open_links.link_model.Views.{Owing, Taking, TakingKept}
+use Rattle.link_commands.proofs.open_links.link_model.Views.{Ended, Handed, NoneKept, Over, Owed, Same, TakesKept, Withheld}
 use Rattle.host_view.specs.declared.links.Link.{Link}
+use Rattle.link_pairs.proofs.LastControl.{following_table}
 use Rattle.host_asks.specs.Knowing.{KnowsTable}
 use Rattle.host_asks.specs.Noting.{link_with_request}
 use Rattle.host_asks.proofs.Tables.{link_done, link_refused, table_acked, table_begun, table_entered, table_owes, table_sent, table_takes}
@@ -67,11 +66,6 @@ control_entered_knows link c slot quiet lasts knows =
     (table_begun _ (entered_step c.table (is_some (next_number c.track))).0 slot quiet (table_entered link c.table (is_some (next_number c.track)) knows))
 
 -- ---- a control PDU is sent
-
-following_table : (role : Role) (indication : Option Indication) (c : Control) → (following role indication c).table ≡ c.table
-following_table Central (Some indication) c = refl
-following_table Central None c = refl
-following_table Peripheral indication c = refl
 
 pub control_sent_knows : (link : Link) (c : Control) (slot : ℕ) (quiet : Bool) → KnowsTable link c.table → KnowsTable link (after (Sends slot quiet) c).table
 control_sent_knows link c slot quiet knows = lasting (is_none c.ends)

@@ -18,35 +18,37 @@ use Rattle.procedure_events.specs.procedures.Beginning.{begin_step}
 use Rattle.procedure_events.specs.procedures.Going.{entered_step}
 use Rattle.procedure_events.specs.procedures.Table
 use Rattle.procedure_events.specs.procedures.Table.{TableFacts}
-use Rattle.open_links.specs.control_end.declared.answers.Entry.{Entry}
-use Rattle.open_links.specs.control_end.declared.answers.Taken.{Taken}
-use Rattle.open_links.specs.control_end.Answers.{entry_of, entry_step, is_update_waiting, no_entry}
-use Rattle.open_links.specs.control_end.Held.{Held, held_of}
-use Rattle.open_links.specs.control_model.Control.{Control, Enters, after, ended}
-use Rattle.open_links.specs.link_model.declared.events.ConnectionEvent.{ConnectionEvent}
-use Rattle.open_links.specs.link_model.declared.state.KnownLengths.{KnownLengths}
-use Rattle.open_links.specs.link_model.declared.state.Leaving.{Leaving}
-use Rattle.open_links.specs.link_model.Acknowledgement.{Pdu}
-use Rattle.open_links.specs.link_model.Controls.{goes_on, is_procedure_pdu, is_quiet_now, pdu_fixed, read_of}
-use Rattle.open_links.specs.link_model.Data.{is_control, is_data, is_empty}
-use Rattle.open_links.specs.link_model.End.{facts_after}
-use Rattle.open_links.specs.link_model.Entering.{began_notes, control_entered, done_notes, event_notes, facts_entered}
-use Rattle.open_links.specs.link_model.Events.{applied_notes}
-use Rattle.open_links.specs.link_model.Facts.{Facts, first_facts, keyed_of}
-use Rattle.open_links.specs.link_model.Hosts.{ends_without_key, facts_key_answered, leaving_from_if}
-use Rattle.open_links.specs.link_model.Fixing.{fixed_anew}
-use Rattle.open_links.specs.link_model.Packets.{good_pdu, is_forged}
-use Rattle.open_links.specs.link_model.Receiving.{accepted_if, accepts, acked_kind, acknowledged_if, acks_control, answers_with_control, code_of, control_taken, data_taken, data_taken_if, effect_hearing, effect_of, effect_received, effect_unless_known, ended_by_forgery, facts_before_taking, facts_forged_if, facts_hearing, facts_received, given_if, given_notes, has_acknowledged, heard_in_slot, kept_effect_hearing, kept_effect_of, kept_effect_received, kept_give, kept_given_if, leaving_by, notes_hearing, procedures_give, procedures_take_if, received_notes, refused_notes, took_notes_if}
-use Rattle.open_links.specs.link_model.Sending.{control_gone_if, sent_notes, sent_notes_if, takes_leave}
-use Rattle.open_links.specs.link_model.Setup.{Setup}
-use Rattle.open_links.specs.link_model.Step.{Step, DataGiven, DataReported, Disconnected, EventEntered, KeyAnswered, PacketReceived, PacketSent, PduFixed, ProcedureAsked, RequestAnswered, WordsGiven}
-use Rattle.open_links.specs.link_model.Verdicts.{pdu_of}
-use Rattle.open_links.proofs.link_model.KnownEnds.{IsPast, knows_before_taking, past_knows}
-use Rattle.open_links.proofs.link_model.Views.{DataTaking, Ended, Knows, Same, acked_control, acked_view, data_view, entered_view, key_view, taken_accepted, taken_view}
+use Rattle.link_commands.specs.open_links.control_end.declared.answers.Entry.{Entry}
+use Rattle.link_commands.specs.open_links.control_end.declared.answers.Taken.{Taken}
+use Rattle.link_commands.specs.open_links.control_end.Answers.{entry_of, entry_step, is_update_waiting, no_entry}
+use Rattle.link_commands.specs.open_links.control_end.Held.{Held, held_of}
+use Rattle.link_commands.specs.open_links.control_model.Control.{Control, Enters, after, ended}
+use Rattle.link_commands.specs.open_links.link_model.declared.events.ConnectionEvent.{ConnectionEvent}
+use Rattle.link_commands.specs.open_links.link_model.declared.state.KnownLengths.{KnownLengths}
+use Rattle.link_commands.specs.open_links.link_model.declared.state.Leaving.{Leaving}
+use Rattle.link_commands.specs.open_links.link_model.Acknowledgement.{Pdu}
+use Rattle.link_commands.specs.open_links.link_model.Controls.{goes_on, is_procedure_pdu, is_quiet_now, pdu_fixed, read_of}
+use Rattle.link_commands.specs.open_links.link_model.Data.{is_control, is_data, is_empty}
+use Rattle.link_commands.specs.open_links.link_model.End.{facts_after}
+use Rattle.link_commands.specs.open_links.link_model.Entering.{began_notes, control_entered, done_notes, event_notes, facts_entered}
+use Rattle.link_commands.specs.open_links.link_model.Events.{applied_notes}
+use Rattle.link_commands.specs.open_links.link_model.Facts.{Facts, first_facts, keyed_of}
+use Rattle.link_commands.specs.open_links.link_model.Hosts.{ends_without_key, facts_key_answered, leaving_from_if}
+use Rattle.link_commands.specs.open_links.link_model.Fixing.{fixed_anew}
+use Rattle.link_commands.specs.open_links.link_model.Packets.{good_pdu, is_forged}
+use Rattle.link_commands.specs.open_links.link_model.Receiving.{accepted_if, accepts, acked_kind, acknowledged_if, acks_control, answers_with_control, code_of, control_taken, data_taken, data_taken_if, effect_hearing, effect_of, effect_received, effect_unless_known, ended_by_forgery, facts_before_taking, facts_forged_if, facts_hearing, facts_received, given_if, given_notes, has_acknowledged, heard_in_slot, kept_effect_hearing, kept_effect_of, kept_effect_received, kept_give, kept_given_if, leaving_by, notes_hearing, procedures_give, procedures_take_if, received_notes, refused_notes, took_notes_if}
+use Rattle.link_commands.specs.open_links.link_model.Sending.{control_gone_if, sent_notes, sent_notes_if, takes_leave}
+use Rattle.link_commands.specs.open_links.link_model.Setup.{Setup}
+use Rattle.link_commands.specs.open_links.link_model.Step.{Step, DataGiven, DataReported, Disconnected, EventEntered, KeyAnswered, PacketReceived, PacketSent, PduFixed, ProcedureAsked, RequestAnswered, WordsGiven}
+use Rattle.link_commands.specs.open_links.link_model.Verdicts.{pdu_of}
+use Rattle.link_commands.proofs.open_links.link_model.Ending.{gone_stays}
+use Rattle.link_commands.proofs.open_links.link_model.KnownEnds.{IsPast, knows_before_taking, past_knows}
+use Rattle.link_commands.proofs.open_links.link_model.Views.{DataTaking, Ended, Knows, Same, acked_control, acked_view, data_view, entered_view, key_view, taken_accepted, taken_view}
 use Rattle.host_view.specs.declared.links.Link.{Link}
 use Rattle.host_view.specs.Links.{is_asked}
 use Rattle.host_view.specs.Noted.{is_start_rsp, nothing_asked, opened_link}
 use Rattle.host_view.specs.Refusals.{count_if}
+use Rattle.link_pairs.proofs.TakingLast.{data_leaves}
 use Rattle.host_asks.specs.Knowing.{KnowsAsks, KnowsTable}
 use Rattle.host_asks.specs.Noting.{is_of_host, link_after_step, link_after_note, link_encrypted_if, link_with_request, or_request}
 use Rattle.host_asks.proofs.Tables.{link_done, link_refused}
@@ -119,9 +121,6 @@ noted_hearing handle acked took starts given kept link is =
 
 -- ---- what the view keeps of a Disconnect
 
-done_stays : (over : Option Kind) (link : Link) → (link_done over link).disconnecting ≡ link.disconnecting
-done_stays over link = refl
-
 request_disconnecting : (effect : Effect) (link : Link) → (link_with_request effect link).disconnecting ≡ link.disconnecting
 request_disconnecting (AskHost min max latency timeout) link = refl
 request_disconnecting effect link = refl
@@ -160,14 +159,6 @@ known_same lengths effect link = refl
 leaving_stays : (code : Option ErrCode) (leaving : Leaving) → (leaving_by code leaving).disconnected ≡ leaving.disconnected
 leaving_stays None leaving = refl
 leaving_stays (Some code) leaving = refl
-
-pub gone_leaving : (goes : Bool) (slot : ℕ) (facts : Facts) → (control_gone_if goes slot facts).leaving ≡ facts.leaving
-gone_leaving true slot facts = refl
-gone_leaving false slot facts = refl
-
-data_leaving : (takes : Bool) (facts : Facts) → (data_taken_if takes facts).leaving ≡ facts.leaving
-data_leaving true facts = refl
-data_leaving false facts = refl
 
 take_leaving : (takes : Bool) (pdu : Pdu) (slot : ℕ) (facts : Facts) → (procedures_take_if takes pdu slot facts).leaving.disconnected ≡ facts.leaving.disconnected
 take_leaving true pdu slot facts = leaving_stays (code_of (procedures_give pdu slot facts).effect) facts.leaving
@@ -321,8 +312,8 @@ module _ (setup : Setup) (slot : ℕ) (room : Bool) (header : DataHeader) (pdu :
             (taken_stage seen takes accepted pdu slot now (knows_before_taking setup facts p setup.link.role slot header) gone
             (ap (λ (c : Control). c.ends) (sym same) ∙ lasts));
         disconnecting = λ ends.
-            ap is_some (ap (λ (l : Leaving). l.disconnected) (data_leaving (accepted && is_data pdu) taken)
-            ∙ take_leaving takes pdu slot (accepted_if accepted pdu now) ∙ ap (λ (l : Leaving). l.disconnected) (gone_leaving answers slot own))
+            ap is_some (ap (λ (l : Leaving). l.disconnected) (data_leaves (accepted && is_data pdu) taken)
+            ∙ take_leaving takes pdu slot (accepted_if accepted pdu now) ∙ ap (λ (l : Leaving). l.disconnected) (gone_stays answers slot own))
             ∙ knows.disconnecting (sym given_disconnecting ∙ ends);
         version =
             data_version (accepted && is_data pdu) taken
@@ -379,7 +370,7 @@ sent_knows setup slot link facts knows =
     (record {
       table = gone_stage link (takes_leave facts) slot facts knows.table;
       disconnecting = λ ends.
-          ap (λ (l : Leaving). is_some l.disconnected) (gone_leaving (takes_leave facts) slot facts) ∙ knows.disconnecting ends;
+          ap (λ (l : Leaving). is_some l.disconnected) (gone_stays (takes_leave facts) slot facts) ∙ knows.disconnecting ends;
       version = gone_version (takes_leave facts) slot facts knows.version;
     })
 

@@ -11,22 +11,22 @@ use Rattle.hci_cmd.specs.declared.command.Command.{Command}
 use Rattle.hci_cmd.specs.declared.command.Command.TheVariants.{LeReadRemoteFeatures, ReadRemoteVersion}
 use Rattle.hci_evt.specs.Event.{written}
 use Rattle.hci_evt.specs.declared.event.Event.TheVariants.{ParamRequest}
-use Rattle.open_links.specs.procedure_values.declared.asks.Ask.TheVariants.{Features as ask_features, Version as ask_version}
+use Rattle.link_commands.specs.open_links.procedure_values.declared.asks.Ask.TheVariants.{Features as ask_features, Version as ask_version}
 use Rattle.procedure_events.specs.procedure_stages.declared.steps.Effect.{Effect}
 use Rattle.procedure_events.specs.procedure_stages.Kinds.{role_of}
 use Rattle.procedure_events.specs.procedure_stages.Steps.{asks_host}
 use Rattle.procedure_events.specs.procedure_stages.declared.steps.Effect.TheVariants.{AskHost}
-use Rattle.open_links.specs.link_model.declared.state.PeerFacts.{PeerFacts}
-use Rattle.open_links.specs.link_model.declared.state.PeerVersion.{PeerVersion}
-use Rattle.open_links.specs.link_model.End.{facts_after, notes_after}
-use Rattle.open_links.specs.link_model.Hosts.{facts_answered, facts_key_answered}
-use Rattle.open_links.specs.link_model.Setup.{Setup}
-use Rattle.open_links.specs.link_model.Step.{Step}
-use Rattle.open_links.specs.link_model.Facts.{Facts}
-use Rattle.open_links.proofs.link_model.KnownEnds.{IsPast}
+use Rattle.link_commands.specs.open_links.link_model.declared.state.PeerFacts.{PeerFacts}
+use Rattle.link_commands.specs.open_links.link_model.declared.state.PeerVersion.{PeerVersion}
+use Rattle.link_commands.specs.open_links.link_model.End.{facts_after, notes_after}
+use Rattle.link_commands.specs.open_links.link_model.Hosts.{facts_answered, facts_key_answered}
+use Rattle.link_commands.specs.open_links.link_model.Setup.{Setup}
+use Rattle.link_commands.specs.open_links.link_model.Step.{Step}
+use Rattle.link_commands.specs.open_links.link_model.Facts.{Facts}
+use Rattle.link_commands.proofs.open_links.link_model.KnownEnds.{IsPast}
 use Rattle.host_view.specs.Changes.{answered, view_after}
 use Rattle.host_view.specs.Refusals.{count_if}
-use Rattle.host_view.specs.Unbuilt.{status_of}
+use Rattle.host_view.specs.Status.{status_of}
 use Rattle.host_view.specs.declared.links.Link.{Link}
 use Rattle.host_view.specs.View.{View}
 use Rattle.host_view.specs.Changes.{on_link}

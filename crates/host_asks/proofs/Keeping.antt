@@ -4,11 +4,11 @@ use Rattle.std.proofs.lemmas.List.Quantifiers.{position-Some}
 use Rattle.ble_base.specs.declared.error_codes.ErrCode.{ErrCode}
 use Rattle.ble_base.specs.declared.procedure_kinds.Kind.{Kind}
 use Rattle.ble_base.specs.declared.procedure_kinds.Kind.TheVariants.{Update, Request, Map, Phy, Features, Version, Length, Encrypt}
-use Rattle.open_links.specs.procedure_values.declared.asks.Ask.{Ask}
-use Rattle.open_links.specs.procedure_values.declared.asks.Ask.TheVariants.{Phy as ask_phy}
-use Rattle.open_links.specs.procedure_values.Asks.{is_same_kind, kind_of_ask}
-use Rattle.open_links.specs.procedure_values.Wants.{count_of, is_wanted, place_of, wanted_with, without_place}
-use Rattle.open_links.proofs.procedure_values.Counts.{count-removed, count-with, count-without, wanted-counted}
+use Rattle.link_commands.specs.open_links.procedure_values.declared.asks.Ask.{Ask}
+use Rattle.link_commands.specs.open_links.procedure_values.declared.asks.Ask.TheVariants.{Phy as ask_phy}
+use Rattle.link_commands.specs.open_links.procedure_values.Asks.{is_same_kind, kind_of_ask}
+use Rattle.link_commands.specs.open_links.procedure_values.Wants.{count_of, is_wanted, place_of, wanted_with, without_place}
+use Rattle.link_commands.proofs.open_links.procedure_values.Counts.{count-removed, count-with, count-without, wanted-counted}
 use Rattle.procedure_events.specs.procedure_stages.Kinds.{is_kind}
 use Rattle.host_view.specs.declared.links.Asked.{Asked}
 use Rattle.host_view.specs.Links.{is_asked}

@@ -2,12 +2,12 @@
 use Rattle.std.proofs.Common.{◌≡◌, true, false, List, [], ◌∷◌, Option, Some, None, Err, is_none, refl, ap, sym, ◌∙◌}
 use Rattle.ble_base.specs.declared.addresses.Address.{Address}
 use Rattle.ble_base.specs.declared.error_codes.ErrCode.{ErrCode}
-use Rattle.open_links.specs.control_model.Control.{Answers}
-use Rattle.open_links.specs.link_model.Setup.{Setup}
-use Rattle.open_links.specs.link_model.Facts.{Facts}
-use Rattle.open_links.specs.link_model.Step.{Step, KeyAnswered, RequestAnswered}
-use Rattle.open_links.specs.link_model.End.{facts_after}
-use Rattle.open_links.proofs.link_model.KnownEnds.{IsPast, first_past, stays_over, step_past}
+use Rattle.link_commands.specs.open_links.control_model.Control.{Answers}
+use Rattle.link_commands.specs.open_links.link_model.Setup.{Setup}
+use Rattle.link_commands.specs.open_links.link_model.Facts.{Facts}
+use Rattle.link_commands.specs.open_links.link_model.Step.{Step, KeyAnswered, RequestAnswered}
+use Rattle.link_commands.specs.open_links.link_model.End.{facts_after}
+use Rattle.link_commands.proofs.open_links.link_model.KnownEnds.{IsPast, first_past, stays_over, step_past}
 use Rattle.link_commands.specs.Commands.{facts_commanded, host_step_of}
 use Rattle.host_asks.specs.Knowing.{KnowsAsks}
 use Rattle.host_asks.specs.Lasting.{AllMayHappen, IsCommanded, LacksKey, LinkEvent, Makes, MakesUnreported, MayHappen, ViewedEnd, first_viewed, viewed_after, viewed_after_all}

@@ -12,24 +12,24 @@ use Rattle.hci_cmd.specs.declared.command.Command.{Command}
 use Rattle.hci_cmd.specs.declared.command.Command.TheVariants.{Disconnect, HostCompleted, LeConnectionUpdate, LeEnableEncryption, LeKeyNegative, LeKeyReply, LeParamNegative, LeParamReply, LeReadRemoteFeatures, LeSetChannels, LeSetDataLength, LeSetPhy, ReadRemoteVersion, Reset}
 use Rattle.data_pdu.specs.Header.{header_in}
 use Rattle.data_pdu.specs.declared.header.DataHeader.{DataHeader}
-use Rattle.open_links.specs.control_end.declared.answers.Entry.{Entry}
-use Rattle.open_links.specs.control_end.declared.answers.Taken.{Taken}
-use Rattle.open_links.specs.control_end.Answers.{entry_of}
-use Rattle.open_links.specs.control_end.Held.{held_of}
-use Rattle.open_links.specs.link_model.declared.events.ConnectionEvent.{ConnectionEvent}
-use Rattle.open_links.specs.link_model.Acknowledgement.{Pdu}
-use Rattle.open_links.specs.link_model.Controls.{goes_on, is_procedure_pdu, is_quiet_now, pdu_fixed}
-use Rattle.open_links.specs.link_model.Data.{is_empty}
-use Rattle.open_links.specs.link_model.End.{notes_after}
-use Rattle.open_links.specs.link_model.Entering.{began_notes, done_notes, event_notes, facts_entered}
-use Rattle.open_links.specs.link_model.Events.{applied_notes}
-use Rattle.open_links.specs.link_model.Facts.{Facts, first_facts}
-use Rattle.open_links.specs.link_model.Packets.{good_pdu}
-use Rattle.open_links.specs.link_model.Receiving.{accepts, acked_kind, acks_control, facts_before_taking, given_if, given_notes, has_acknowledged, kept_given_if, notes_hearing, received_notes, refused_notes, took_notes_if}
-use Rattle.open_links.specs.link_model.Sending.{sent_notes_if}
-use Rattle.open_links.specs.link_model.Setup.{Setup}
-use Rattle.open_links.specs.link_model.Step.{Step, EventEntered, PacketReceived, PacketSent}
-use Rattle.open_links.specs.link_model.Verdicts.{pdu_of}
+use Rattle.link_commands.specs.open_links.control_end.declared.answers.Entry.{Entry}
+use Rattle.link_commands.specs.open_links.control_end.declared.answers.Taken.{Taken}
+use Rattle.link_commands.specs.open_links.control_end.Answers.{entry_of}
+use Rattle.link_commands.specs.open_links.control_end.Held.{held_of}
+use Rattle.link_commands.specs.open_links.link_model.declared.events.ConnectionEvent.{ConnectionEvent}
+use Rattle.link_commands.specs.open_links.link_model.Acknowledgement.{Pdu}
+use Rattle.link_commands.specs.open_links.link_model.Controls.{goes_on, is_procedure_pdu, is_quiet_now, pdu_fixed}
+use Rattle.link_commands.specs.open_links.link_model.Data.{is_empty}
+use Rattle.link_commands.specs.open_links.link_model.End.{notes_after}
+use Rattle.link_commands.specs.open_links.link_model.Entering.{began_notes, done_notes, event_notes, facts_entered}
+use Rattle.link_commands.specs.open_links.link_model.Events.{applied_notes}
+use Rattle.link_commands.specs.open_links.link_model.Facts.{Facts, first_facts}
+use Rattle.link_commands.specs.open_links.link_model.Packets.{good_pdu}
+use Rattle.link_commands.specs.open_links.link_model.Receiving.{accepts, acked_kind, acks_control, facts_before_taking, given_if, given_notes, has_acknowledged, kept_given_if, notes_hearing, received_notes, refused_notes, took_notes_if}
+use Rattle.link_commands.specs.open_links.link_model.Sending.{sent_notes_if}
+use Rattle.link_commands.specs.open_links.link_model.Setup.{Setup}
+use Rattle.link_commands.specs.open_links.link_model.Step.{Step, EventEntered, PacketReceived, PacketSent}
+use Rattle.link_commands.specs.open_links.link_model.Verdicts.{pdu_of}
 use Rattle.host_view.specs.declared.links.Link.{Link}
 use Rattle.host_view.specs.View.{View}
 use Rattle.host_view.specs.Changes.{changed_at, on_link, view_after}

@@ -10,15 +10,15 @@ use Rattle.hci_evt.specs.declared.event.Event.TheVariants.{ParamRequest}
 use Rattle.procedure_events.specs.procedure_stages.declared.steps.Effect.{Effect}
 use Rattle.procedure_events.specs.procedure_stages.declared.steps.Effect.TheVariants.{AskHost, Nothing}
 use Rattle.procedure_events.specs.procedure_stages.Steps.{asks_host}
-use Rattle.open_links.specs.link_model.Setup.{Setup}
-use Rattle.open_links.specs.link_model.Facts.{Facts, first_facts}
-use Rattle.open_links.specs.link_model.Hosts.{facts_answered}
-use Rattle.open_links.specs.link_model.Step.{Step, RequestAnswered}
-use Rattle.open_links.specs.link_model.End.{facts_after, facts_of, notes_after}
-use Rattle.open_links.proofs.link_model.Pasts.{grows}
-use Rattle.open_links.specs.Hosts.{links_answered}
-use Rattle.open_links.specs.OpenLinks.{Links, OpenLink, facts_in, link_after, link_at, new_link, with_change, with_link, without_link}
-use Rattle.open_links.proofs.Handles.{changed_have, changed_is, opened_at, opened_has, other_stays, shut_have}
+use Rattle.link_commands.specs.open_links.link_model.Setup.{Setup}
+use Rattle.link_commands.specs.open_links.link_model.Facts.{Facts, first_facts}
+use Rattle.link_commands.specs.open_links.link_model.Hosts.{facts_answered}
+use Rattle.link_commands.specs.open_links.link_model.Step.{Step, RequestAnswered}
+use Rattle.link_commands.specs.open_links.link_model.End.{facts_after, facts_of, notes_after}
+use Rattle.link_commands.proofs.open_links.link_model.Pasts.{grows}
+use Rattle.link_commands.specs.open_links.Hosts.{links_answered}
+use Rattle.link_commands.specs.open_links.OpenLinks.{Links, OpenLink, facts_in, link_after, link_at, new_link, with_change, with_link, without_link}
+use Rattle.link_commands.proofs.open_links.Handles.{changed_have, changed_is, opened_at, opened_has, other_stays, shut_have}
 use Rattle.host_view.specs.View.{View}
 use Rattle.host_view.specs.Links.{link_in}
 use Rattle.host_view.specs.Noted.{opened_link, view_noted}
@@ -160,7 +160,7 @@ shut_other : (view : View) (handle other : ℕ) (code : ErrCode) → (other ≡ 
 unfolding view_noted
 shut_other view handle other code differs = get_or-set_other view.links handle other None None differs
 
-known_still : (before after : View) (handle : ℕ) (facts : Facts) → link_in after.links handle ≡ link_in before.links handle → KnowsAt before handle facts
+pub known_still : (before after : View) (handle : ℕ) (facts : Facts) → link_in after.links handle ≡ link_in before.links handle → KnowsAt before handle facts
     → KnowsAt after handle facts
 known_still before after handle facts same known = record { link = known.link; is_open = same ∙ known.is_open; knows = known.knows }
 

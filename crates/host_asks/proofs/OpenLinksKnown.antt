@@ -6,16 +6,16 @@ use Rattle.ble_base.specs.declared.roles.Role.{Role}
 use Rattle.hci_cmd.specs.declared.command.Command.{Command}
 use Rattle.hci_cmd.specs.declared.command.Command.TheVariants.{LeReadRemoteFeatures, ReadRemoteVersion}
 use Rattle.procedure_events.specs.procedure_stages.Kinds.{role_of}
-use Rattle.open_links.specs.link_model.Setup.{Setup}
-use Rattle.open_links.specs.link_model.Facts.{Facts}
-use Rattle.open_links.specs.link_model.Step.{Step}
-use Rattle.open_links.proofs.link_model.KeyedPasts.{keeps_role}
-use Rattle.open_links.proofs.link_model.Pasts.{grows}
-use Rattle.open_links.specs.OpenLinks.{HasHandle, HaveHandles, Links, OpenLink, facts_in, link_at, link_from}
-use Rattle.open_links.proofs.Handles.{has_its_handle}
+use Rattle.link_commands.specs.open_links.link_model.Setup.{Setup}
+use Rattle.link_commands.specs.open_links.link_model.Facts.{Facts}
+use Rattle.link_commands.specs.open_links.link_model.Step.{Step}
+use Rattle.link_commands.proofs.open_links.link_model.KeyedPasts.{keeps_role}
+use Rattle.link_commands.proofs.open_links.link_model.Pasts.{grows}
+use Rattle.link_commands.specs.open_links.OpenLinks.{HasHandle, HaveHandles, Links, OpenLink, facts_in, link_at, link_from}
+use Rattle.link_commands.proofs.open_links.Handles.{has_its_handle}
 use Rattle.host_view.specs.View.{View}
 use Rattle.host_view.specs.Changes.{view_after}
-use Rattle.host_view.specs.Unbuilt.{status_of}
+use Rattle.host_view.specs.Status.{status_of}
 use Rattle.link_commands.specs.declared.moments.Moment.{Moment}
 use Rattle.link_commands.specs.Commands.{facts_commanded, host_step_of, is_about}
 use Rattle.host_asks.specs.Commands.{MayComeIf, WordsFit}

@@ -11,9 +11,9 @@ use Rattle.instants.specs.declared.indications.Indication.TheVariants.{Update as
 use Rattle.exclusive_stages.specs.Awaited.{awaits_phy_ind, awaits_phy_rsp, central_answered, has_phy_of_central, peer_answered, reads_as_answer}
 use Rattle.exclusive_stages.specs.declared.stages.CentralStage.TheVariants.{PhySent}
 use Rattle.exclusive_stages.specs.declared.stages.PeripheralStage.TheVariants.{PhySent as phy_sent, RequestAcknowledged, RequestGranted}
-use Rattle.open_links.specs.procedure_values.declared.asks.Ask.{Ask}
-use Rattle.open_links.specs.procedure_values.Values.{are_valid}
-use Rattle.open_links.specs.procedure_values.Wants.{is_wanted, place_of, without_place}
+use Rattle.link_commands.specs.open_links.procedure_values.declared.asks.Ask.{Ask}
+use Rattle.link_commands.specs.open_links.procedure_values.Values.{are_valid}
+use Rattle.link_commands.specs.open_links.procedure_values.Wants.{is_wanted, place_of, without_place}
 use Rattle.procedure_events.specs.procedure_stages.declared.stages.Ahead.{Ahead}
 use Rattle.procedure_events.specs.procedure_stages.declared.stages.Ahead.TheVariants.{Nothing, Update as update_ahead, Map as map_ahead}
 use Rattle.procedure_events.specs.procedure_stages.declared.stages.Central.{Central}

@@ -2,13 +2,13 @@
 use Rattle.std.proofs.Common.{◌≡◌, ℕ, true, Option, Some, None}
 use Rattle.hci_cmd.specs.declared.command.Command.{Command}
 use Rattle.procedure_events.specs.procedure_stages.Kinds.{role_of}
-use Rattle.open_links.specs.link_model.Setup.{Setup}
-use Rattle.open_links.specs.link_model.Facts.{Facts}
-use Rattle.open_links.specs.link_model.Step.{Step}
-use Rattle.open_links.specs.link_model.End.{facts_after}
+use Rattle.link_commands.specs.open_links.link_model.Setup.{Setup}
+use Rattle.link_commands.specs.open_links.link_model.Facts.{Facts}
+use Rattle.link_commands.specs.open_links.link_model.Step.{Step}
+use Rattle.link_commands.specs.open_links.link_model.End.{facts_after}
 use Rattle.link_pairs.specs.Hosts.{MayHost}
 use Rattle.host_view.specs.View.{View}
-use Rattle.host_view.specs.Unbuilt.{status_of}
+use Rattle.host_view.specs.Status.{status_of}
 use Rattle.link_commands.specs.declared.moments.Moment.{Moment}
 use Rattle.link_commands.specs.Commands.{facts_commanded, host_step_of, is_about}
 use Rattle.host_asks.specs.Commands.{MayComeIf, WordsFit}

@@ -3,15 +3,15 @@ use Rattle.std.proofs.Common.{◌≡◌, ℕ, zero, suc, ◌+◌, Bool, true, fa
 use Rattle.std.specs.List.{AllByRecursion}
 use Rattle.ble_base.specs.declared.procedure_kinds.Kind.TheVariants.{Features, Version}
 use Rattle.hci_cmd.specs.declared.command.Command.{Command}
-use Rattle.open_links.specs.link_model.Facts.{Facts}
-use Rattle.open_links.specs.link_model.Step.{Step}
+use Rattle.link_commands.specs.open_links.link_model.Facts.{Facts}
+use Rattle.link_commands.specs.open_links.link_model.Step.{Step}
 use Rattle.link_pairs.specs.Hosts.{MayHost}
 use Rattle.host_view.specs.declared.links.Link.{Link}
 use Rattle.host_view.specs.View.{View}
 use Rattle.host_view.specs.Changes.{asking}
 use Rattle.host_view.specs.Links.{is_asked, link_in}
 use Rattle.host_view.specs.Refusals.{count_if}
-use Rattle.host_view.specs.Unbuilt.{status_of}
+use Rattle.host_view.specs.Status.{status_of}
 use Rattle.link_commands.specs.declared.moments.Moment.{Moment}
 use Rattle.link_commands.specs.Commands.{host_step_of, host_steps, host_steps_from, is_about, step_if_about, with_host_step}
 use Rattle.host_asks.specs.Commands.{MayComeIf, WordsFit}

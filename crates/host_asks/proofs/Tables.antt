@@ -21,15 +21,15 @@ use Rattle.exclusive_stages.specs.Acked.{own_acked_at_central, own_acked_at_peri
 use Rattle.exclusive_stages.specs.Held.{own_held_at_central, own_held_at_peripheral, peer_held_at_central}
 use Rattle.exclusive_stages.specs.Kinds.{is_host_asked_at_central}
 use Rattle.exclusive_stages.specs.Sent.{own_sent_by_central, own_sent_by_peripheral, peer_sent_by_central}
-use Rattle.open_links.specs.procedure_values.declared.asks.Ask.{Ask}
-use Rattle.open_links.specs.procedure_values.declared.asks.Ask.TheVariants.{Update as ask_update, Request as ask_request, Map as ask_map, Version as ask_version, Encrypt as ask_encrypt}
-use Rattle.open_links.specs.procedure_values.declared.drafts.Draft.{Draft}
-use Rattle.open_links.specs.procedure_values.declared.drafts.Draft.TheVariants.{Cipher, FeatureReq, LengthReq, PeripheralFeatureReq, VersionInd}
-use Rattle.open_links.specs.procedure_values.declared.drafts.Outgoing.{Outgoing}
-use Rattle.open_links.specs.procedure_values.declared.drafts.Outgoing.TheVariants.{Other}
-use Rattle.open_links.specs.procedure_values.Asks.{is_same_kind, kind_of_ask}
-use Rattle.open_links.specs.procedure_values.Wants.{count_of, is_wanted}
-use Rattle.open_links.proofs.procedure_values.Counts.{count-removed, wanted-counted}
+use Rattle.link_commands.specs.open_links.procedure_values.declared.asks.Ask.{Ask}
+use Rattle.link_commands.specs.open_links.procedure_values.declared.asks.Ask.TheVariants.{Update as ask_update, Request as ask_request, Map as ask_map, Version as ask_version, Encrypt as ask_encrypt}
+use Rattle.link_commands.specs.open_links.procedure_values.declared.drafts.Draft.{Draft}
+use Rattle.link_commands.specs.open_links.procedure_values.declared.drafts.Draft.TheVariants.{Cipher, FeatureReq, LengthReq, PeripheralFeatureReq, VersionInd}
+use Rattle.link_commands.specs.open_links.procedure_values.declared.drafts.Outgoing.{Outgoing}
+use Rattle.link_commands.specs.open_links.procedure_values.declared.drafts.Outgoing.TheVariants.{Other}
+use Rattle.link_commands.specs.open_links.procedure_values.Asks.{is_same_kind, kind_of_ask}
+use Rattle.link_commands.specs.open_links.procedure_values.Wants.{count_of, is_wanted}
+use Rattle.link_commands.proofs.open_links.procedure_values.Counts.{count-removed, wanted-counted}
 use Rattle.procedure_events.specs.procedure_stages.declared.closing.Closing.{Closing}
 use Rattle.procedure_events.specs.procedure_stages.declared.closing.Closing.TheVariants.{Open, Closed, Disconnecting}
 use Rattle.procedure_events.specs.procedure_stages.declared.stages.Exchange.{Exchange}
@@ -59,7 +59,7 @@ use Rattle.procedure_events.specs.procedures.Going.{closing_given, entered_step,
 use Rattle.procedure_events.specs.procedures.Sending.{acked_step, facts_sent}
 use Rattle.procedure_events.specs.procedures.Table.{TableFacts}
 use Rattle.procedure_events.specs.procedures.Taking.{facts_with, outcome_of}
-use Rattle.open_links.proofs.table_laws.Begun.{Begins, begins_of}
+use Rattle.link_commands.proofs.open_links.table_laws.Begun.{Begins, begins_of}
 use Rattle.host_view.specs.declared.links.Asked.{Asked}
 use Rattle.host_view.specs.declared.links.Link.{Link}
 use Rattle.host_view.specs.Changes.{asking}

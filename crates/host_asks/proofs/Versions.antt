@@ -6,28 +6,28 @@ use Rattle.data_pdu.specs.declared.ctrl.Ctrl.{Ctrl}
 use Rattle.data_pdu.specs.declared.ctrl.Ctrl.TheVariants.{VersionInd}
 use Rattle.data_pdu.specs.declared.ctrl.CtrlRead.{CtrlRead}
 use Rattle.data_pdu.specs.declared.ctrl.CtrlRead.TheVariants.{Bare, Known, Unknown}
-use Rattle.open_links.specs.control_model.Control.{Enters as control_enters}
-use Rattle.open_links.specs.link_model.phased_end.Taking.{drawn}
-use Rattle.open_links.specs.link_model.phased_end.enc_phase.declared.classes.PduClass.TheVariants.{Data}
-use Rattle.open_links.specs.link_model.phased_end.enc_phase.declared.facts.PhaseFacts.{PhaseFacts}
-use Rattle.open_links.specs.link_model.phased_end.enc_phase.declared.facts.PhaseFacts.TheVariants.{Clear}
-use Rattle.open_links.specs.link_model.phased_end.enc_phase.declared.facts.Transition.TheVariants.{Ask as AskTransition, Refuse}
-use Rattle.open_links.specs.link_model.phased_end.enc_phase.Phases.{may_follow, phase_after}
-use Rattle.open_links.specs.link_model.phased_end.enc_phase.Taking.{allows}
-use Rattle.open_links.specs.link_model.phased_end.phased_control.Phased.{Phased, asking_if, asks_again, encrypting, encrypting_if, is_open_now, is_quiet_now, key_given, key_lacking, refused_if, with_owed_if, with_step}
-use Rattle.open_links.specs.link_model.phased_end.phased_control.Steps.{seen_by_procedures}
-use Rattle.open_links.specs.link_model.phased_end.phased_control.Taken.{Response, answered_if_quiet, answered_kept, ciphered, ctrl_in, does_keep, ended_with, handed_on, is_allowed, is_version, keeping, lacks_room_now, role_now, took}
-use Rattle.open_links.specs.link_model.phased_end.keyed_control.Keyed.{Keyed}
-use Rattle.open_links.specs.link_model.phased_end.keyed_control.KeyedSteps.{Enters, SeesAcknowledged, Takes, TakesData, keyed_after, keyed_moved}
-use Rattle.open_links.specs.link_model.declared.state.PeerFacts.{PeerFacts}
-use Rattle.open_links.specs.link_model.Acknowledgement.{Pdu}
-use Rattle.open_links.specs.link_model.Controls.{read_of}
-use Rattle.open_links.specs.link_model.Entering.{keyed_entered}
-use Rattle.open_links.specs.link_model.Facts.{Facts, keyed_of}
-use Rattle.open_links.specs.link_model.Hosts.{key_step}
-use Rattle.open_links.specs.link_model.Receiving.{acknowledged_if, acks_control, data_taken_if, keyed_acked_if, peer_from, peer_from_if, procedures_take_if}
-use Rattle.open_links.specs.link_model.Sending.{control_gone_if}
-use Rattle.open_links.proofs.link_model.phased_end.keyed_control.phased_control.Answering.{answers}
+use Rattle.link_commands.specs.open_links.control_model.Control.{Enters as control_enters}
+use Rattle.link_commands.specs.open_links.link_model.phased_end.Taking.{drawn}
+use Rattle.link_commands.specs.open_links.link_model.phased_end.enc_phase.declared.classes.PduClass.TheVariants.{Data}
+use Rattle.link_commands.specs.open_links.link_model.phased_end.enc_phase.declared.facts.PhaseFacts.{PhaseFacts}
+use Rattle.link_commands.specs.open_links.link_model.phased_end.enc_phase.declared.facts.PhaseFacts.TheVariants.{Clear}
+use Rattle.link_commands.specs.open_links.link_model.phased_end.enc_phase.declared.facts.Transition.TheVariants.{Ask as AskTransition, Refuse}
+use Rattle.link_commands.specs.open_links.link_model.phased_end.enc_phase.Phases.{may_follow, phase_after}
+use Rattle.link_commands.specs.open_links.link_model.phased_end.enc_phase.Taking.{allows}
+use Rattle.link_commands.specs.open_links.link_model.phased_end.phased_control.Phased.{Phased, asking_if, asks_again, encrypting, encrypting_if, is_open_now, is_quiet_now, key_given, key_lacking, refused_if, with_owed_if, with_step}
+use Rattle.link_commands.specs.open_links.link_model.phased_end.phased_control.Steps.{seen_by_procedures}
+use Rattle.link_commands.specs.open_links.link_model.phased_end.phased_control.Taken.{Response, answered_if_quiet, answered_kept, ciphered, ctrl_in, does_keep, ended_with, handed_on, is_allowed, is_version, keeping, lacks_room_now, role_now, took}
+use Rattle.link_commands.specs.open_links.link_model.phased_end.keyed_control.Keyed.{Keyed}
+use Rattle.link_commands.specs.open_links.link_model.phased_end.keyed_control.KeyedSteps.{Enters, SeesAcknowledged, Takes, TakesData, keyed_after, keyed_moved}
+use Rattle.link_commands.specs.open_links.link_model.declared.state.PeerFacts.{PeerFacts}
+use Rattle.link_commands.specs.open_links.link_model.Acknowledgement.{Pdu}
+use Rattle.link_commands.specs.open_links.link_model.Controls.{read_of}
+use Rattle.link_commands.specs.open_links.link_model.Entering.{keyed_entered}
+use Rattle.link_commands.specs.open_links.link_model.Facts.{Facts, keyed_of}
+use Rattle.link_commands.specs.open_links.link_model.Hosts.{key_step}
+use Rattle.link_commands.specs.open_links.link_model.Receiving.{acknowledged_if, acks_control, data_taken_if, keyed_acked_if, peer_from, peer_from_if, procedures_take_if}
+use Rattle.link_commands.specs.open_links.link_model.Sending.{control_gone_if}
+use Rattle.link_commands.proofs.open_links.link_model.phased_end.keyed_control.phased_control.Answering.{answers}
 use Rattle.host_asks.specs.Knowing.{KnowsVersion, has_version, kept_read}
 
 -- ---- steps that take no control PDU leave what the end knows

@@ -7,14 +7,14 @@ use Rattle.ble_base.specs.declared.procedure_kinds.Kind.TheVariants.{Map}
 use Rattle.data_pdu.specs.declared.ctrl.Ctrl.{Ctrl}
 use Rattle.data_pdu.specs.declared.ctrl.CtrlRead.{CtrlRead}
 use Rattle.data_pdu.specs.declared.ctrl.CtrlRead.TheVariants.{Bare, Known}
-use Rattle.open_links.specs.procedure_values.Asks.{is_same_kind}
-use Rattle.open_links.specs.procedure_values.Wants.{count_of}
+use Rattle.link_commands.specs.open_links.procedure_values.Asks.{is_same_kind}
+use Rattle.link_commands.specs.open_links.procedure_values.Wants.{count_of}
 use Rattle.procedure_events.specs.procedure_stages.Closing.{is_disconnecting, is_open}
 use Rattle.procedure_events.specs.procedure_stages.InProgress.{is_host_asked}
 use Rattle.procedure_events.specs.procedure_stages.Kinds.{is_kind, own_kind, role_of}
 use Rattle.procedure_events.specs.procedures.Table.{TableFacts}
-use Rattle.open_links.specs.link_model.Facts.{Facts}
-use Rattle.open_links.specs.link_model.phased_end.phased_control.Taken.{is_version}
+use Rattle.link_commands.specs.open_links.link_model.Facts.{Facts}
+use Rattle.link_commands.specs.open_links.link_model.phased_end.phased_control.Taken.{is_version}
 use Rattle.host_view.specs.declared.links.Link.{Link}
 use Rattle.host_view.specs.Links.{is_asked}
 use Rattle.host_view.specs.Refusals.{count_if}

@@ -3,16 +3,16 @@ use Rattle.std.specs.Prelude.{◌≡◌, ℕ, true, false, List, [], ◌∷◌, 
 use Rattle.ble_base.specs.declared.addresses.Address.{Address}
 use Rattle.ble_base.specs.declared.error_codes.ErrCode.{ErrCode}
 use Rattle.hci_cmd.specs.declared.command.Command.{Command}
-use Rattle.open_links.specs.link_model.Setup.{Setup}
-use Rattle.open_links.specs.link_model.Facts.{Facts, first_facts}
-use Rattle.open_links.specs.link_model.Hosts.{facts_answered, facts_key_answered}
-use Rattle.open_links.specs.link_model.Step.{Step}
-use Rattle.open_links.specs.link_model.End.{facts_after}
+use Rattle.link_commands.specs.open_links.link_model.Setup.{Setup}
+use Rattle.link_commands.specs.open_links.link_model.Facts.{Facts, first_facts}
+use Rattle.link_commands.specs.open_links.link_model.Hosts.{facts_answered, facts_key_answered}
+use Rattle.link_commands.specs.open_links.link_model.Step.{Step}
+use Rattle.link_commands.specs.open_links.link_model.End.{facts_after}
 use Rattle.host_view.specs.declared.links.Link.{Link}
 use Rattle.host_view.specs.View.{View}
 use Rattle.host_view.specs.Links.{link_in}
 use Rattle.host_view.specs.Noted.{opened_link}
-use Rattle.host_view.specs.Unbuilt.{status_of}
+use Rattle.host_view.specs.Status.{status_of}
 use Rattle.link_commands.specs.declared.moments.Moment.{Moment}
 use Rattle.link_commands.specs.Commands.{facts_commanded, host_step_of, is_about, link_commanded}
 use Rattle.host_asks.specs.Noting.{is_of_host, link_after_step, link_after_notes}

@@ -5,11 +5,11 @@ use Rattle.ble_base.specs.declared.notes.Note.{Note}
 use Rattle.ble_base.specs.declared.notes.Note.TheVariants.{Done, Refused, Took}
 use Rattle.procedure_events.specs.procedure_stages.declared.steps.Effect.{Effect}
 use Rattle.procedure_events.specs.procedure_stages.declared.steps.Effect.TheVariants.{AskHost, Nothing}
-use Rattle.open_links.specs.link_model.Setup.{Setup}
-use Rattle.open_links.specs.link_model.Facts.{Facts}
-use Rattle.open_links.specs.link_model.Step.{Step, Disconnected, KeyAnswered, PacketReceived, ProcedureAsked, RequestAnswered}
-use Rattle.open_links.specs.link_model.End.{notes_after}
-use Rattle.open_links.specs.link_model.Receiving.{effect_of, kept_effect_of}
+use Rattle.link_commands.specs.open_links.link_model.Setup.{Setup}
+use Rattle.link_commands.specs.open_links.link_model.Facts.{Facts}
+use Rattle.link_commands.specs.open_links.link_model.Step.{Step, Disconnected, KeyAnswered, PacketReceived, ProcedureAsked, RequestAnswered}
+use Rattle.link_commands.specs.open_links.link_model.End.{notes_after}
+use Rattle.link_commands.specs.open_links.link_model.Receiving.{effect_of, kept_effect_of}
 use Rattle.host_view.specs.declared.links.Link.{Link}
 use Rattle.host_view.specs.Changes.{answered}
 use Rattle.host_view.specs.Noted.{is_start_rsp}

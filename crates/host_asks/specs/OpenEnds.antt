@@ -1,7 +1,7 @@
 -- The ends of the open links of a controller that the view of its host knows (our choice).
 use Rattle.std.specs.Prelude.{◌≡◌, ℕ, Some, None}
 use Rattle.procedure_events.specs.procedure_stages.declared.steps.Effect.{Effect}
-use Rattle.open_links.specs.OpenLinks.{HaveHandles, Links, OpenLink, facts_in, link_at}
+use Rattle.link_commands.specs.open_links.OpenLinks.{HaveHandles, Links, OpenLink, facts_in, link_at}
 use Rattle.host_view.specs.View.{View}
 use Rattle.host_asks.specs.Views.{KnowsAt, KnowsOnceReported}
 

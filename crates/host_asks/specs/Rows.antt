@@ -3,9 +3,9 @@ use Rattle.std.specs.Prelude.{ℕ, true, []}
 use Rattle.data_pdu.specs.declared.ctrl.Ctrl.{Ctrl}
 use Rattle.data_pdu.specs.declared.ctrl.Ctrl.TheVariants.{ConnectionParamReq}
 use Rattle.data_pdu.specs.declared.ctrl.CtrlRead.TheVariants.{Known}
-use Rattle.open_links.specs.control_model.Control.{Control, Takes, after}
-use Rattle.open_links.specs.link_model.Facts.{first_facts}
-use Rattle.open_links.specs.link_model.Rows.{central_with}
+use Rattle.link_commands.specs.open_links.control_model.Control.{Control, Takes, after}
+use Rattle.link_commands.specs.open_links.link_model.Facts.{first_facts}
+use Rattle.link_commands.specs.open_links.link_model.Rows.{central_with}
 
 -- a request of the peripheral, of intervals from this one on
 abbrev pub request_from : ℕ → Ctrl

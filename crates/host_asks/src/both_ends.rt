@@ -3,13 +3,13 @@
 ghost use Rattle.std.specs.Prelude.{◌≡◌, ℕ, Bool, true};
 ghost use Rattle.hci_cmd.specs.declared.command.Command.{Command};
 ghost use Rattle.procedure_events.specs.procedure_stages.Kinds.{role_of};
-ghost use Rattle.open_links.specs.link_model.Setup.{Setup};
-ghost use Rattle.open_links.specs.link_model.Facts.{Facts};
+ghost use Rattle.link_commands.specs.open_links.link_model.Setup.{Setup};
+ghost use Rattle.link_commands.specs.open_links.link_model.Facts.{Facts};
 ghost use Rattle.link_pairs.specs.Ends.{AreEnds};
 ghost use Rattle.link_pairs.specs.Parting.{ArePartingFrom};
 ghost use Rattle.link_pairs.specs.Shown.{AreLinked};
 ghost use Rattle.host_view.specs.View.{View};
-ghost use Rattle.host_view.specs.Unbuilt.{status_of};
+ghost use Rattle.host_view.specs.Status.{status_of};
 ghost use Rattle.link_commands.specs.declared.moments.Moment.{Moment};
 ghost use Rattle.link_commands.specs.Commands.{facts_commanded, host_step_of, is_about};
 ghost use Rattle.host_asks.specs.Commands.{WordsFit};

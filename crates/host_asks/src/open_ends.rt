@@ -2,9 +2,9 @@
 //! are the laws.
 ghost use Rattle.std.specs.Prelude.{◌≡◌, ℕ, true, Some, None};
 ghost use Rattle.hci_cmd.specs.declared.command.Command.{Command};
-ghost use Rattle.open_links.specs.OpenLinks.{Links, OpenLink, facts_in, link_at};
+ghost use Rattle.link_commands.specs.open_links.OpenLinks.{Links, OpenLink, facts_in, link_at};
 ghost use Rattle.host_view.specs.View.{View};
-ghost use Rattle.host_view.specs.Unbuilt.{status_of};
+ghost use Rattle.host_view.specs.Status.{status_of};
 ghost use Rattle.link_commands.specs.declared.moments.Moment.{Moment};
 ghost use Rattle.link_commands.specs.Commands.{host_step_of, is_about};
 ghost use Rattle.host_asks.specs.Commands.{MayComeIf, WordsFit};

@@ -3,7 +3,7 @@ ghost use Rattle.std.specs.Prelude.{◌≡◌, ℕ, true, false, None};
 ghost use Rattle.ble_base.specs.declared.procedure_kinds.Kind.{Kind};
 ghost use Rattle.hci_cmd.specs.declared.command.Command.{Command};
 ghost use Rattle.procedure_events.specs.procedure_stages.InProgress.{is_host_asked};
-ghost use Rattle.open_links.specs.link_model.Facts.{Facts};
+ghost use Rattle.link_commands.specs.open_links.link_model.Facts.{Facts};
 ghost use Rattle.host_view.specs.declared.links.Link.{Link};
 ghost use Rattle.host_view.specs.Links.{is_asked};
 ghost use Rattle.link_commands.specs.Commands.{link_accepted};

@@ -14,7 +14,7 @@ use Rattle.hci_cmd.specs.declared.command.CmdRead.TheVariants.{Known, UnknownOpc
 use Rattle.hci_cmd.specs.Command.{command_of}
 use Rattle.run_model.specs.controller_model.host_view.View.{View}
 use Rattle.run_model.specs.controller_model.host_view.Changes.{view_after}
-use Rattle.run_model.specs.controller_model.host_view.Unbuilt.{status_of}
+use Rattle.run_model.specs.controller_model.host_view.Status.{status_of}
 use Rattle.run_model.specs.controller_model.open_links.declared.offers.Offer.{Offer}
 use Rattle.run_model.specs.controller_model.open_links.declared.offers.Offer.TheVariants.{NoLink, Empty, Overflow, Kept}
 use Rattle.run_model.specs.controller_model.Step.{Step, HostOctet, TurnBegins, PacketHeard, NothingHeard, TurnEnds}
@@ -151,7 +151,7 @@ masks_kept setup masks = record {
     sent = λ channel link doing. opening_passes (Has masks) link facts is;
     responds = λ channel on doing is_on. is;
     taken = λ channel heard pdu on fields handle is_on hears takes free.
-        opening_passes (Has masks) (link_taken on.params.own pdu fields handle) facts is;
+        opening_passes (Has masks) (link_taken facts.view on.params.own pdu fields handle) facts is;
     scanned = λ channel heard pdu on doing is_on hears. is;
     answered = λ channel heard pdu on doing is_on hears. is;
     connects = λ channel heard pdu on access handle doing is_on hears answers next free in_range. is;

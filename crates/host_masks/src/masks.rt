@@ -10,7 +10,7 @@ ghost use Rattle.ble_base.specs.ErrorCodes.{unsupported_remote_feature};
 ghost use Rattle.ble_base.specs.declared.error_codes.ErrCode.{ErrCode};
 ghost use Rattle.data_pdu.specs.declared.ctrl.Ctrl.TheVariants.{EncReq};
 ghost use Rattle.run_model.specs.link_model.Step.{KeyAnswered, RequestAnswered};
-ghost use Rattle.run_model.specs.controller_model.host_view.Unbuilt.{status_of};
+ghost use Rattle.run_model.specs.controller_model.host_view.Status.{status_of};
 ghost use Rattle.run_model.specs.controller_model.host_view.View.{View};
 ghost use Rattle.run_model.specs.controller_model.procedure_stages.declared.steps.Effect.TheVariants.{AskHost, Cipher};
 ghost use Rattle.run_model.specs.controller_model.Events.{passes};

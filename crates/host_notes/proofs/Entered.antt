@@ -100,12 +100,3 @@ module _ (view : View) (slot handle : ℕ) (old mid new : HeldLinks) (before bet
             (adds (done ++ place ∷ rest) received known ∙ ap (λ place. wanted ++ want_entering slot handle place) is)
             ∙ append_assoc wanted (want_entering slot handle place) (wants_from slot (handle + 1) rest);
       }
-
--- no link is left
-pub enters_none : (view : View) (slot handle : ℕ) (held : HeldLinks) (notes : List Note) (wants : List Want) (done rest : Links)
-    (received : List (ℕ × Piece)) → length done ≡ handle → handle ≡ length (done ++ rest) → KnowsLinks held (done ++ rest) received
-    → EntersRest held done rest received view slot handle notes notes wants wants
-enters_none view slot handle held notes wants done [] received count all known =
-    record { knows = known; notes = sym (append-nil notes); plan = sym (append-nil wants) }
-enters_none view slot handle held notes wants done (place ∷ rest) received count all known =
-    absurd (omega (arith, count, all, length-append done (place ∷ rest)))

@@ -1,6 +1,6 @@
 //! Data for the host: the pieces that it receives, which of its packets are complete, and what
 //! becomes of those that are not kept (Core 5.2, volume 4 part E, sections 5.4.2, 7.7.19 and 7.7.26).
-ghost use Rattle.std.specs.Prelude.{◌≡◌, ◌≤◌, ◌<◌, ◌+◌, ◌++◌, ℕ, List, [], ◌∷◌, length, map};
+ghost use Rattle.std.specs.Prelude.{◌≡◌, ◌≤◌, ◌<◌, ◌+◌, ◌++◌, ℕ, List, [], ◌∷◌, drop, length, map, take};
 ghost use Rattle.arrayvec.specs.ArrayVec.{array_vec_len};
 ghost use Rattle.hci_evt.specs.declared.event.Event.TheVariants.{CompletedPackets};
 ghost use Rattle.acl_banks.specs.declared.pieces.Piece.{Piece};
@@ -59,7 +59,7 @@ fn tell_piece(handle: u16, piece: &Piece, out: &mut Outbox)
     out.push(Note::Up(acl_packet(handle, piece)));
 }
 
-/// The host receives the pieces that links took, in order, where there are at most this many.
+/// The host receives the pieces that links took, in order, at most this many of them.
 pub fn hand_up<const L: usize, const T: usize, const R: usize>(
     links: &mut OpenLinks<L, T, R>,
     most: usize,
@@ -67,11 +67,10 @@ pub fn hand_up<const L: usize, const T: usize, const R: usize>(
 )
     requires room { array_vec_len out.old + most ≤ 64 }
     ensures knows { (known : Links) (received : List (ℕ × Piece))
-        → KnowsLinks links.old known received → length received ≤ most
-        → KnowsLinks links.new known [] }
+        → KnowsLinks links.old known received → KnowsLinks links.new known (drop most received) }
     ensures notes { (known : Links) (received : List (ℕ × Piece))
-        → KnowsLinks links.old known received → length received ≤ most
-        → out.new.items ≡ out.old.items ++ map note_received received }
+        → KnowsLinks links.old known received
+        → out.new.items ≡ out.old.items ++ map note_received (take most received) }
     ensures few { array_vec_len out.new ≤ array_vec_len out.old + most }
     ensures counts { (links.new.heard_to ≡ links.old.heard_to)
         × (links.new.unreported ≡ links.old.unreported) }

@@ -3,18 +3,13 @@ use Rattle.std.proofs.Common.{◌≡◌, ℕ, suc, ◌≤◌, ◌^◌, ◌==◌,
 use Rattle.std.proofs.lemmas.Bool.Decides.{nat_tests}
 use Rattle.ble_base.specs.ChannelMap.{IsMap, used_channels}
 use Rattle.scan_init.specs.Addresses.{is_full_for}
-use Rattle.hci_cmd.specs.declared.command.Command.TheVariants.{LeSetAdvParams, LeSetScanParams, LeCreateConnection, LeAddToList, LeSetChannels}
+use Rattle.hci_cmd.specs.declared.command.Command.TheVariants.{HostBufferSize, LeSetAdvParams, LeSetScanParams, LeCreateConnection, LeAddToList, LeSetChannels}
 use Rattle.host_view.specs.View.{View}
 use Rattle.host_view.specs.Refusals.{are_parameters, are_scan_times, is_full, is_generated, uses_list}
-use Rattle.host_view.specs.Status.{are_intervals, if_named, is_connected, named_address}
-use Rattle.host_view.specs.Unbuilt.{or_unbuilt, status_of}
+use Rattle.host_view.specs.Status.{are_intervals, has_link, if_named, is_connected, named_address, status_of}
 use Rattle.host_view.specs.InRange.{is_supported, IsLinkRequest}
 
 -- ---- rows that do not hold
-
--- what is accepted, the table accepts
-table_accepts : (table unbuilt : ℕ) → or_unbuilt table unbuilt ≡ 0 → table ≡ 0
-table_accepts table unbuilt ok = grind (arith, nat_tests)
 
 -- a row with a code that is not 00 does not hold, nor does one of the next
 passes : (condition : Bool) (code rest : ℕ) → cond condition (suc code) rest ≡ 0 → (condition ≡ false) × (rest ≡ 0)
@@ -31,7 +26,7 @@ pub takes_address : (view : View) (kind : ℕ) (octets : List ℕ) → status_of
     → is_full_for view.accepted (named_address kind octets) ≡ false
 unfolding status_of
 takes_address view kind octets ok =
-    let free = passes (uses_list view) _ _ (table_accepts _ _ ok) in
+    let free = passes (uses_list view) _ _ ok in
     let typed = passes (nat_lt 1 kind) _ _ free.1 in
     (passes (is_full_for view.accepted (named_address kind octets)) _ _ typed.1).0
 
@@ -41,7 +36,19 @@ map_by map ok = record { data_channels_only = grind (arith, nat_tests); two_or_m
 pub takes_map : (view : View) (map : ℕ) → status_of view (LeSetChannels map) ≡ 0 → IsMap map
 unfolding status_of
 takes_map view map ok =
-    map_by map (passes (nat_lt (length (used_channels map)) 2 || nat_le (2 ^ 37) map) _ _ (table_accepts _ _ ok)).0
+    map_by map (passes (nat_lt (length (used_channels map)) 2 || nat_le (2 ^ 37) map) _ _ ok).0
+
+-- ---- the buffers of the host
+
+buffers_by : (acl_length acl_count : ℕ) → (nat_lt acl_length 27 || (acl_count == 0)) ≡ false → (27 ≤ acl_length) × (1 ≤ acl_count)
+buffers_by acl_length acl_count ok = (grind (arith, nat_tests), grind (arith, nat_tests))
+
+pub takes_buffers : (view : View) (acl_length sco_length acl_count sco_count : ℕ)
+    → status_of view (HostBufferSize acl_length sco_length acl_count sco_count) ≡ 0 → (27 ≤ acl_length) × (1 ≤ acl_count)
+unfolding status_of
+takes_buffers view acl_length sco_length acl_count sco_count ok =
+    let closed = passes (has_link view) _ _ ok in
+    buffers_by acl_length acl_count (passes (nat_lt acl_length 27 || (acl_count == 0)) _ _ closed.1).0
 
 -- ---- advertising and scanning
 
@@ -52,7 +59,7 @@ pub advertising_interval : (view : View) (min max kind own peer_kind : ℕ) (pee
     → status_of view (LeSetAdvParams min max kind own peer_kind peer channels policy) ≡ 0 → 1 ≤ min
 unfolding status_of
 advertising_interval view min max kind own peer_kind peer channels policy ok =
-    let off = passes view.advertising.on _ _ (table_accepts _ _ ok) in
+    let off = passes view.advertising.on _ _ ok in
     least_interval min max (not_not (are_intervals min max) (passes (not (are_intervals min max)) _ _ off.1).0)
 
 supported_by : (kind : ℕ) → (kind == 1) ≡ false → nat_lt 4 kind ≡ false → is_supported kind ≡ true
@@ -62,7 +69,7 @@ pub advertising_type : (view : View) (min max kind own peer_kind : ℕ) (peer : 
     → status_of view (LeSetAdvParams min max kind own peer_kind peer channels policy) ≡ 0 → is_supported kind ≡ true
 unfolding status_of
 advertising_type view min max kind own peer_kind peer channels policy ok =
-    let off = passes view.advertising.on _ _ (table_accepts _ _ ok) in
+    let off = passes view.advertising.on _ _ ok in
     let timed = passes (not (are_intervals min max)) _ _ off.1 in
     let low = passes (kind == 1) _ _ timed.1 in
     supported_by kind low.0 (passes (nat_lt 4 kind) _ _ low.1).0
@@ -74,7 +81,7 @@ pub scan_interval : (view : View) (kind interval window own policy : ℕ)
     → status_of view (LeSetScanParams kind interval window own policy) ≡ 0 → 1 ≤ interval
 unfolding status_of
 scan_interval view kind interval window own policy ok =
-    let off = passes view.scanning.on _ _ (table_accepts _ _ ok) in
+    let off = passes view.scanning.on _ _ ok in
     let typed = passes (nat_lt 1 kind) _ _ off.1 in
     least_scan interval window (not_not (are_scan_times interval window) (passes (not (are_scan_times interval window)) _ _ typed.1).0)
 
@@ -94,7 +101,7 @@ taken : (view : View) (interval window policy peer_kind : ℕ) (peer : List ℕ)
     → IsTaken view interval window own min max latency timeout
 unfolding status_of
 taken view interval window policy peer_kind peer own min max latency timeout lengths ok =
-    let idle = passes (is_some view.initiating || view.scanning.on) _ _ (table_accepts _ _ ok) in
+    let idle = passes (is_some view.initiating || view.scanning.on) _ _ ok in
     let scan = passes (not (are_scan_times interval window)) _ _ idle.1 in
     let policy_ok = passes (nat_lt 1 policy) _ _ scan.1 in
     let peer_given = passes (if_named policy (is_generated peer_kind)) _ _ policy_ok.1 in

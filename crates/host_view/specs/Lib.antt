@@ -4,7 +4,7 @@ pub mod Links
 pub mod Refusals
 pub mod Status
 pub mod OnLinks
-pub mod Unbuilt
+pub mod Flow
 pub mod Changes
 pub mod Noted
 pub mod InRange

@@ -17,7 +17,7 @@ use Rattle.scan_init.specs.Addresses.{is_full_for, is_same_address}
 use Rattle.host_view.specs.declared.links.Link.{Link}
 use Rattle.host_view.specs.View.{View}
 use Rattle.host_view.specs.Links.{link_in, is_asked, is_central_role, link_has, update_kind}
-use Rattle.host_view.specs.Refusals.{link_rows, asked_row, parameters_row, is_generated, own_rows, is_connectable, is_full, room_row, list_row, both_phys_rows, scan_times_row}
+use Rattle.host_view.specs.Refusals.{first_refusal, link_rows, asked_row, parameters_row, is_generated, own_rows, is_connectable, is_full, room_row, list_row, both_phys_rows, scan_times_row}
 
 -- ---- flow control towards the host (sections 7.3.38 to 7.3.40)
 
@@ -255,3 +255,7 @@ rows_of view (LeSetPhy handle all tx rx options) =
     link_rows (link_in view.links handle) (both_phys_rows all tx rx (asked_row Phy (link_in view.links handle) ∷ []))
 -- the others have no condition: masks, Reset, and the commands that read, encrypt a block or draw a number
 rows_of view other = []
+
+-- the status of a command: 00 where it is accepted, which it is where no condition holds
+unfoldable pub status_of : View → Command → ℕ
+status_of view command = first_refusal (rows_of view command)

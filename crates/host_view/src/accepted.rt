@@ -2,13 +2,14 @@
 ghost use Rattle.std.specs.Prelude.{◌≡◌};
 ghost use Rattle.hci_cmd.specs.declared.command.Command.TheVariants.{LeAddToList, LeSetChannels};
 ghost use Rattle.host_view.specs.View.{first_view};
-ghost use Rattle.host_view.specs.Unbuilt.{status_of};
+ghost use Rattle.host_view.specs.Status.{status_of};
 ghost use Rattle.host_view.specs.Changes.{after_completed, after_counts, link_changed_by, view_after};
 ghost use Rattle.scan_init.specs.Addresses.{with_address};
 ghost use Rattle.host_view.specs.Status.{named_address};
 
 use crate::changes::{LinkChange, change_links};
 use crate::connecting::named_address;
+use crate::laws::accepted_parameters_are_in_range;
 use crate::links::Link;
 use crate::view::HostView;
 use ble_base::{ChannelMap, Kind};
@@ -114,6 +115,7 @@ impl HostView {
                 acl_count,
                 ..
             } => {
+                accepted_parameters_are_in_range();
                 self.flow.acl_length = *acl_length;
                 self.flow.acl_count = *acl_count;
             }

@@ -1,13 +1,14 @@
 //! The statuses of the commands of flow control towards the host.
-ghost use Rattle.std.specs.Prelude.{◌≡◌, ◌<◌, ◌^◌, length};
+ghost use Rattle.std.specs.Prelude.{◌≡◌, ◌<◌, ◌≤◌, ◌+◌, ◌*◌, ◌^◌, length};
 ghost use Rattle.std.specs.List.{list_all};
+ghost use Rattle.host_view.specs.Flow.{most_handed, most_received, outstanding, outstanding_in};
 ghost use Rattle.host_view.specs.Refusals.{first_refusal};
 ghost use Rattle.host_view.specs.Status.{has_link, set_host_flow_rows, host_buffer_size_rows, host_completed_rows, count_for, may_complete};
 
 use crate::links::{Link, find_link};
 use crate::refusals::first_refusal;
 use crate::view::HostView;
-use ble_base::ErrCode;
+use ble_base::{ErrCode, PAYLOAD_OCTETS};
 use hci_cmd::HandleCount;
 
 /// The packets that the host says it has taken of this handle.
@@ -43,7 +44,53 @@ fn may_complete_all(links: &[Option<Link>; 6], counts: &[HandleCount]) -> bool
     counts.iter().all(|pair| may_complete(links, counts, *pair))
 }
 
+/// How many packets of a link the host received and has not taken.
+fn outstanding_in(link: &Option<Link>) -> u64
+    ensures value { result ≡ outstanding_in link.now }
+    ensures few { result < 2 ^ 16 }
+{
+    match link {
+        Some(link) => u64::from(link.outstanding),
+        None => 0,
+    }
+}
+
+/// How many packets of these links the host received and has not taken.
+fn outstanding(links: &[Option<Link>]) -> u64
+    requires { length links.now ≤ 6 }
+    ensures value { result ≡ outstanding links.now }
+    ensures few { result ≤ 2 ^ 16 * length links.now }
+{
+    match links.split_first() {
+        None => 0,
+        Some((first, rest)) => outstanding_in(first) + outstanding(rest),
+    }
+}
+
 impl HostView {
+    /// How many of this number of ACL packets the host may be sent now: all of them while flow
+    /// control towards it is off (Core 5.2, volume 4 part E, section 4.2).
+    pub fn most_handed(&self, count: usize) -> usize
+        ensures value { result ≡ most_handed self.now count }
+        ensures few { result ≤ count }
+    {
+        if !self.flow.on {
+            return count;
+        }
+        let held = outstanding(&self.links);
+        let more = u64::from(self.flow.acl_count).saturating_sub(held);
+        count.min(more as usize)
+    }
+
+    /// The most octets of a payload that a link may receive which is opened now: a packet to the
+    /// host has no more (Core 5.2, volume 4 part E, section 7.3.39).
+    pub fn most_received(&self) -> u16
+        ensures value { result ≡ most_received self.now }
+        ensures range { (27 ≤ result) × (result ≤ 251) }
+    {
+        self.flow.acl_length.min(PAYLOAD_OCTETS as u16)
+    }
+
     fn has_link(&self) -> bool
         ensures { result ≡ has_link self.now }
     {

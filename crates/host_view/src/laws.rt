@@ -1,18 +1,20 @@
 //! Laws of the commands that are accepted. The bodies do nothing: the contracts are the laws.
 ghost use Rattle.std.specs.Prelude.{◌≡◌, ◌≤◌, ℕ, true, false, List, None};
 ghost use Rattle.ble_base.specs.ChannelMap.{IsMap};
+ghost use Rattle.hci_cmd.specs.declared.command.Command.TheVariants.{HostBufferSize};
 ghost use Rattle.hci_cmd.specs.declared.command.Command.TheVariants.{LeCreateConnection};
 ghost use Rattle.hci_cmd.specs.declared.command.Command.TheVariants.{LeSetAdvParams};
 ghost use Rattle.hci_cmd.specs.declared.command.Command.TheVariants.{LeSetChannels};
 ghost use Rattle.hci_cmd.specs.declared.command.Command.TheVariants.{LeSetScanParams};
 ghost use Rattle.host_view.specs.InRange.{is_supported, IsLinkRequest};
 ghost use Rattle.host_view.specs.Refusals.{is_full};
-ghost use Rattle.host_view.specs.Unbuilt.{status_of};
+ghost use Rattle.host_view.specs.Status.{status_of};
 ghost use Rattle.host_view.specs.View.{View};
 
 /// The parameters of an accepted command are in range: an advertiser and a scanner have an
 /// interval, the type of advertising is one that is supported, the parameters of a link are those
-/// that it may begin with, and a map of channels is one.
+/// that it may begin with, a map of channels is one, and the host has buffers that take a payload of
+/// the least length.
 pub fn accepted_parameters_are_in_range()
     ensures advertising_interval { (view : View) (min max kind own peer_kind : ℕ) (peer : List ℕ)
         (channels policy : ℕ)
@@ -31,6 +33,9 @@ pub fn accepted_parameters_are_in_range()
         → IsLinkRequest interval max latency timeout }
     ensures channels { (view : View) (map : ℕ)
         → status_of view (LeSetChannels map) ≡ 0 → IsMap map }
+    ensures buffers { (view : View) (acl_length sco_length acl_count sco_count : ℕ)
+        → status_of view (HostBufferSize acl_length sco_length acl_count sco_count) ≡ 0
+        → (27 ≤ acl_length) × (1 ≤ acl_count) }
 {}
 
 /// LE Create Connection is accepted only where no link is being made, another link can be held, and

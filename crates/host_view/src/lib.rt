@@ -16,7 +16,6 @@ mod on_links;
 mod refusals;
 mod scanning;
 mod statuses;
-mod unbuilt;
 mod view;
 
 pub use crate::links::{Asked, Link};

@@ -2,8 +2,7 @@
 ghost use Rattle.std.specs.Prelude.{◌≡◌, [], ◌∷◌};
 ghost use Rattle.ble_base.specs.declared.procedure_kinds.Kind.TheVariants.{Phy};
 ghost use Rattle.host_view.specs.Refusals.{first_refusal, link_rows, asked_row, both_phys_rows};
-ghost use Rattle.host_view.specs.Status.{parameter_request_row, rows_of, channels_rows};
-ghost use Rattle.host_view.specs.Unbuilt.{status_of};
+ghost use Rattle.host_view.specs.Status.{parameter_request_row, rows_of, channels_rows, status_of};
 
 use crate::advertising::{AdvertisingRequest, data_status};
 use crate::connecting::ConnectionRequest;
@@ -14,7 +13,6 @@ use crate::link_commands::{
 use crate::links::{Link, find_link, is_asked, waits_for_no_parameters};
 use crate::refusals::{Phys, are_parameters, first_refusal, link_status};
 use crate::scanning::ScanRequest;
-use crate::unbuilt::unbuilt_status;
 use crate::view::HostView;
 use ble_base::{ChannelMap, ErrCode, Kind};
 use hci_cmd::Command;
@@ -61,23 +59,10 @@ fn set_phy_status(link: Option<Link>, phys: Phys) -> ErrCode
 }
 
 /// The status of a command in a view: success where it is accepted, and else the code of the first
-/// condition that holds, in the order of the table of commands. A command that this controller does
-/// not carry out yet is refused where the table accepts it.
-#[tactic(auto, unfolding(crate::specs::Unbuilt::status_of))]
+/// condition that holds, in the order of the table of commands.
+#[tactic(auto, unfolding(crate::specs::Status::status_of))]
 pub fn status(view: &HostView, command: &Command) -> ErrCode
     ensures { result.0 ≡ status_of view.now command.now }
-{
-    let code = table_status(view, command);
-    if code.0 == 0 {
-        unbuilt_status(command)
-    } else {
-        code
-    }
-}
-
-/// The code of the first condition of the table that holds, and success where none does.
-fn table_status(view: &HostView, command: &Command) -> ErrCode
-    ensures { result.0 ≡ first_refusal (rows_of view.now command.now) }
 {
     let links = &view.links;
     match command {

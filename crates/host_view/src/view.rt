@@ -69,7 +69,7 @@ impl Model for HostView {
 
     ghost Value = { View };
 
-    ghost invariant = { λ v. v.limit ≤ 6 };
+    ghost invariant = { λ v. (v.limit ≤ 6) × (27 ≤ v.flow.acl_length) };
 
     ghost view = { λ v. record {
       limit = v.limit;

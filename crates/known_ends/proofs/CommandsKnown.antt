@@ -15,12 +15,12 @@ use Rattle.host_view.specs.View.{View}
 use Rattle.host_view.specs.Changes.{after_counts, on_link, view_after}
 use Rattle.host_view.specs.declared.links.Link.{Link}
 use Rattle.host_view.specs.OnLinks.{asks_links}
-use Rattle.host_view.specs.Unbuilt.{status_of}
+use Rattle.host_view.specs.Status.{status_of}
 use Rattle.link_model.specs.Facts.{Facts as EndFacts}
-use Rattle.open_links.specs.declared.offers.Offer.{Offer}
-use Rattle.open_links.specs.declared.offers.Offer.TheVariants.{NoLink, Empty, Overflow, Kept}
-use Rattle.open_links.specs.OpenLinks.{HaveHandles, Links, OpenLink, facts_in}
-use Rattle.open_links.proofs.UnderHandles.{map_at}
+use Rattle.controller_model.specs.open_links.declared.offers.Offer.{Offer}
+use Rattle.controller_model.specs.open_links.declared.offers.Offer.TheVariants.{NoLink, Empty, Overflow, Kept}
+use Rattle.controller_model.specs.open_links.OpenLinks.{HaveHandles, Links, OpenLink, facts_in}
+use Rattle.controller_model.proofs.open_links.UnderHandles.{map_at}
 use Rattle.host_asks.specs.Views.{KnowsAt, leaves_other_links}
 use Rattle.host_asks.proofs.EndsViewed.{changed_known, handed_known, other_known}
 use Rattle.host_asks.proofs.OpenLinksKnown.{IsKnownAt, link_known}

@@ -1,8 +1,9 @@
 -- The view of a controller knows the end of each open link for which it has a place, at any time.
-use Rattle.std.proofs.Common.{◌≡◌, ℕ, zero, suc, ◌+◌, ◌<◌, ◌≤◌, ◌==◌, Bool, true, false, Some, None, List, [], length, replicate, if◌then◌else◌, refl, sym, subst, ◌∙◌, arith}
+use Rattle.std.proofs.Common.{◌≡◌, ℕ, ◌+◌, ◌<◌, ◌≤◌, Some, None, List, [], length, refl, sym, subst, ◌∙◌, arith}
 use Rattle.std.specs.Prelude.{IfSome}
-use Rattle.open_links.specs.OpenLinks.{HasHandle, OpenLink, facts_in, link_at, link_from}
-use Rattle.open_links.proofs.Handles.{has_its_handle}
+use Rattle.controller_model.specs.open_links.OpenLinks.{HasHandle, OpenLink, facts_in, link_at}
+use Rattle.controller_model.proofs.open_links.Empty.{none_at}
+use Rattle.controller_model.proofs.open_links.Handles.{has_its_handle}
 use Rattle.host_asks.specs.OpenEnds.{KnowsOpenEnds}
 use Rattle.host_asks.specs.Views.{KnowsAt}
 use Rattle.host_asks.proofs.OpenLinksKnown.{IsKnownAt}
@@ -19,15 +20,6 @@ record IsKnown (setup : Setup) (facts : Facts) : Type 0 where
   own : HaveOwnHandles setup facts
   six : HasSixPlaces facts
   known : (handle : ℕ) → handle < 6 → IsKnownAt facts.view facts.links handle
-
-none_from : (first handle n : ℕ) → link_from first handle (replicate n None) ≡ None
-none_from first handle zero = refl
-none_from first handle (suc n) = by (first == handle) (none_from (first + 1) handle n)
-  where
-    by : (same : Bool) → link_from (first + 1) handle (replicate n None) ≡ None
-        → (if same then None else link_from (first + 1) handle (replicate n None)) ≡ None
-    by true rest = refl
-    by false rest = rest
 
 module _ (setup : Setup) where
   turn_keeps : (handle : ℕ) → handle < 6 → (facts : Facts) (step : Step) → IsInTurn step → IsKnown setup facts
@@ -56,7 +48,7 @@ module _ (setup : Setup) where
   first_known = record {
     own = own_handles setup [];
     six = refl;
-    known = λ handle low link is lasts. absurd (let h : None ≡ Some link = sym (none_from 0 handle setup.links) ∙ is in cc);
+    known = λ handle low link is lasts. absurd (let h : None ≡ Some link = sym (none_at 0 handle setup.links) ∙ is in cc);
   }
 
   always_known : (past : List Step) → IsKnown setup (facts_of setup past)

@@ -27,7 +27,7 @@ use Rattle.procedure_events.specs.procedure_stages.declared.stages.Progress.TheV
 use Rattle.procedure_events.specs.procedure_stages.declared.steps.Step.{Step}
 use Rattle.procedure_events.specs.procedure_stages.declared.steps.Effect.{Effect}
 use Rattle.procedure_events.specs.procedure_stages.declared.steps.Effect.TheVariants.{Indicated, Lengths as new_lengths, Nothing}
-use Rattle.open_links.specs.procedure_values.Values.{are_valid}
+use Rattle.controller_model.specs.open_links.procedure_values.Values.{are_valid}
 use Rattle.procedure_events.specs.procedures.declared.outcome.Outcome.{Outcome}
 use Rattle.procedure_events.specs.procedures.Outcomes.{unknown}
 use Rattle.procedure_events.specs.procedures.Request.{against_central, collided}
@@ -61,7 +61,7 @@ use Rattle.link_model.proofs.KnownEnds.{IsPast}
 use Rattle.link_model.proofs.phased_end.Rooms.{now_answered}
 use Rattle.link_model.proofs.phased_end.keyed_control.Phases.{moves}
 use Rattle.link_model.proofs.phased_end.keyed_control.phased_control.Kept.{Tied, tied_now}
-use Rattle.open_links.specs.OpenLinks.{OpenLink, facts_in}
+use Rattle.controller_model.specs.open_links.OpenLinks.{OpenLink, facts_in}
 use Rattle.known_ends.proofs.Refusals.{asks_key}
 
 -- ---- a central is not asked for a key

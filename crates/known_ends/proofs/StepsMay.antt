@@ -11,11 +11,11 @@ use Rattle.host_view.specs.declared.links.Link.{Link as ViewLink}
 use Rattle.host_view.specs.Links.{link_in}
 use Rattle.host_view.specs.Refusals.{first_refusal}
 use Rattle.host_view.specs.Status.{rows_of}
-use Rattle.host_view.specs.Unbuilt.{status_of}
+use Rattle.host_view.specs.Status.{status_of}
 use Rattle.host_view.specs.View.{View}
 use Rattle.link_model.specs.Facts.{Facts as EndFacts}
 use Rattle.link_model.specs.Step.{Step as EndStep}
-use Rattle.open_links.specs.OpenLinks.{OpenLink, facts_in, link_at}
+use Rattle.controller_model.specs.open_links.OpenLinks.{OpenLink, facts_in, link_at}
 use Rattle.controller_model.specs.link_commands.declared.moments.Moment.{Moment}
 use Rattle.controller_model.specs.link_commands.Commands.{host_step_of, is_about, map_by, step_if_about, step_on}
 use Rattle.controller_model.proofs.link_commands.Ranges.{asked_in_range, passes}

@@ -37,13 +37,14 @@ use Rattle.link_model.specs.Step.{Step as EndStep, DataGiven, EventEntered, KeyA
 use Rattle.link_model.proofs.Pasts.{grows}
 use Rattle.link_model.proofs.KnownEnds.{IsPast}
 use Rattle.controller_model.specs.link_end.Answers.{acked_of, given_of, kept_given_of}
-use Rattle.open_links.specs.Data.{complete_in, link_reported, received_past}
-use Rattle.open_links.specs.OpenLinks.{Links, OpenLink, HasHandle, HaveHandles, facts_in, link_after, link_at, link_from, link_served, new_link, with_change, with_link}
-use Rattle.open_links.specs.Ended.{end_by}
-use Rattle.open_links.specs.Turns.{ending_in, ends_by, entered_if, enters_in, link_entered, notes_entering, notes_if, place_without, staying_by}
-use Rattle.open_links.proofs.Ends.{stays_where_not_due}
-use Rattle.open_links.proofs.UnderHandles.{map_at}
-use Rattle.open_links.proofs.Handles.{changed_is, has_its_handle, opened_at, other_stays}
+use Rattle.controller_model.specs.open_links.Data.{complete_in, link_reported, received_past}
+use Rattle.controller_model.specs.open_links.OpenLinks.{Links, OpenLink, HasHandle, HaveHandles, facts_in, link_after, link_at, link_from, link_served, new_link, with_change, with_link}
+use Rattle.controller_model.specs.open_links.Ended.{end_by}
+use Rattle.controller_model.specs.open_links.Turns.{ending_in, ends_by, entered_if, enters_in, link_entered, notes_entering, notes_if, place_without, staying_by}
+use Rattle.controller_model.proofs.open_links.Ends.{stays_where_not_due}
+use Rattle.controller_model.proofs.open_links.UnderHandles.{map_at}
+use Rattle.controller_model.proofs.open_links.Handles.{changed_is, has_its_handle, opened_at, other_stays}
+use Rattle.host_asks.proofs.OpenLinksGoing.{known_still}
 use Rattle.host_asks.proofs.OpenLinksKnown.{IsKnownAt}
 use Rattle.host_asks.specs.Noting.{effect_after, is_of_host, or_request}
 use Rattle.host_asks.specs.Views.{KnowsAt, KnowsOnceReported}
@@ -54,7 +55,7 @@ use Rattle.controller_model.specs.declared.doing.Doing.{Doing}
 use Rattle.controller_model.specs.declared.doing.Doing.TheVariants.{Advertises, CentralSends, PeripheralListens, PeripheralSends}
 use Rattle.controller_model.specs.Step.{Step, HostOctet, TurnBegins, PacketHeard, NothingHeard, TurnEnds}
 use Rattle.controller_model.specs.Facts.{Setup, Facts}
-use Rattle.controller_model.specs.Data.{facts_ended_turn, facts_handed}
+use Rattle.controller_model.specs.Data.{acl_packet, facts_ended_turn, facts_handed, notes_pieces, pieces_handed}
 use Rattle.controller_model.specs.Entering.{events_entering, notes_all_entering}
 use Rattle.controller_model.specs.Events.{notes_of_events, passes}
 use Rattle.controller_model.specs.Heard.{answer_unless, notes_received, facts_connecting, facts_with_words, asks_if, events_received, has_room, link_heard, link_received, link_taken, notes_taken, opens, or_refusal, refusal_in, refusal_of, replies_in, reply_if, scanner_after, with_scanner}
@@ -92,10 +93,6 @@ facts_grow link step = grows link.setup link.past step
 
 link_past : (link : OpenLink) → IsPast link.setup (facts_in link)
 link_past link = record { past = link.past; is = refl }
-
-still : (before after : View) (handle : ℕ) (facts : EndFacts) → link_in after.links handle ≡ link_in before.links handle → KnowsAt before handle facts
-    → KnowsAt after handle facts
-still before after handle facts same known = record { link = known.link; is_open = same ∙ known.is_open; knows = known.knows }
 
 -- packets to the host leave what is known once an event is received
 abbrev event_note : Event → Note
@@ -150,17 +147,25 @@ module _ (handle : ℕ) where
   packets : (place : Option OpenLink) (masks view : View) (events : List Event) → Known place view → KnownAfter place view (notes_of_events masks events)
   packets place masks view events is = kept place view _ (λ facts known. packets_known Nothing masks view events handle facts known) is
 
+  -- packets of data
+  data_packets : {A : Type 0} (packet : A → List ℕ) (place : Option OpenLink) (view : View) (pieces : List A) → Known place view
+      → KnownAfter place view (map (λ piece. Up (record { items = packet piece })) pieces)
+  data_packets packet place view [] is = is
+  data_packets packet place view (piece ∷ pieces) is =
+      data_packets packet place (view_noted view (Up (record { items = packet piece }))) pieces
+      (kept place view _ (λ facts known. packet_known Nothing view (packet piece) handle facts known) is)
+
   -- the notes of another end, and a link under another handle that is shut or opened
   others : (place : Option OpenLink) (view : View) (setup : EndSetup) (facts : EndFacts) (step : EndStep) → setup.link.handle ≢ handle → Known place view
       → KnownAfter place view (end_notes setup facts step)
   others place view setup facts step differs is =
       kept place view _
       (λ own known.
-      still view _ handle own (notes_other setup.link.handle handle view (end_notes setup facts step) (notes_of_step setup facts step) (λ same. differs (sym same))) known) is
+      known_still view _ handle own (notes_other setup.link.handle handle view (end_notes setup facts step) (notes_of_step setup facts step) (λ same. differs (sym same))) known) is
 
   shut_other : (place : Option OpenLink) (view : View) (other reason : ℕ) → other ≢ handle → Known place view → Known place (view_noted view (note_shut other reason))
   shut_other place view other reason differs is =
-      kept place view _ (λ own known. still view _ handle own (shut_stays view other handle reason (λ same. differs (sym same))) known) is
+      kept place view _ (λ own known. known_still view _ handle own (shut_stays view other handle reason (λ same. differs (sym same))) known) is
 
   -- ---- a step of the link, by what is left for its host
 
@@ -356,7 +361,7 @@ module _ (handle : ℕ) where
       (λ differs.
       subst (λ place. Known place (view_noted view (note_opened setup.link))) (sym (other_stays (λ place. Some (new_link setup)) 0 own handle links (λ e. differs (sym e))))
       (kept (link_at handle links) view _
-      (λ facts known. still view _ handle facts (opened_stays view setup.link handle (λ e. differs (sym e))) known) is))
+      (λ facts known. known_still view _ handle facts (opened_stays view setup.link handle (λ e. differs (sym e))) known) is))
 
   -- ---- what is done next
 
@@ -680,7 +685,7 @@ module _ (handle : ℕ) where
       sent = λ channel link doing. opens_known link facts (subst (IsNew facts.links) doing own.new).0 six is;
       responds = λ channel on doing is_on. is;
       taken = λ channel octets pdu on fields other is_on hears takes free.
-          opens_known (link_taken on.params.own pdu fields other) facts (free_is_new facts.links other free).0 six is;
+          opens_known (link_taken facts.view on.params.own pdu fields other) facts (free_is_new facts.links other free).0 six is;
       scanned = λ channel octets pdu on doing is_on hears.
           doing_known (asks_if (true && does_ask (scan_answer on.params facts.view.accepted on.recent pdu)) channel pdu)
           (with_scanner (scanner_after on facts.view.accepted pdu) facts) is;
@@ -688,7 +693,7 @@ module _ (handle : ℕ) where
           doing_known (asks_if (false && does_ask (scan_answer on.params facts.view.accepted on.recent pdu)) channel pdu)
           (with_scanner (scanner_after on facts.view.accepted pdu) facts) is;
       connects = λ channel octets pdu on access other doing is_on hears answers next free in_range.
-          kept (link_at handle facts.links) facts.view _ (λ own known. still facts.view (facts_connecting setup facts).view handle own refl known) is;
+          kept (link_at handle facts.links) facts.view _ (λ own known. known_still facts.view (facts_connecting setup facts).view handle own refl known) is;
       received = λ other octets. heard_known other octets facts own is;
     }
 
@@ -704,9 +709,12 @@ module _ (handle : ℕ) where
     ended_known : (facts : Facts) → HaveOwnHandles setup facts → KnownIn facts → KnownIn (facts_ended_turn facts)
     ended_known facts own is =
         let handed = facts_handed facts in
+        let place = link_at handle facts.links in
+        let received = kept place (follow facts.view (notes_pieces facts)) handed.view (λ facts known. known_still _ handed.view handle facts refl known)
+        (data_packets acl_packet place facts.view (pieces_handed facts) is) in
         subst KnownIn (sym (leaving_is handed))
         (ends_known ending_in handed ((mapped_opens link_reported facts.links reported_same).handles own.handles)
-        (subst (λ place. Known place facts.view) (sym (map_at (option_map link_reported) 0 handle facts.links refl)) (reported_known (link_at handle facts.links) facts.view is)))
+        (subst (λ place. Known place handed.view) (sym (map_at (option_map link_reported) 0 handle facts.links refl)) (reported_known place handed.view received)))
 
     pub turn_known : (facts : Facts) (step : Step) → IsInTurn step → HaveOwnHandles setup facts → length facts.view.links ≡ 6 → KnownIn facts
         → KnownIn (facts_after setup facts step)

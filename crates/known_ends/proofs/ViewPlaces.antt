@@ -10,16 +10,18 @@ use Rattle.host_view.specs.declared.links.Link.{Link as ViewLink}
 use Rattle.host_view.specs.Changes.{view_after}
 use Rattle.host_view.specs.Noted.{view_noted}
 use Rattle.link_model.specs.declared.setup.LinkSetup.{LinkSetup}
-use Rattle.open_links.specs.declared.ended.LinkEnded.{LinkEnded}
+use Rattle.controller_model.specs.open_links.declared.ended.LinkEnded.{LinkEnded}
 use Rattle.controller_model.specs.link_commands.LinksCommanded.{view_known_on}
 use Rattle.controller_model.specs.Step.{Step}
 use Rattle.controller_model.specs.Facts.{Setup, Facts}
+use Rattle.controller_model.specs.Data.{notes_pieces}
 use Rattle.controller_model.specs.Heard.{has_room, link_taken, notes_received}
 use Rattle.controller_model.specs.Links.{ends_for}
 use Rattle.controller_model.specs.Radio.{notes_entered}
 use Rattle.controller_model.specs.Side.{facts_after}
 use Rattle.controller_model.proofs.Always.{IsKept, IsKeptInTurns, holds_step, facts_opening, links_shut, opening_passes}
 use Rattle.controller_model.proofs.Following.{AreOfOpenLinks, all_entering_are, received_are}
+use Rattle.controller_model.proofs.Handing.{handed_open}
 use Rattle.controller_model.proofs.OpenPlaces.{followed_opens, known_opens, opens, view_opens}
 
 abbrev pub HasSixPlaces : Facts → Type 0
@@ -60,7 +62,7 @@ six_in_turns setup = record {
     fixes = λ doing facts six. six;
     does = λ doing facts may six. six;
   };
-  reports = λ facts six. six;
+  reports = λ facts six. followed_long facts.view (notes_pieces facts) (handed_open facts) ∙ six;
   passes = λ facts six. record {
     rests = six;
     awaits_request = λ channel doing. six;
@@ -69,7 +71,7 @@ six_in_turns setup = record {
     sent = λ channel link doing. opening_passes HasSixPlaces link facts (opened_six link facts six);
     responds = λ channel on doing is_on. six;
     taken = λ channel octets pdu on fields handle is_on hears takes free.
-        let link = link_taken on.params.own pdu fields handle in
+        let link = link_taken facts.view on.params.own pdu fields handle in
         opening_passes HasSixPlaces link facts (opened_six link facts six);
     scanned = λ channel octets pdu on doing is_on hears. six;
     answered = λ channel octets pdu on doing is_on hears. six;

@@ -2,7 +2,7 @@
 //! the laws.
 ghost use Rattle.std.specs.Prelude.{◌≡◌, ◌≤◌, ◌<◌, ℕ, List, Some, None};
 ghost use Rattle.host_view.specs.declared.view.TheConstants.{MOST_LINKS};
-ghost use Rattle.open_links.specs.OpenLinks.{OpenLink, facts_in, link_at};
+ghost use Rattle.controller_model.specs.open_links.OpenLinks.{OpenLink, facts_in, link_at};
 ghost use Rattle.host_asks.specs.OpenEnds.{KnowsOpenEnds};
 ghost use Rattle.host_asks.specs.Views.{KnowsAt};
 ghost use Rattle.controller_model.specs.Facts.{Setup};

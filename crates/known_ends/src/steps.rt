@@ -4,7 +4,7 @@ ghost use Rattle.std.specs.Prelude.{◌≡◌, ℕ, List, [], ◌∷◌, Some, N
 ghost use Rattle.hci_cmd.specs.declared.command.Command.{Command};
 ghost use Rattle.link_model.specs.Step.{Step as EndStep};
 ghost use Rattle.host_asks.specs.link_pairs.Hosts.{MayHost};
-ghost use Rattle.open_links.specs.OpenLinks.{OpenLink, facts_in, link_at};
+ghost use Rattle.controller_model.specs.open_links.OpenLinks.{OpenLink, facts_in, link_at};
 ghost use Rattle.controller_model.specs.link_commands.Commands.{step_on};
 ghost use Rattle.controller_model.specs.Commands.{moment_of};
 ghost use Rattle.controller_model.specs.Facts.{Setup};

@@ -8,4 +8,4 @@ mod moments;
 
 pub use crate::laws::{accepted_commands_ask_in_range, each_command_is_one_call};
 pub use crate::moments::Moment;
-pub use open_links::LinkSetup;
+pub use open_links::{LinkSetup, a_sealed_packet_is_opened};

@@ -11,7 +11,7 @@ use Rattle.adv_pdu.specs.Reading.{read_of}
 use Rattle.hci_cmd.specs.Command.{command_of, layout_of, layouts}
 use Rattle.host_view.specs.Changes.{view_after}
 use Rattle.host_view.specs.Noted.{view_noted}
-use Rattle.host_view.specs.Unbuilt.{status_of}
+use Rattle.host_view.specs.Status.{status_of}
 use Rattle.host_view.specs.scan_init.Access.{bit_count, is_valid_access, next_access_of}
 use Rattle.chan_select.specs.Channel.{channel_of}
 use Rattle.chan_select.specs.PseudoRandom.{mam, perm, prn, reversed_octet, stage}

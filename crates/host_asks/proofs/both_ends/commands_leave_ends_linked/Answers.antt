@@ -1,5 +1,5 @@
 -- Proof of `both_ends::commands_leave_ends_linked`.
-use Rattle.open_links.specs.link_model.Facts.{Facts}
+use Rattle.link_commands.specs.open_links.link_model.Facts.{Facts}
 use Rattle.link_pairs.specs.Parting.{ArePartingFrom}
 use Rattle.link_pairs.specs.Shown.{AreLinked}
 use Rattle.host_asks.proofs.PairsCommanded.{command_leaves}

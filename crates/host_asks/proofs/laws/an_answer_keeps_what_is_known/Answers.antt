@@ -1,6 +1,6 @@
 -- Proof of `laws::an_answer_keeps_what_is_known`.
 use Rattle.std.proofs.Common.{refl}
-use Rattle.open_links.specs.link_model.End.{facts_of}
+use Rattle.link_commands.specs.open_links.link_model.End.{facts_of}
 use Rattle.host_asks.proofs.Accepting.{refused_knows, withheld_knows}
 use Rattle.host_asks.proofs.Ends.{key_knows}
 use Rattle.host_asks.proofs.laws.an_answer_keeps_what_is_known.Goals as goal

@@ -1,6 +1,6 @@
 -- Proof of `views::steps_keep_what_is_known`.
 use Rattle.std.proofs.Common.{refl}
-use Rattle.open_links.specs.link_model.End.{facts_of}
+use Rattle.link_commands.specs.open_links.link_model.End.{facts_of}
 use Rattle.host_asks.proofs.EndsViewed.{key_lacked_at_once, none_reported, packet_known, request_refused_at_once, request_reported, step_known}
 use Rattle.host_asks.proofs.views.steps_keep_what_is_known.Goals as goal
 
