@@ -4,7 +4,7 @@ use Rattle.std.specs.Prelude.{flat_map, filter, All}
 use Rattle.std.proofs.lemmas.List.Elements.{All-append, All-cons, All-from_recursion, All-head, All-nil, All-tail}
 use Rattle.acl_banks.specs.declared.pieces.Piece.{Piece}
 use Rattle.ble_base.specs.declared.notes.Note.{Note}
-use Rattle.ble_base.specs.declared.notes.Note.TheVariants.{Up, Opened, Sent, Took, Applied, Began, Done, Enter}
+use Rattle.ble_base.specs.declared.notes.Note.TheVariants.{Up, Sent, Took, Applied, Began, Done, Enter}
 use Rattle.ble_base.specs.declared.procedure_kinds.Kind.{Kind}
 use Rattle.h4_frames.specs.declared.packet.HostPacket.TheVariants.{Command as HostCommand, Acl}
 use Rattle.h4_frames.specs.declared.packet.Fed.{Fed}
@@ -18,7 +18,7 @@ use Rattle.hci_evt.specs.declared.event.Event.{Event}
 use Rattle.hci_evt.specs.declared.event.Event.TheVariants.{DisconnectionComplete, HardwareError, CompletedPackets, BufferOverflow}
 use Rattle.hci_evt.specs.Event.{mask_bit_of, written}
 use Rattle.run_laws.specs.host_view.View.{View}
-use Rattle.run_laws.specs.host_view.Unbuilt.{status_of}
+use Rattle.run_laws.specs.host_view.Status.{status_of}
 use Rattle.run_laws.specs.open_links.declared.ended.LinkEnded.{LinkEnded}
 use Rattle.run_laws.specs.open_links.declared.offers.Offer.{Offer}
 use Rattle.run_laws.specs.open_links.declared.offers.Offer.TheVariants.{NoLink, Empty, Overflow, Kept}
@@ -32,7 +32,7 @@ use Rattle.run_laws.specs.controller_model.Facts.{Setup, Facts}
 use Rattle.run_laws.specs.controller_model.Answers.{answer_to}
 use Rattle.run_laws.specs.controller_model.Commands.{events_caused, is_asking, notes_asking, notes_before, notes_commanded, notes_known}
 use Rattle.run_laws.specs.controller_model.link_commands.LinksCommanded.{events_commanded_on}
-use Rattle.run_laws.specs.controller_model.Data.{acl_packet, event_completed, facts_handed, note_received, notes_handed, notes_offered, offer_of}
+use Rattle.run_laws.specs.controller_model.Data.{acl_packet, event_completed, facts_handed, note_received, notes_handed, notes_offered, offer_of, notes_pieces, pieces_handed}
 use Rattle.run_laws.specs.controller_model.Entering.{events_entering, notes_all_entering}
 use Rattle.run_laws.specs.controller_model.Events.{notes_of_events, passes}
 use Rattle.run_laws.specs.controller_model.Links.{ends_for, facts_ending, note_shut, notes_ended, notes_ending, notes_leaving}
@@ -40,6 +40,7 @@ use Rattle.run_laws.specs.controller_model.Packets.{notes_doing, notes_sent}
 use Rattle.run_laws.specs.controller_model.Radio.{outcome_begun}
 use Rattle.run_laws.specs.controller_model.Side.{notes_after, notes_fed, result_of}
 use Rattle.run_laws.proofs.controller_model.EndNotes.{entered_each, sent_each}
+use Rattle.run_laws.proofs.run_model.OpenedNotes.{opens_under}
 
 abbrev pub is_taking : Note → Bool
 is_taking (Took handle number llid body) = true
@@ -140,13 +141,13 @@ module _ (P : Note → Type 0) (of : IsOfFeeds P) where
 
   handed_noted : (facts : Facts) → All P (notes_handed facts)
   handed_noted facts =
-      All-append P (map note_received facts.received) _ (pieces_noted facts.received)
+      All-append P (notes_pieces facts) _ (pieces_noted (pieces_handed facts))
       (events_noted facts.view (map event_completed (completed_from 0 facts.links)))
 
   pub end_noted : (setup : Setup) (facts : Facts) → All P (notes_after setup facts TurnEnds)
   end_noted setup facts =
       All-append P (notes_handed facts) (notes_leaving (facts_handed facts)) (handed_noted facts)
-      (ends_noted facts.view (ends_for ending_in (facts_handed facts)))
+      (ends_noted (facts_handed facts).view (ends_for ending_in (facts_handed facts)))
 
 -- ---- a fact of all that is noted as a turn begins
 
@@ -240,11 +241,6 @@ no_data = record {
 }
 
 -- ---- no link is opened as a host sends, or as a turn begins or ends
-
--- a note that opens a link under this handle
-abbrev pub opens_under : ℕ → Note → Bool
-opens_under handle (Opened other role own peer) = handle == other
-opens_under handle other = false
 
 abbrev pub OpensNone : ℕ → Note → Type 0
 OpensNone handle note = opens_under handle note ≡ false

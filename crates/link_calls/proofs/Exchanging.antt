@@ -155,7 +155,7 @@ module _ (slot : ℕ) (link : OpenLink) where
   stays_out true is = absurd cc
   stays_out false is = event_same link
 
-wants_anchor : (enters : Bool) (slot : ℕ) (link : OpenLink) → enters_in slot link ≡ enters → wants_entering slot link ≡ true → enters ≡ true
+pub wants_anchor : (enters : Bool) (slot : ℕ) (link : OpenLink) → enters_in slot link ≡ enters → wants_entering slot link ≡ true → enters ≡ true
 wants_anchor true slot link is wants = refl
 wants_anchor false slot link is wants = absurd (let h : false ≡ true = sym (ap (λ b. wants_if b slot link) is) ∙ wants in absurd cc)
 
@@ -601,7 +601,7 @@ pub sender_entered : (handle : ℕ) (facts : Facts) (link : OpenLink) → sends_
 sender_entered handle facts link sends has is =
     entered_by handle facts.turn.doing facts.links link (or_true (sends_under handle facts.turn.doing) (listens_under handle facts.turn.doing) sends) has is
 
-uses_either : (sends listens : Bool) → (sends || listens) ≡ true → (sends ≡ true) ⊎ (listens ≡ true)
+pub uses_either : (sends listens : Bool) → (sends || listens) ≡ true → (sends ≡ true) ⊎ (listens ≡ true)
 uses_either true listens is = inl refl
 uses_either false listens is = inr is
 

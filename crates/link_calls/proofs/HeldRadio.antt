@@ -11,7 +11,7 @@ use Rattle.hci_cmd.specs.Command.{command_of}
 use Rattle.h4_frames.specs.declared.packet.HostPacket.TheVariants.{Command as HostCommand, Acl}
 use Rattle.h4_frames.specs.declared.packet.Fed.{Fed}
 use Rattle.h4_frames.specs.declared.packet.Fed.TheVariants.{More, Packet, LostSync}
-use Rattle.run_laws.specs.host_view.Unbuilt.{status_of}
+use Rattle.run_laws.specs.host_view.Status.{status_of}
 use Rattle.run_laws.specs.link_model.declared.setup.LinkSetup.{LinkSetup}
 use Rattle.run_laws.specs.open_links.declared.ended.LinkEnded.{LinkEnded}
 use Rattle.run_laws.specs.open_links.declared.offers.Offer.{Offer}
@@ -118,7 +118,7 @@ outcomes_keep setup facts = record {
   central_listens = λ handle doing. keeps_same facts.radio;
   sent = λ channel link doing. opens_keeps link facts;
   responds = λ channel on doing is_on. keeps_same facts.radio;
-  taken = λ channel octets pdu on fields handle is_on hears takes free. opens_keeps (link_taken on.params.own pdu fields handle) facts;
+  taken = λ channel octets pdu on fields handle is_on hears takes free. opens_keeps (link_taken facts.view on.params.own pdu fields handle) facts;
   scanned = λ channel octets pdu on doing is_on hears. keeps_same facts.radio;
   answered = λ channel octets pdu on doing is_on hears. keeps_same facts.radio;
   connects = λ channel octets pdu on access handle doing is_on hears answers next free in_range. keeps_same facts.radio;

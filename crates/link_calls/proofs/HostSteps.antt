@@ -10,7 +10,7 @@ use Rattle.hci_cmd.specs.declared.command.Command.{Command}
 use Rattle.hci_cmd.specs.declared.command.CmdRead.{CmdRead}
 use Rattle.hci_cmd.specs.declared.command.CmdRead.TheVariants.{Known, UnknownOpcode, BadLength}
 use Rattle.hci_cmd.specs.Command.{command_of}
-use Rattle.run_laws.specs.host_view.Unbuilt.{status_of}
+use Rattle.run_laws.specs.host_view.Status.{status_of}
 use Rattle.run_laws.specs.link_model.declared.state.PeerFacts.{PeerFacts}
 use Rattle.run_laws.specs.link_model.End.{facts_after as end_after}
 use Rattle.run_laws.specs.link_model.Facts.{Facts as EndFacts}

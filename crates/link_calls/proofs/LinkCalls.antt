@@ -152,11 +152,11 @@ fixed_past : (fixes : Bool) (one other : OpenLink) → one.past ≡ other.past �
 fixed_past true one other same = ap (λ (past : List EndStep). past ++ PduFixed ∷ []) same
 fixed_past false one other same = same
 
-sent_setup : (sends : Bool) (slot : ℕ) (link : OpenLink) → (sent_if sends slot link).setup ≡ link.setup
+pub sent_setup : (sends : Bool) (slot : ℕ) (link : OpenLink) → (sent_if sends slot link).setup ≡ link.setup
 sent_setup true slot link = refl
 sent_setup false slot link = refl
 
-fixed_setup : (fixes : Bool) (link : OpenLink) → (fixed_if fixes link).setup ≡ link.setup
+pub fixed_setup : (fixes : Bool) (link : OpenLink) → (fixed_if fixes link).setup ≡ link.setup
 fixed_setup true link = refl
 fixed_setup false link = refl
 
@@ -260,10 +260,6 @@ module _ (setup : Setup) (handle : ℕ) (room : Bool) (octets : List ℕ) (facts
   pub receiving_event : (facts_in (link_receiving setup handle room octets facts link)).event ≡ (facts_in taken).event
   receiving_event =
       (answered_same handle room octets facts worded).event ∙ (worded_same setup facts facts.turn.doing link facts.turn.slot octets room).event
-
-  pub receiving_good : (facts_in (link_receiving setup handle room octets facts link)).last_good ≡ (facts_in taken).last_good
-  receiving_good =
-      (answered_same handle room octets facts worded).good ∙ (worded_same setup facts facts.turn.doing link facts.turn.slot octets room).good
 
 -- ---- a phase passes
 
@@ -546,7 +542,7 @@ each_quiet handle setup facts =
       sent = λ channel link doing. opens_quiet handle link facts (handle == link.handle) refl;
       responds = λ channel on doing is_on. inl nothing;
       taken = λ channel octets pdu on fields other is_on hears takes free.
-          opens_quiet handle (link_taken on.params.own pdu fields other) facts (handle == other) refl;
+          opens_quiet handle (link_taken facts.view on.params.own pdu fields other) facts (handle == other) refl;
       scanned = λ channel octets pdu on doing is_on hears.
           inl (both_quiet handle (scanner_heard (Some on) true channel pdu facts)
           (events_quiet handle facts.view (events_reported (scan_answer on.params facts.view.accepted on.recent pdu) pdu)));

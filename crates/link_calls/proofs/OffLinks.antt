@@ -35,7 +35,7 @@ module _ (facts : Facts) (octets : List ℕ) where
 
   taken_free : (free : Option ℕ) (own : Address) (pdu : AdvPdu) (fields : ConnectFields) → Passing (taken_under free own pdu fields facts)
   taken_free None own pdu fields = LeavesAll refl (no_link _)
-  taken_free (Some handle) own pdu fields = opens_one (link_taken own pdu fields handle)
+  taken_free (Some handle) own pdu fields = opens_one (link_taken facts.view own pdu fields handle)
 
   taken_new : (new : Bool) (own : Address) (pdu : AdvPdu) (fields : ConnectFields) → Passing (taken_if new own pdu fields facts)
   taken_new false own pdu fields = LeavesAll refl (no_link _)

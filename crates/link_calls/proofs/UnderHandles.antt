@@ -13,7 +13,7 @@ use Rattle.hci_cmd.specs.declared.command.CmdRead.{CmdRead}
 use Rattle.hci_cmd.specs.declared.command.CmdRead.TheVariants.{Known, UnknownOpcode, BadLength}
 use Rattle.hci_cmd.specs.Command.{command_of}
 use Rattle.run_laws.specs.host_view.OnLinks.{asks_links}
-use Rattle.run_laws.specs.host_view.Unbuilt.{status_of}
+use Rattle.run_laws.specs.host_view.Status.{status_of}
 use Rattle.run_laws.specs.link_model.Setup.{Setup as EndSetup}
 use Rattle.run_laws.specs.link_model.Facts.{Facts as EndFacts}
 use Rattle.run_laws.specs.link_model.Step.{Step as EndStep, DataGiven, DataReported, PduFixed, PacketSent}

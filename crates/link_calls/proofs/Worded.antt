@@ -1,6 +1,6 @@
 -- A peripheral is given words before it hears a packet: with them it would answer LL_ENC_REQ. What it hears, and what it
 -- sent and accepted, is the same with them.
-use Rattle.std.proofs.Common.{◌≡◌, ℕ, ◌&&◌, ◌||◌, not, Bool, true, false, Some, None, Option, List, refl, sym, ap, ◌∙◌}
+use Rattle.std.proofs.Common.{◌≡◌, ℕ, ◌&&◌, ◌||◌, not, Bool, Some, None, Option, List, refl, sym, ap, ◌∙◌}
 use Rattle.ack_bit.specs.AckBits.{is_new}
 use Rattle.ble_base.specs.declared.roles.Role.{Role}
 use Rattle.data_pdu.specs.Header.{header_in}
@@ -11,11 +11,11 @@ use Rattle.run_laws.specs.link_model.Facts.{Facts as EndFacts}
 use Rattle.run_laws.specs.link_model.Hosts.{facts_with_words}
 use Rattle.run_laws.specs.link_model.Packets.{good_pdu, is_forged, whole_pdu}
 use Rattle.run_laws.specs.link_model.Receiving.{accepts, acknowledged_if, answers_with_control, facts_before_taking, facts_received, has_acknowledged, heard_in_slot}
-use Rattle.run_laws.specs.link_model.Sending.{control_gone_if}
 use Rattle.run_laws.specs.link_model.Setup.{Setup as EndSetup}
 use Rattle.run_laws.specs.link_model.Step.{PacketReceived, WordsGiven}
 use Rattle.run_laws.specs.link_model.Verdicts.{pdu_of}
 use Rattle.run_laws.proofs.link_model.Acknowledging.{ack_before_taking, ack_heard, forged_leaves}
+use Rattle.run_laws.proofs.link_model.Ending.{gone_stays}
 use Rattle.run_laws.specs.open_links.OpenLinks.{OpenLink, facts_in, link_after}
 use Rattle.run_laws.specs.controller_model.declared.doing.Doing.{Doing}
 use Rattle.run_laws.specs.controller_model.declared.doing.Doing.TheVariants.{Advertises, PeripheralListens}
@@ -45,15 +45,11 @@ received_heard slot octets room link found is =
       good = ap (λ (f : EndFacts). f.last_good) same ∙ forged_good forged received ∙ ap (λ (f : EndFacts). f.last_good) then_found;
     }
 
-gone_leaving : (goes : Bool) (slot : ℕ) (facts : EndFacts) → (control_gone_if goes slot facts).leaving ≡ facts.leaving
-gone_leaving true slot facts = refl
-gone_leaving false slot facts = refl
-
 leaving_before : (role : Role) (slot : ℕ) (header : DataHeader) (facts : EndFacts)
     → (facts_before_taking role slot header facts).leaving ≡ (acknowledged_if (has_acknowledged facts header) (heard_in_slot slot header.md facts)).leaving
 leaving_before role slot header facts =
     let own = acknowledged_if (has_acknowledged facts header) (heard_in_slot slot header.md facts) in
-    gone_leaving (answers_with_control role own) slot own
+    gone_stays (answers_with_control role own) slot own
 
 -- ---- with words
 
@@ -131,9 +127,6 @@ each_worded P setup facts other link same words = same
 module _ (setup : Setup) (facts : Facts) (doing : Doing) (link : OpenLink) where
   pub worded_setup : (link_worded setup facts doing link).setup ≡ link.setup
   worded_setup = each_worded (λ base. base.setup ≡ link.setup) setup facts doing link refl (λ skd_s iv_s. refl)
-
-  pub worded_ack : ack_of (link_worded setup facts doing link) ≡ ack_of link
-  worded_ack = each_worded (λ base. ack_of base ≡ ack_of link) setup facts doing link refl (λ skd_s iv_s. given_ack skd_s iv_s link)
 
   pub worded_heard : (slot : ℕ) (octets : List ℕ) (room : Bool)
       → ack_of (link_after (PacketReceived slot octets room) (link_worded setup facts doing link)) ≡ ack_of (link_after (PacketReceived slot octets room) link)

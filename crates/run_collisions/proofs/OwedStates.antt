@@ -1,6 +1,6 @@
 -- The indications that wait at the central of a joint run of both ends are owed by its own procedure, where none of the
 -- peripheral is in progress there.
-use Rattle.std.proofs.Common.{◌≡◌, ◌≤◌, ◌&&◌, true, false, List, [], ◌∷◌, sym, ap, subst, ◌∙◌, refl, arith}
+use Rattle.std.proofs.Common.{◌≡◌, ◌≤◌, ◌&&◌, true, List, [], ◌∷◌, sym, ap, subst, ◌∙◌, refl, arith}
 use Rattle.std.proofs.lemmas.Bool.{and_parts, leb-true}
 use Rattle.collision_steps.specs.CentralPart.{central_of}
 use Rattle.collisions.specs.declared.joint.Link.{Link}
@@ -14,6 +14,7 @@ use Rattle.joint_collisions.specs.Views.{IsReached, View, numbered_of, view_of}
 use Rattle.joint_collisions.proofs.EachStep.{Before}
 use Rattle.joint_laws.specs.joint_controls.Joint.{Joint}
 use Rattle.link_answers.specs.Owing.{Owes, is_answering, is_indication_of, number, owing}
+use Rattle.link_answers.proofs.CentralOwes.{answers_absent}
 use Rattle.machines.specs.Machine.{run}
 use Rattle.run_collisions.specs.Owed.{are_indications_owed, is_owed, owing_peer}
 use Rattle.run_collisions.proofs.OwedPlaces.{indications_owed}
@@ -22,11 +23,6 @@ no_other : (kind : Exclusive) → owing_peer kind Absent ≡ 0
 no_other Update = refl
 no_other Phy = refl
 no_other kind = refl
-
-none_answered : (kind : Exclusive) → is_answering kind Absent ≡ false
-none_answered Update = refl
-none_answered Phy = refl
-none_answered kind = refl
 
 none_requested : (pdus : List Pdu) → number (is_indication_of Request) pdus ≡ 0
 none_requested [] = refl
@@ -70,5 +66,5 @@ pub owed_alone : (kind : Exclusive) (s : Joint) → Before s → (central_of s.c
 owed_alone kind s b none =
     record {
       few = few (view_of s) b.holds.seen.reached kind none;
-      none = ap (is_answering kind) none ∙ none_answered kind;
+      none = ap (is_answering kind) none ∙ answers_absent kind;
     }

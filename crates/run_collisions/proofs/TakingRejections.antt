@@ -29,6 +29,8 @@ use Rattle.link_pairs.specs.link_model.phased_control.Taken.{Response as Drawn, 
 use Rattle.link_pairs.specs.link_model.phased_end.Held.{HeldKeyed}
 use Rattle.link_pairs.specs.link_model.phased_end.Moves.{lasts}
 use Rattle.link_pairs.specs.link_model.phased_end.Taking as taking
+use Rattle.link_pairs.proofs.TakerSends.{same_if}
+use Rattle.link_pairs.proofs.link_model.Skipping.{no_inner}
 use Rattle.run_collisions.proofs.Refusing.{rejection_read}
 
 -- any phase but these two refuses it
@@ -57,15 +59,6 @@ seen_by (Asked after_pause enc_rsp kept) role is = absurd (cc)
 seen_by HalfKeyed role is = absurd (cc)
 seen_by (Pausing kept) role is = absurd (cc)
 seen_by (HalfClear kept) role is = absurd (cc)
-
-never_both : (one other : Bool) → (one && (other && false)) ≡ false
-never_both true true = refl
-never_both true false = refl
-never_both false other = refl
-
-if_same : {A : Type 0} (b : Bool) (x : A) → (if b then x else x) ≡ x
-if_same true x = refl
-if_same false x = refl
 
 class_is : (q : Exclusive) (code : ErrCode) → class_of_read (rejection_read q code) ≡ Other
 class_is Update code = refl
@@ -112,8 +105,8 @@ module _ (q : Exclusive) (code : ErrCode) (slot : ℕ) (response : Drawn) (s : P
         ap (λ (t : Phased). if is_none then_seen.control.ends then answered_if_quiet slot t else then_seen) (ciphers_none q (role_now then_seen) then_seen)
         ∙ ap (λ (kept : Option Ctrl). if is_none then_seen.control.ends
         then (if is_quiet_now then_seen then answered_kept slot kept then_seen else then_seen) else then_seen) none
-        ∙ ap (λ (t : Phased). if is_none then_seen.control.ends then t else then_seen) (if_same (is_quiet_now then_seen) then_seen)
-        ∙ if_same (is_none then_seen.control.ends) then_seen
+        ∙ ap (λ (t : Phased). if is_none then_seen.control.ends then t else then_seen) (same_if (is_quiet_now then_seen) then_seen)
+        ∙ same_if (is_none then_seen.control.ends) then_seen
 
     is_seen : IsSeen s.phase (role_now s)
     is_seen = seen_by s.phase (role_now s) now
@@ -127,7 +120,7 @@ module _ (q : Exclusive) (code : ErrCode) (slot : ℕ) (response : Drawn) (s : P
     has_room : (is_open_now s && (nat_le 16 (waiting_in s.control.table.queue) && is_answered_at (role_now s) ctrl s.phase)) ≡ false
     has_room =
         ap (λ (b : Bool). is_open_now s && (nat_le 16 (waiting_in s.control.table.queue) && b)) (none_answers (role_now s) (opcode_of_kind q) code.0 s.phase)
-        ∙ never_both (is_open_now s) (nat_le 16 (waiting_in s.control.table.queue))
+        ∙ no_inner (is_open_now s) (nat_le 16 (waiting_in s.control.table.queue))
 
     pub taken_so : (took slot response read s).control ≡ after (Takes read slot true) s.control
     taken_so =
@@ -147,9 +140,6 @@ module _ (q : Exclusive) (code : ErrCode) (slot : ℕ) (response : Response) (h 
   abbrev seen_read : CtrlRead
   seen_read = rejection_read q code
 
-  abbrev seen_ctrl : Ctrl
-  seen_ctrl = RejectExtInd (opcode_of_kind q) code.0
-
   seen_here : IsSeen h.end.phase h.end.role
   seen_here = seen_by h.end.phase h.end.role now
 
@@ -158,7 +148,7 @@ module _ (q : Exclusive) (code : ErrCode) (slot : ℕ) (response : Response) (h 
       (λ i. goes i && (allows h.end.phase h.end.role (class_is q code i) && (not (keeps_class (class_is q code i) h.end.role (is_quiet h.end.phase))
       && not (is_open h.control.table.closing && (nat_le 16 (waiting_in h.control.table.queue)
       && none_answers h.end.role (opcode_of_kind q) code.0 h.end.phase i)))))
-      ∙ (λ i. seen_here.allowed i && not (never_both (is_open h.control.table.closing) (nat_le 16 (waiting_in h.control.table.queue)) i))
+      ∙ (λ i. seen_here.allowed i && not (no_inner (is_open h.control.table.closing) (nat_le 16 (waiting_in h.control.table.queue)) i))
 
   answers_none : (q : Exclusive) (role : Role) (refused : Bool) (x : HeldKeyed)
       → taking.answering_at role refused response (RejectExtInd (opcode_of_kind q) code.0) x ≡ x
@@ -177,8 +167,8 @@ module _ (q : Exclusive) (code : ErrCode) (slot : ℕ) (response : Response) (h 
       (answers_none q handed_so.end.role (taking.is_refused (taking.handed_taken slot seen_read h).refused) handed_so)
       ∙ ap (λ (kept : Option Ctrl). if lasts handed_so
       then (if is_quiet handed_so.end.phase then taking.kept_taken slot kept handed_so else nothing_taken) else nothing_taken) none
-      ∙ ap (λ (taken : Taken). if lasts handed_so then taken else nothing_taken) (if_same (is_quiet handed_so.end.phase) nothing_taken)
-      ∙ if_same (lasts handed_so) nothing_taken
+      ∙ ap (λ (taken : Taken). if lasts handed_so then taken else nothing_taken) (same_if (is_quiet handed_so.end.phase) nothing_taken)
+      ∙ same_if (lasts handed_so) nothing_taken
 
   taken_is : taking.handed_taken slot seen_read h ≡ taken_of seen_read slot true h.control
   taken_is =

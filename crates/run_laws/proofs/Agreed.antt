@@ -1,27 +1,19 @@
 -- The ends of one link stay in agreement as either sends, and as it receives what the other sent.
-use Rattle.std.proofs.Common.{◌≡◌, ℕ, ◌<◌, ◌||◌, ◌⊎◌, inl, inr, not, Bool, true, false, None, List, [], ◌∷◌, length, refl, sym, ap, subst, ◌∙◌, arith}
-use Rattle.std.specs.Prelude.{Result}
-use Rattle.std.proofs.lemmas.Bool.{eqb-true, eqb-false}
-use Rattle.std.proofs.lemmas.List.{length_push}
+use Rattle.std.proofs.Common.{◌≡◌, ℕ, ◌⊎◌, inl, inr, Bool, true, false, None, List, [], ◌∷◌, refl, sym, ap, subst, ◌∙◌}
 use Rattle.std.proofs.lemmas.List.Sums.{fold-append}
-use Rattle.ack_bit.specs.AckLink.{Packet}
-use Rattle.ack_bit.specs.InStep.{IsOut}
 use Rattle.ack_bit.proofs.Links.{begins, exchanged, sent}
-use Rattle.run_model.specs.link_model.Acknowledgement.{Acknowledgement, Pdu, after_sending, empty_pdu, end_of, first_acknowledgement, is_acked, next_sent}
-use Rattle.run_model.specs.link_model.Data.{is_data}
+use Rattle.run_model.specs.link_model.Acknowledgement.{Acknowledgement, Pdu, after_sending, empty_pdu, end_of, first_acknowledgement}
 use Rattle.run_model.specs.link_model.OneLink.{AreInAgreement}
 use Rattle.run_model.specs.link_model.Setup.{Setup}
 use Rattle.run_model.proofs.link_model.Hearing.{IsHeardWhole}
-use Rattle.ble_base.specs.declared.error_codes.ErrCode.{ErrCode}
-use Rattle.run_model.specs.procedure_values.declared.asks.Ask.{Ask}
 use Rattle.run_model.specs.link_model.Controls.{pdu_fixed}
 use Rattle.run_model.specs.link_model.End.{facts_after, facts_of}
 use Rattle.run_model.specs.link_model.Facts.{Facts, first_facts}
 use Rattle.run_model.specs.link_model.Hearing.{is_on_air}
-use Rattle.run_model.specs.link_model.Packets.{good_pdu, more_sent, packet_sent, payload_sent, pdu_sent, whole_pdu}
+use Rattle.run_model.specs.link_model.Packets.{good_pdu, packet_sent, whole_pdu}
 use Rattle.run_model.specs.link_model.Step.{Step, DataGiven, DataReported, Disconnected, EventEntered, KeyAnswered, PacketReceived, PacketSent, PduFixed, ProcedureAsked, RequestAnswered, WordsGiven}
 use Rattle.run_model.proofs.link_model.Acknowledging.{ack_sent as end_sent}
-use Rattle.run_model.proofs.link_model.Agreeing.{heard_agrees, others_leave}
+use Rattle.run_model.proofs.link_model.Agreeing.{ack_ahead, heard_agrees, others_leave}
 use Rattle.run_model.specs.open_links.OpenLinks.{OpenLink, facts_in, link_after, link_served, new_link}
 use Rattle.run_model.specs.open_links.Turns.{enters_in, entered_if, link_entered}
 use Rattle.run_laws.specs.Ends.{HaveOneConnectInd}
@@ -53,9 +45,6 @@ ack_reported link = ack_kept DataReported link refl
 pub ack_fixed : (link : OpenLink) → ack_of (link_after PduFixed link) ≡ ack_of link
 ack_fixed link = ack_kept PduFixed link refl
 
-pub ack_answered : (answer : Result Ask ErrCode) (link : OpenLink) → ack_of (link_after (RequestAnswered answer) link) ≡ ack_of link
-ack_answered answer link = ack_kept (RequestAnswered answer) link refl
-
 -- nor does it by a command of its host
 asked_off_air : (step : Step) → IsAskedStep step → is_on_air step ≡ false
 asked_off_air (ProcedureAsked ask) by_host = refl
@@ -72,11 +61,7 @@ ack_asked step link by_host = ack_kept step link (asked_off_air step by_host)
 pub ack_worded : (skd_s iv_s : ℕ) (link : OpenLink) → ack_of (link_after (WordsGiven skd_s iv_s) link) ≡ ack_of link
 ack_worded skd_s iv_s link = ack_kept (WordsGiven skd_s iv_s) link refl
 
--- what an end has sent and accepted when it has sent its packet
-abbrev pub sent_ack : Facts → Acknowledgement
-sent_ack sender = after_sending (pdu_fixed sender) sender.acknowledgement
-
-pub ack_sent : (slot : ℕ) (link : OpenLink) → ack_of (link_after (PacketSent slot) link) ≡ sent_ack (facts_in link)
+pub ack_sent : (slot : ℕ) (link : OpenLink) → ack_of (link_after (PacketSent slot) link) ≡ ack_ahead (facts_in link)
 ack_sent slot link = ap (λ (f : Facts). f.acknowledgement) (step_facts link (PacketSent slot)) ∙ end_sent slot (facts_in link)
 
 -- ---- as a link begins
@@ -93,8 +78,8 @@ pub record IsAgreement (R : Acknowledgement → Acknowledgement → Type 0) (Rea
   pub sends : (next : Pdu) (one other : Acknowledgement) → R one other → R (after_sending next one) other
   pub hears : (from to : Setup) (sender listener : Facts) (slot : ℕ) (room : Bool) → IsReadable sender → from.link.fields ≡ to.link.fields
       → sender.event.channel ≡ listener.event.channel → Reads to listener sender (packet_sent from sender)
-      → R (sent_ack sender) listener.acknowledgement
-      → R (sent_ack sender) (facts_after to listener (PacketReceived slot (packet_sent from sender) room)).acknowledgement
+      → R (ack_ahead sender) listener.acknowledgement
+      → R (ack_ahead sender) (facts_after to listener (PacketReceived slot (packet_sent from sender) room)).acknowledgement
   -- the words that it was given change nothing of how it reads
   pub worded : (to : Setup) (listener sender : Facts) (octets : List ℕ) (skd_s iv_s : ℕ) → Reads to listener sender octets
       → Reads to (facts_after to listener (WordsGiven skd_s iv_s)) sender octets
@@ -156,7 +141,7 @@ module _ (R : Acknowledgement → Acknowledgement → Type 0) (Reads : Setup →
       let after = link_after (PacketReceived slot octets room) one in
       let sender = facts_in from in
       let listener = facts_in one in
-      let before : R (sent_ack sender) (ack_of one) =
+      let before : R (ack_ahead sender) (ack_of one) =
       subst (λ a. R a (ack_of one)) (ack_sent now from) (is.back (ack_of one) (ack_of sent) (agree same)) in
       let heard = is.hears from.setup one.setup sender listener slot room readable (sym same.fields) channel
       (subst (Reads one.setup listener sender) packet reads) before in
@@ -164,7 +149,7 @@ module _ (R : Acknowledgement → Acknowledgement → Type 0) (Reads : Setup →
       ap (λ (f : Facts). f.acknowledgement) (step_facts one (PacketReceived slot octets room))
       ∙ ap (λ xs. (facts_after one.setup listener (PacketReceived slot xs room)).acknowledgement) packet in
       is.back (ack_of sent) (ack_of after)
-      (subst (λ a. R a (ack_of after)) (sym (ack_sent now from)) (subst (R (sent_ack sender)) (sym received) heard))
+      (subst (λ a. R a (ack_of after)) (sym (ack_sent now from)) (subst (R (ack_ahead sender)) (sym received) heard))
 
 -- ---- what both ends sent and accepted
 
@@ -173,8 +158,8 @@ exchange one other agreed = exchanged (end_of one) (end_of other) agreed
 
 hears_as_sent : IsHeardWhole → (from to : Setup) (sender listener : Facts) (slot : ℕ) (room : Bool) → IsReadable sender
     → from.link.fields ≡ to.link.fields → sender.event.channel ≡ listener.event.channel → IsReadAsSent to listener sender (packet_sent from sender)
-    → AreInAgreement (sent_ack sender) listener.acknowledgement
-    → AreInAgreement (sent_ack sender) (facts_after to listener (PacketReceived slot (packet_sent from sender) room)).acknowledgement
+    → AreInAgreement (ack_ahead sender) listener.acknowledgement
+    → AreInAgreement (ack_ahead sender) (facts_after to listener (PacketReceived slot (packet_sent from sender) room)).acknowledgement
 hears_as_sent whole from to sender listener slot room readable fields channel reads agreed =
     by (good_or_not whole from to sender listener readable fields channel)
   where
@@ -182,9 +167,9 @@ hears_as_sent whole from to sender listener slot room readable fields channel re
     after = (facts_after to listener (PacketReceived slot (packet_sent from sender) room)).acknowledgement
 
     by : (good_pdu to listener (packet_sent from sender) ≡ None) ⊎ IsGood whole from to sender listener readable fields channel
-        → AreInAgreement (sent_ack sender) after
+        → AreInAgreement (ack_ahead sender) after
     by (inl none) =
-        subst (AreInAgreement (sent_ack sender)) (sym (unread_leaves whole from to sender listener readable fields channel slot room none)) agreed
+        subst (AreInAgreement (ack_ahead sender)) (sym (unread_leaves whole from to sender listener readable fields channel slot room none)) agreed
     by (inr good) =
         subst (λ a. AreInAgreement a after) (end_sent slot sender)
         (heard_agrees whole from to sender listener slot room
@@ -214,37 +199,4 @@ in_shape whole = record {
   sends = sent_shapes;
   hears = λ from to sender listener slot room readable fields channel reads agreed. heard_shapes whole from to sender listener slot room readable fields channel agreed;
   worded = λ to listener sender octets skd_s iv_s reads. reads;
-}
-
--- two ends that have one CONNECT_IND are in agreement
-abbrev pub Agree : OpenLink → OpenLink → Type 0
-Agree one other = AgreeIn AreInAgreement one other
-
--- ---- an end that sent has a PDU out
-
--- an end that has just sent has heard no acknowledgement of that
-out_by : (acked : Bool) (next : Pdu) (ack other : Acknowledgement) → is_acked ack ≡ acked → AreInAgreement (next_sent acked next ack) other
-    → ack.acked < length (next_sent acked next ack).sent
-out_by true next ack other is agreed =
-    let all = eqb-true ack.acked (length ack.sent) is in
-    let more = length_push ack.sent next in
-    omega (arith, all, more)
-out_by false next ack other is agreed =
-    let some = eqb-false ack.acked (length ack.sent) is in
-    let low = agreed.from_a.reliable.acked_is_accepted in
-    let high = agreed.from_a.reliable.sent_only in
-    omega (arith, some, low, high)
-
-pub out_after : (sender : Facts) (other : Acknowledgement) → AreInAgreement (sent_ack sender) other → IsOut (end_of (sent_ack sender))
-out_after sender other agreed = out_by (is_acked sender.acknowledgement) (pdu_fixed sender) sender.acknowledgement other refl agreed
-
--- the packet that it sent, with room at the other end or with none for data
-abbrev pub packet_of : Facts → Bool → Packet Pdu
-packet_of sender room = record {
-  next = pdu_fixed sender;
-  llid = (pdu_sent sender).llid;
-  md = more_sent sender;
-  length = length (payload_sent sender);
-  arrives = true;
-  room = room || not (is_data (pdu_sent sender));
 }

@@ -17,6 +17,7 @@ use Rattle.run_model.specs.link_model.Receiving.{accepts, facts_before_taking}
 use Rattle.run_model.specs.link_model.Setup.{Setup}
 use Rattle.run_model.specs.link_model.Step.{PacketReceived}
 use Rattle.run_model.proofs.link_model.Acknowledging.{ack_before_taking}
+use Rattle.run_model.proofs.link_model.Agreeing.{ack_ahead, unless_acked}
 use Rattle.run_model.proofs.link_model.Hearing.{IsHeardWhole, received_ends}
 use Rattle.run_laws.specs.Ranges.{IsReadable}
 use Rattle.run_laws.specs.Shapes.{AgreeInShape, Shape, shape_of, shapes_of}
@@ -104,9 +105,6 @@ shapes_received ack pdu acked accepted =
 
 -- ---- an end that sent has a PDU out
 
-abbrev ack_ahead : Facts → Acknowledgement
-ack_ahead sender = after_sending (pdu_fixed sender) sender.acknowledgement
-
 out_by : (acked : Bool) (next : Pdu) (ack other : Acknowledgement) → is_acked ack ≡ acked → AgreeInShape (next_sent acked next ack) other
     → IsOut (shapes_of (next_sent acked next ack))
 out_by true next ack other is agreed =
@@ -131,11 +129,6 @@ packet_of sender room =
       arrives = true;
       room = room;
     }
-
--- what a packet acknowledges is out
-unless_acked : (all says : Bool) → (all ≡ true → says ≡ false) → (not all && says) ≡ says
-unless_acked true says none = sym (none refl)
-unless_acked false says none = refl
 
 grouped : (first second third : Bool) → ((first && second) && third) ≡ (first && (second && third))
 grouped true second third = refl

@@ -12,11 +12,12 @@ use Rattle.run_model.specs.History.{Event, TurnBegan, HostFed, Called, Noted, Tr
 use Rattle.run_model.specs.LinkEnds.{HaveAddresses}
 use Rattle.run_model.specs.Run.{Given, setup_at, facts_at, octets_left, after_call, after_octets, after_feed, hearings_of, step_of, run_of, history_of}
 use Rattle.run_model.proofs.Handing.{IsUnforged}
+use Rattle.run_model.proofs.LinkEnds.{wanted_is}
 use Rattle.run_model.proofs.Places.{each_at, each_event}
 use Rattle.run_model.proofs.Stations.{is_in, among, not_before}
 use Rattle.run_model.proofs.Walk.{Place, AtBegins, AtListening, IsKept, IsWhole, IsStopped, ends_with, run_kept}
 use Rattle.run_laws.proofs.Entering.{IsInTurn, turn_first, turn_kept}
-use Rattle.run_laws.proofs.Hearings.{AreHearing, IsOnAir, OnAirIf, hearing_kept, on_air, other_facts, own_facts, own_hears, use_in_phase, wanted_is}
+use Rattle.run_laws.proofs.Hearings.{AreHearing, IsOnAir, OnAirIf, hearing_kept, on_air, other_facts, own_facts, own_hears, use_in_phase}
 use Rattle.run_laws.proofs.TurnPlaces.{AllStand, Between, Standing, Within, at_stage, event_past, stands_at, stands_first, turned}
 
 -- ---- a call, as it changes what the stations hold

@@ -24,18 +24,18 @@ use Rattle.run_model.specs.controller_model.Heard.{answers_by_connecting, connec
 use Rattle.run_model.specs.controller_model.Packets.{pdu_heard}
 use Rattle.run_model.specs.controller_model.Side.{facts_after}
 use Rattle.run_model.proofs.Handing.{IsUnforged, initiator_unforged, request_unforged}
+use Rattle.run_model.proofs.Linked.{opens_none}
 use Rattle.run_model.proofs.controller_model.Always.{IsAdvertisingChannel, MayBegin}
 use Rattle.run_model.proofs.controller_model.DataChannels.{link_channel}
 use Rattle.run_model.specs.Feeding.{AreDistinct}
 use Rattle.run_model.specs.History.{Event}
 use Rattle.run_model.specs.LinkEnds.{HaveAddresses}
-use Rattle.run_model.specs.OnAir.{ends_phase}
 use Rattle.run_model.specs.Run.{Given, setup_at, facts_at, step_of, run_of, history_of}
-use Rattle.run_model.proofs.LinkEnds.{IsUnderstood}
+use Rattle.run_model.proofs.LinkEnds.{IsUnderstood, scan_takes_none}
 use Rattle.run_model.proofs.LinkSteps.{EachLink, MayOpen, link_has, none_linked, step_linked}
 use Rattle.run_model.proofs.Stations.{is_in}
 use Rattle.run_laws.proofs.ByCalls.{IsCalled, IsKeptByCalls, WasSent, always_by_calls}
-use Rattle.run_laws.proofs.Entering.{IsInTurn, scan_takes_none}
+use Rattle.run_laws.proofs.Entering.{IsInTurn}
 use Rattle.run_laws.proofs.Hearings.{IsOnAir}
 use Rattle.run_laws.proofs.SentPackets.{HasChSel}
 use Rattle.run_laws.proofs.TurnPlaces.{Within}
@@ -115,7 +115,7 @@ under_two : (free : Option ℕ) (setup : Setup) (on : InitiatorFacts) (pdu : Adv
     → LinkTwo (link_under free setup on pdu access facts)
 under_two None setup on pdu access facts two = tt
 under_two (Some handle) setup on pdu access facts two =
-    if_two (is_in_range (fields_sent setup on access facts)) (link_made on.params.own pdu (fields_sent setup on access facts) handle) two
+    if_two (is_in_range (fields_sent setup on access facts)) (link_made facts.view on.params.own pdu (fields_sent setup on access facts) handle) two
 
 with_two : (access : Option ℕ) (setup : Setup) (on : InitiatorFacts) (pdu : AdvPdu) (facts : Facts) → ch_sel_of pdu ≡ true → LinkTwo (link_with access setup on pdu facts)
 with_two None setup on pdu facts two = tt
@@ -165,12 +165,6 @@ takes_two params list (ScanReq from to) fields takes well = scan_takes_none (is_
 takes_two params list other fields takes well = absurd cc
 
 -- ---- each call
-
-opens_none : (P : EndSetup → Type 0) (facts : Facts) (step : Step) → ends_phase step ≡ false → MayOpen P facts step
-opens_none P facts step none = record {
-  made = λ channel link ends doing. absurd (let h : true ≡ false = sym ends ∙ none in absurd cc);
-  taken = λ channel octets on pdu fields handle is doing found takes. absurd (let h : true ≡ false = ap ends_phase (sym is) ∙ none in absurd cc);
-}
 
 heard_octets : (received : Option (List ℕ)) (octets : List ℕ) → step_of received ≡ PacketHeard octets → received ≡ Some octets
 heard_octets None octets is = absurd cc

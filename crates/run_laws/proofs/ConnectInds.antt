@@ -27,15 +27,15 @@ use Rattle.run_model.specs.Links.{begins_link, is_advertising, is_connect_ind}
 use Rattle.run_model.specs.Run.{Given, setup_at, facts_at, use_at, octets_left, after_call, after_octets, after_feed, hearings_of, step_of, run_of, history_of}
 use Rattle.run_model.proofs.Calls.{with_notes, fold_called, fold_event, past_other, same_station}
 use Rattle.run_model.proofs.Doings.{IsWanted, always_wanted}
-use Rattle.run_model.proofs.LinkEnds.{IsUnderstood}
+use Rattle.run_model.proofs.LinkEnds.{IsUnderstood, wanted_is}
 use Rattle.run_model.proofs.Places.{each_at, each_called, each_event}
 use Rattle.run_model.proofs.Stations.{is_in, among, in_more_other, in_more_same, not_before}
 use Rattle.run_model.proofs.Walk.{Place, AtBegins, AtPackets, AtListening, AtEnds, IsKept, IsWhole, IsStopped, ends_with, run_kept}
 use Rattle.run_laws.specs.Access.{connects_in, connects_sent}
 use Rattle.run_laws.proofs.SentPackets.{IsUseSent, Says}
 use Rattle.run_laws.proofs.TurnPlaces.{AllStand, Between, Within, at_stage, event_past, stands_first, stands_kept}
-use Rattle.run_laws.proofs.TurnSteps.{IsMade, MakesWell, begins_count, begins_may, ends_count, may_pending, octet_turn, pending, phase_turn}
-use Rattle.run_laws.proofs.Hearings.{own_facts, use_sent_at, wanted_is}
+use Rattle.run_laws.proofs.TurnSteps.{IsMade, Makes, MakesWell, begins_count, begins_may, ends_count, may_pending, octet_turn, pending, phase_turn}
+use Rattle.run_laws.proofs.Hearings.{own_facts, use_sent_at}
 use Rattle.run_laws.proofs.ByCalls.{StandsBy, at_turn, last_turn}
 
 -- ---- how many were sent
@@ -123,10 +123,10 @@ of_link understood setup facts channel octets from to ch_sel fields (inr sent) i
 one_less : (count number : ℕ) → count + 1 ≡ number + 1 → number ≡ count
 one_less count number is = omega (arith, is)
 
-has_access : (setup : Setup) (facts : Facts) (fields : ConnectFields) (count : ℕ) → IsOfLink setup facts fields → MakesWell setup facts.connections facts.turn.doing
+has_access : (setup : Setup) (facts : Facts) (fields : ConnectFields) (count : ℕ) → IsOfLink setup facts fields → Makes setup facts
     → facts.connections ≡ count + pending facts.turn.doing → access_found (nth_access setup.cursor count) ≡ Some fields.access
 has_access setup facts fields count of makes counted =
-    let made : IsMade setup facts.connections of.link = subst (MakesWell setup facts.connections) of.doing makes in
+    let made : IsMade setup facts.view facts.connections of.link = subst (MakesWell setup facts.view facts.connections) of.doing makes in
     let one : facts.connections ≡ count + 1 = counted ∙ ap (λ doing. count + pending doing) of.doing in
     ap (λ n. access_found (nth_access setup.cursor n)) (sym (one_less count made.number (sym one ∙ made.counted)))
     ∙ made.access ∙ ap (λ (f : ConnectFields). Some f.access) of.fields_are

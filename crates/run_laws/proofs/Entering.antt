@@ -1,30 +1,29 @@
 -- Where a controller is in its turn at each call of a run, and that a link which is taken has its fields in range.
-use Rattle.std.proofs.Common.{◌≡◌, ℕ, zero, suc, ◌+◌, Bool, true, false, List, refl, sym, ap, subst, ◌∙◌}
-use Rattle.std.specs.Prelude.{⊤, if◌then◌else◌}
+use Rattle.std.proofs.Common.{◌≡◌, ℕ, zero, suc, ◌+◌, ◌≤◌, false, List, refl, sym, ap, subst, ◌∙◌, arith}
+use Rattle.std.specs.Prelude.{⊤}
 use Rattle.ble_base.specs.declared.addresses.Address.{Address}
 use Rattle.adv_pdu.specs.declared.pdu.AdvPdu.{AdvPdu}
 use Rattle.adv_pdu.specs.declared.pdu.AdvPdu.TheVariants.{ScanReq, Connect}
 use Rattle.adv_pdu.specs.declared.pdu.ConnectFields.{ConnectFields}
 use Rattle.adv_pdu.specs.Ranges.{IsInRange}
-use Rattle.advertise.specs.declared.answers.AdvAnswer.TheVariants.{Ignore, Respond, Connect as Takes}
+use Rattle.advertise.specs.declared.answers.AdvAnswer.TheVariants.{Connect as Takes}
 use Rattle.advertise.specs.declared.params.AdvParams.{AdvParams}
 use Rattle.advertise.specs.Answers.{advertiser_answer, is_scan_answered}
+use Rattle.run_model.specs.link_model.declared.setup.LinkSetup.{LinkSetup}
 use Rattle.run_model.specs.controller_model.declared.doing.Doing.{Doing}
-use Rattle.run_model.specs.controller_model.declared.doing.Doing.TheVariants.{Rests}
+use Rattle.run_model.specs.controller_model.declared.doing.Doing.TheVariants.{Connects, Rests}
 use Rattle.run_model.specs.controller_model.declared.doing.Turn.{Turn}
 use Rattle.run_model.proofs.controller_model.Always.{MayBegin}
-use Rattle.run_model.specs.controller_model.Step.{HostOctet}
+use Rattle.run_model.proofs.controller_model.HostBuffers.{least_step, most_in_range}
+use Rattle.run_model.specs.controller_model.Step.{HostOctet, TurnBegins, TurnEnds}
 use Rattle.run_model.specs.controller_model.Facts.{Setup, Facts, first_facts}
 use Rattle.run_model.specs.controller_model.Side.{facts_after}
-use Rattle.run_model.proofs.LinkEnds.{AreTaken}
+use Rattle.run_model.specs.Run.{step_of}
+use Rattle.run_model.proofs.LinkEnds.{AreTaken, scan_takes_none}
 use Rattle.run_laws.proofs.TurnPlaces.{Between, IsTurned, Stage, Within}
-use Rattle.run_laws.proofs.TurnSteps.{FitsChannel, FitsFirst, IsListening, begins_listening, may_fit, phase_fits, phase_listens, initiates, pending, MakesWell, begins_begun, begins_make, begins_may, begins_slot, ends_turn, octet_turn, phase_makes, phase_turn}
+use Rattle.run_laws.proofs.TurnSteps.{FitsChannel, FitsFirst, IsListening, begins_listening, may_fit, phase_fits, phase_listens, initiates, pending, Makes, MakesWell, begins_begun, begins_make, begins_may, begins_slot, ends_turn, octet_turn, phase_makes, phase_turn}
 
 -- ---- a link that is taken has its fields in range
-
-pub scan_takes_none : (answered : Bool) (fields : ConnectFields) (X : Type 0) → (if answered then Respond else Ignore) ≡ Takes fields → X
-scan_takes_none true fields X is = absurd cc
-scan_takes_none false fields X is = absurd cc
 
 pub taken_in_range : AreTaken → (params : AdvParams) (list : List Address) (pdu : AdvPdu) (fields : ConnectFields)
     → advertiser_answer params list pdu ≡ Takes fields → IsInRange fields
@@ -50,9 +49,11 @@ pub record IsInTurn (setup : Setup) (stage : Stage) (begun : ℕ) (facts : Facts
   pub begun_is : facts.turn.begun ≡ begun
   pub slot_is : SlotIs stage begun facts.turn.slot
   pub does : DoesAt stage facts.turn.doing
-  pub makes : MakesWell setup facts.connections facts.turn.doing
+  pub makes : Makes setup facts
   pub listens : IsListening facts facts.turn.doing
   pub fits : FitsChannel facts.turn.doing
+  -- the host takes payloads of the least length
+  pub least : 27 ≤ facts.view.flow.acl_length
 
 first_does : (phases : ℕ) (before after : Doing) → DoesAt (Within phases) before → initiates after ≡ false
     → (initiates before ≡ false → pending after ≡ 0) → DoesAt (Within (suc phases)) after
@@ -70,8 +71,8 @@ turn_kept setup = record {
         begun_is = ap (λ (turn : Turn). turn.begun) same.turn ∙ in_turn.begun_is;
         slot_is = tt;
         does = rests;
-        makes = subst (λ n. MakesWell setup n (facts_after setup facts (HostOctet octet)).turn.doing) (sym same.connections)
-            (subst (λ (turn : Turn). MakesWell setup facts.connections turn.doing) (sym same.turn) in_turn.makes);
+        makes = subst (MakesWell setup (facts_after setup facts (HostOctet octet)).view (facts_after setup facts (HostOctet octet)).connections) (sym rests) tt;
+        least = least_step setup facts (HostOctet octet) in_turn.least;
       };
   begins = λ begun on facts in_turn. record {
     begun_is = begins_begun setup begun on facts;
@@ -80,6 +81,7 @@ turn_kept setup = record {
     makes = begins_make setup begun on facts in_turn.begun_is;
     listens = begins_listening setup begun on facts;
     fits = may_fit _ (begins_may setup begun on facts in_turn.begun_is);
+    least = least_step setup facts (TurnBegins begun on) in_turn.least;
   };
   passes = λ phases begun received facts in_turn.
       let passed = phase_turn setup facts received in record {
@@ -89,6 +91,7 @@ turn_kept setup = record {
         makes = phase_makes setup facts received;
         listens = phase_listens setup facts received;
         fits = phase_fits setup facts received in_turn.fits;
+        least = least_step setup facts (step_of received) in_turn.least;
       };
   ends = λ begun facts in_turn. record {
     begun_is = ap (λ (turn : Turn). turn.begun) (ends_turn setup facts) ∙ in_turn.begun_is;
@@ -97,8 +100,16 @@ turn_kept setup = record {
     makes = tt;
     listens = tt;
     fits = tt;
+    least = least_step setup facts TurnEnds in_turn.least;
   };
 }
 
+-- a link that is to be made receives payloads of the least length at least, and of no length that there is not
+pub made_range : (setup : Setup) (stage : Stage) (begun : ℕ) (facts : Facts) → IsInTurn setup stage begun facts → (channel : ℕ) (link : LinkSetup)
+    → facts.turn.doing ≡ Connects channel link → (27 ≤ link.max_rx) × (link.max_rx ≤ 251)
+made_range setup stage begun facts in_turn channel link doing =
+    let made = subst (MakesWell setup facts.view facts.connections) doing in_turn.makes in
+    subst (λ (n : ℕ). (27 ≤ n) × (n ≤ 251)) (sym made.receives) (most_in_range facts.view in_turn.least)
+
 pub turn_first : (setup : Setup) → IsInTurn setup Between 0 (first_facts setup)
-turn_first setup = record { begun_is = refl; slot_is = tt; does = refl; makes = tt; listens = tt; fits = tt }
+turn_first setup = record { begun_is = refl; slot_is = tt; does = refl; makes = tt; listens = tt; fits = tt; least = omega arith }

@@ -25,7 +25,7 @@ use Rattle.run_model.specs.LinkEnds.{HaveAddresses}
 use Rattle.run_model.specs.Run.{Given, setup_at, facts_at, use_at, octets_left, after_call, after_octets, after_feed, hearings_of, step_of, unseen_in}
 use Rattle.run_model.proofs.Calls.{past_other, past_own}
 use Rattle.run_model.proofs.Handing.{IsHanded, IsUnforged, WasForged, WasNot, WasReceived, handing}
-use Rattle.run_model.proofs.LinkEnds.{is_listener, received_by, received_event}
+use Rattle.run_model.proofs.LinkEnds.{is_listener, received_by, received_event, wanted_is}
 use Rattle.run_model.proofs.Stations.{is_in, among, in_more_other, in_more_same, not_before}
 use Rattle.run_model.proofs.Walk.{Place, AtPackets, AtListening, IsKept}
 use Rattle.run_laws.proofs.LinkPhases.{IsInPhase, SendsAs, in_phase, sends_as}
@@ -138,22 +138,22 @@ pub record AreHearing (given : Given) (place : Place) (history : List Event) : T
 
 -- ---- steps
 
-none_by : (given : Given) (station : ℕ) (step : Step) (history : List Event) (other : ℕ) (same : Bool) → (other == station) ≡ same
+pub none_by : (given : Given) (station : ℕ) (step : Step) (history : List Event) (other : ℕ) (same : Bool) → (other == station) ≡ same
     → packet_received other history ≡ None → packet_received other (after_call given station step history) ≡ None
 none_by given station step history other true is none = received_by given other station step history true is
 none_by given station step history other false is none = received_by given other station step history false is ∙ none
 
-none_called : (given : Given) (station : ℕ) (step : Step) (history : List Event) (other : ℕ) → packet_received other history ≡ None
+pub none_called : (given : Given) (station : ℕ) (step : Step) (history : List Event) (other : ℕ) → packet_received other history ≡ None
     → packet_received other (after_call given station step history) ≡ None
 none_called given station step history other none = none_by given station step history other (other == station) refl none
 
-octets_none : (given : Given) (station : ℕ) (octets : List ℕ) (history : List Event) (other : ℕ) → packet_received other history ≡ None
+pub octets_none : (given : Given) (station : ℕ) (octets : List ℕ) (history : List Event) (other : ℕ) → packet_received other history ≡ None
     → packet_received other (after_octets given station octets history) ≡ None
 octets_none given station [] history other none = none
 octets_none given station (octet ∷ octets) history other none =
     octets_none given station octets (after_call given station (HostOctet octet) history) other (none_called given station (HostOctet octet) history other none)
 
-feed_none : (given : Given) (station : ℕ) (octets : List ℕ) (history : List Event) (other : ℕ) → packet_received other history ≡ None
+pub feed_none : (given : Given) (station : ℕ) (octets : List ℕ) (history : List Event) (other : ℕ) → packet_received other history ≡ None
     → packet_received other (after_feed given station octets history) ≡ None
 feed_none given station [] history other none = none
 feed_none given station (octet ∷ octets) history other none =
@@ -167,7 +167,7 @@ hears_nothing given phases called history station none = λ octets is. absurd (l
 pub use_same : (given : Given) (station : ℕ) (history after : List Event) → past_of station after ≡ past_of station history → use_at given station after ≡ use_at given station history
 use_same given station history after same = ap (λ past. use_of (facts_of (setup_at given station) past)) same
 
-facts_same : (given : Given) (station : ℕ) (history after : List Event) → past_of station after ≡ past_of station history → facts_at given station after ≡ facts_at given station history
+pub facts_same : (given : Given) (station : ℕ) (history after : List Event) → past_of station after ≡ past_of station history → facts_at given station after ≡ facts_at given station history
 facts_same given station history after same = ap (facts_of (setup_at given station)) same
 
 pub unforged_same : (given : Given) (station : ℕ) (history after : List Event) (octets : List ℕ) → past_of station after ≡ past_of station history
@@ -236,10 +236,6 @@ packet_heard given phases fates station channel octets history other is_one want
           listens = use_same given other history after (past other) ∙ heard.listens;
           sent = λ unforged. use_same given heard.sender history after (past heard.sender) ∙ heard.sent (unforged_same given other history after sent (past other) unforged);
         }
-
-pub wanted_is : (given : Given) (station : ℕ) (history : List Event) → (facts_at given station history).wanted ≡ use_at given station history
-unfolding use_of
-wanted_is given station history = refl
 
 -- a station that sends hears nothing
 pub sends_deaf : {phases : ℕ} → (given : Given) (called : List ℕ) (history : List Event) (station channel : ℕ) (octets : List ℕ)

@@ -6,7 +6,6 @@ use Rattle.std.proofs.lemmas.Bool.{eqb-true}
 use Rattle.run_model.specs.link_model.Setup.{Setup as EndSetup}
 use Rattle.run_model.specs.link_model.Acknowledgement.{Acknowledgement, first_acknowledgement}
 use Rattle.run_model.specs.link_model.Facts.{Facts as EndFacts}
-use Rattle.run_model.specs.link_model.OneLink.{AreInAgreement}
 use Rattle.run_model.specs.link_model.Step.{Step as EndStep, DataGiven, PduFixed, PacketSent, PacketReceived, DataReported, WordsGiven}
 use Rattle.run_model.specs.open_links.OpenLinks.{Links, OpenLink, link_after, link_at, link_served, new_link, with_change}
 use Rattle.run_model.specs.open_links.Turns.{link_entered}
@@ -18,6 +17,7 @@ use Rattle.run_model.specs.controller_model.Facts.{Setup, Facts, first_facts}
 use Rattle.run_model.specs.controller_model.Heard.{reply_if}
 use Rattle.run_model.specs.controller_model.Packets.{listens_on}
 use Rattle.run_model.specs.controller_model.Side.{facts_after, facts_of}
+use Rattle.run_model.proofs.controller_model.HostBuffers.{most_in_range}
 use Rattle.run_model.proofs.controller_model.Always.{holds_step}
 use Rattle.run_model.proofs.controller_model.Handles.{HaveOwnHandles, handles_kept, own_handles}
 use Rattle.run_model.specs.Run.{Given, setup_at, step_of}
@@ -25,11 +25,11 @@ use Rattle.run_model.proofs.Stations.{is_in}
 use Rattle.run_laws.specs.Ends.{link_listened}
 use Rattle.run_laws.proofs.Agreed.{AgreeIn, IsAgreement, ack_asked, ack_given, ack_of, ack_reported, agree_asked, agree_entered, agree_fixed, agree_given, agree_new, agree_reported, agree_sent, agree_served, agree_worded, first_ack}
 use Rattle.run_laws.proofs.ByCalls.{IsCalled, IsKeptByCalls}
-use Rattle.run_laws.proofs.Entering.{IsInTurn}
+use Rattle.run_laws.proofs.Entering.{IsInTurn, made_range}
 use Rattle.run_laws.proofs.LinkPasses.{IsPassingOn, LeavesAll, OpensOne, ReceivesOn, is_on_link, links_receiving, links_worded, phase_passes_on}
 use Rattle.run_laws.proofs.OpenSteps.{EachOpen, IsAskedWell, IsKeptByHosts, IsKeptOpen, IsKeptServed, KeepsAsked, MayOpen, begin_open, changed, changed_at, end_open, none_open, octet_open, phase_open, open_more, opened, refuses as refusing, sends}
 use Rattle.run_laws.proofs.TurnPlaces.{Within}
-use Rattle.run_laws.proofs.TurnSteps.{MakesWell, begins_begun, begins_slot, ends_turn, octet_turn, phase_turn}
+use Rattle.run_laws.proofs.TurnSteps.{begins_begun, begins_slot, ends_turn, octet_turn, phase_turn}
 use Rattle.run_laws.proofs.TwoStations.{differs_back as apart_back}
 
 -- ---- the links of one station
@@ -95,8 +95,8 @@ short_entered now link is = subst (λ (s : EndSetup). 27 ≤ s.link.max_rx) (sym
 
 may_short : (setup : Setup) (phases turns : ℕ) (facts : Facts) → IsInTurn setup (Within phases) turns facts → MayOpen TakesShort short_open facts
 may_short setup phases turns facts in_turn = record {
-  made = λ channel link doing. let made = subst (MakesWell setup facts.connections) doing in_turn.makes in made.receives;
-  taken = λ pdu on fields handle takes. omega arith;
+  made = λ channel link doing. (made_range setup (Within phases) turns facts in_turn channel link doing).0;
+  taken = λ pdu on fields handle takes. (most_in_range facts.view in_turn.least).0;
 }
 
 before_entered : (slot now : ℕ) (link : OpenLink) → OpenedBefore slot link → OpenedBefore slot (link_entered now link)
@@ -222,9 +222,6 @@ AllPairs R ones others = EachOpen (λ one. EachOpen (R one) others) ones
 abbrev pub AllAgreeIn : (Acknowledgement → Acknowledgement → Type 0) → Links → Links → Type 0
 AllAgreeIn R ones others = EachOpen (λ one. EachOpen (λ other. AgreeIn R one other) others) ones
 
-abbrev pub AllAgree : Links → Links → Type 0
-AllAgree ones others = AllAgreeIn AreInAgreement ones others
-
 pub pairs_back : (R S : OpenLink → OpenLink → Type 0) → ((one other : OpenLink) → R one other → S other one) → (ones others : Links) → AllPairs R ones others
     → AllPairs S others ones
 pairs_back R S back ones [] all = tt
@@ -236,9 +233,6 @@ pairs_back R S back ones (Some other ∷ others) all = (
 
 abbrev pub WithAllIn : (Acknowledgement → Acknowledgement → Type 0) → Links → OpenLink → Type 0
 WithAllIn R others one = EachOpen (λ other. AgreeIn R one other) others
-
-abbrev pub WithAll : Links → OpenLink → Type 0
-WithAll others one = WithAllIn AreInAgreement others one
 
 -- a relation that no step of the first link ends, but that it receives
 pub record IsKeptByFirst (R : OpenLink → OpenLink → Type 0) : Type 0 where

@@ -1,72 +1,23 @@
--- In every run, what the host of each open end asked and answered is in range, and each end receives payloads of any
--- length.
-use Rattle.std.proofs.Common.{◌≡◌, ℕ, Bool, true, false, Option, Some, None, List, [], ◌∷◌, ◌++◌, refl, sym, subst}
-use Rattle.std.specs.Prelude.{⊤, ◌&&◌, if◌then◌else◌}
+-- In every run, what the host of each open end asked and answered is in range, and each end receives payloads of 27
+-- octets at least and of 251 at most.
+use Rattle.std.proofs.Common.{◌≡◌, ℕ, Bool, true, false, Some, List, [], ◌∷◌, ◌++◌}
+use Rattle.std.specs.Prelude.{if◌then◌else◌}
 use Rattle.std.specs.List.{Contains}
-use Rattle.ble_base.specs.Limits.{payload_octets}
-use Rattle.adv_pdu.specs.declared.pdu.AdvPdu.{AdvPdu}
-use Rattle.scan_init.specs.Reports.{does_ask, scan_answer}
 use Rattle.run_model.specs.link_model.AskRanges.{AreAsksInRange, IsAskInRange}
 use Rattle.run_model.specs.link_model.Step.{Step as EndStep, DataGiven, DataReported, EventEntered, PacketReceived, PacketSent, PduFixed, WordsGiven}
 use Rattle.run_model.specs.open_links.OpenLinks.{OpenLink, link_after, link_at}
 use Rattle.run_model.specs.open_links.Turns.{entered_if, enters_in, link_entered}
-use Rattle.run_model.specs.controller_model.declared.doing.Doing.{Doing}
-use Rattle.run_model.specs.controller_model.declared.doing.Doing.TheVariants.{Advertises, Connects}
 use Rattle.run_model.specs.controller_model.Facts.{Facts, Setup, first_facts}
-use Rattle.run_model.specs.controller_model.Heard.{asks_if, facts_with_words, has_room, replies_in, reply_if}
-use Rattle.run_model.specs.controller_model.Outcome.{facts_passed}
-use Rattle.run_model.specs.controller_model.Side.{facts_after, facts_of}
-use Rattle.run_model.proofs.controller_model.Always.{MayBegin}
-use Rattle.run_model.proofs.controller_model.Phases.{EachOutcome, heard_is, unheard_is}
+use Rattle.run_model.specs.controller_model.Side.{facts_of}
+use Rattle.run_model.proofs.controller_model.HostBuffers.{most_in_range}
 use Rattle.run_model.specs.Feeding.{AreDistinct}
 use Rattle.run_model.specs.History.{Event, past_of}
-use Rattle.run_model.specs.Run.{Given, facts_at, history_of, run_of, setup_at, step_of}
+use Rattle.run_model.specs.Run.{Given, facts_at, history_of, run_of, setup_at}
 use Rattle.run_model.proofs.Stations.{contains_in, is_in}
 use Rattle.run_laws.specs.Ranges.{HasRanges}
-use Rattle.run_laws.proofs.Entering.{IsInTurn, turn_first, turn_kept}
+use Rattle.run_laws.proofs.Entering.{IsInTurn, made_range, turn_first, turn_kept}
 use Rattle.run_laws.proofs.OpenSteps.{EachOpen, IsKeptByHosts, IsKeptOpen, IsKeptServed, KeepsAsked, MayOpen, begin_open, end_open, none_open, octet_open, open_has, phase_open}
-use Rattle.run_laws.proofs.TurnPlaces.{Between, IsTurned, Stage, stands_in_run, turned}
-use Rattle.run_laws.proofs.TurnSteps.{begins_may}
-
--- ---- a link that is made
-
-abbrev MakesMax : Doing → Type 0
-MakesMax (Connects channel link) = link.max_rx ≡ payload_octets
-MakesMax other = ⊤
-
-begins_max : (doing : Doing) → MayBegin doing → MakesMax doing
-begins_max (Connects channel link) may = absurd may
-begins_max (Advertises channel) may = tt
-begins_max other may = tt
-
-asks_max : (asks : Bool) (channel : ℕ) (pdu : AdvPdu) → MakesMax (asks_if asks channel pdu)
-asks_max true channel pdu = tt
-asks_max false channel pdu = tt
-
-reply_max : (replies : Bool) (handle : ℕ) → MakesMax (reply_if replies handle)
-reply_max true handle = tt
-reply_max false handle = tt
-
-outcomes_max : (setup : Setup) (facts : Facts) → EachOutcome setup facts (λ outcome. MakesMax (facts_passed outcome).turn.doing)
-outcomes_max setup facts = record {
-  rests = tt;
-  awaits_request = λ channel doing. tt;
-  awaits_response = λ channel advertiser doing. tt;
-  central_listens = λ handle doing. tt;
-  sent = λ channel link doing. tt;
-  responds = λ channel on doing is_on. tt;
-  taken = λ channel octets pdu on fields handle is_on hears takes free. tt;
-  scanned = λ channel octets pdu on doing is_on hears. asks_max (true && does_ask (scan_answer on.params facts.view.accepted on.recent pdu)) channel pdu;
-  answered = λ channel octets pdu on doing is_on hears. asks_max (false && does_ask (scan_answer on.params facts.view.accepted on.recent pdu)) channel pdu;
-  connects = λ channel octets pdu on access handle doing is_on hears answers next free in_range. refl;
-  received = λ handle octets. reply_max (replies_in facts.turn.slot (has_room setup facts) (link_at handle facts.links) octets) handle;
-}
-
-phase_max : (setup : Setup) (facts : Facts) (received : Option (List ℕ)) → MakesMax (facts_after setup facts (step_of received)).turn.doing
-phase_max setup facts None = unheard_is setup facts _ (outcomes_max setup facts) facts.turn.doing refl
-phase_max setup facts (Some octets) =
-    heard_is setup facts (λ outcome. MakesMax (facts_passed outcome).turn.doing) (outcomes_max setup facts) facts.turn.doing octets refl
-    (λ handle. (outcomes_max setup (facts_with_words setup handle facts)).received handle octets)
+use Rattle.run_laws.proofs.TurnPlaces.{Between, IsTurned, Stage, Within, stands_in_run, turned}
 
 -- ---- a step of a link
 
@@ -79,11 +30,11 @@ front_asks [] more are = tt
 front_asks (step ∷ past) more are = (are.0, front_asks past more are.1)
 
 pub ranges_after : (step : EndStep) (link : OpenLink) → IsAskInRange step → HasRanges link → HasRanges (link_after step link)
-ranges_after step link is has = record { max_rx = has.max_rx; asks = one_more link.past step has.asks is }
+ranges_after step link is has = record { max_rx_from = has.max_rx_from; max_rx_to = has.max_rx_to; asks = one_more link.past step has.asks is }
 
 -- so it was before the step
 pub ranges_before : (step : EndStep) (link : OpenLink) → HasRanges (link_after step link) → HasRanges link
-ranges_before step link has = record { max_rx = has.max_rx; asks = front_asks link.past (step ∷ []) has.asks }
+ranges_before step link has = record { max_rx_from = has.max_rx_from; max_rx_to = has.max_rx_to; asks = front_asks link.past (step ∷ []) has.asks }
 
 -- and before it sent, if it did
 pub sent_ranges : (sends : Bool) (slot : ℕ) (link : OpenLink) → HasRanges (if sends then link_after (PacketSent slot) link else link) → HasRanges link
@@ -110,7 +61,7 @@ ranges_asked step link well has = ranges_after step link well.in_range has
 ranges_served : IsKeptServed HasRanges
 ranges_served = record {
   hosts = ranges_hosts;
-  served = λ slot link has. record { max_rx = has.max_rx; asks = has.asks };
+  served = λ slot link has. record { max_rx_from = has.max_rx_from; max_rx_to = has.max_rx_to; asks = has.asks };
   fixed = λ link has. ranges_after PduFixed link tt has;
   sent = λ slot link has. ranges_after (PacketSent slot) link tt has;
 }
@@ -127,42 +78,38 @@ ranges_open = record {
 
 pub record AreRanged (setup : Setup) (stage : Stage) (begun : ℕ) (facts : Facts) : Type 0 where
   pub in_turn : IsInTurn setup stage begun facts
-  makes : MakesMax facts.turn.doing
   pub each : EachOpen HasRanges facts.links
 
-may_open : (facts : Facts) → MakesMax facts.turn.doing → MayOpen HasRanges ranges_open facts
-may_open facts makes = record {
-  made = λ channel link doing. record { max_rx = subst MakesMax doing makes; asks = tt };
-  taken = λ pdu on fields handle takes. record { max_rx = refl; asks = tt };
+may_open : (setup : Setup) (stage : Stage) (begun : ℕ) (facts : Facts) → IsInTurn setup stage begun facts → MayOpen HasRanges ranges_open facts
+may_open setup stage begun facts in_turn = record {
+  made = λ channel link doing.
+      let range = made_range setup stage begun facts in_turn channel link doing in record { max_rx_from = range.0; max_rx_to = range.1; asks = tt };
+  taken = λ pdu on fields handle takes.
+      let range = most_in_range facts.view in_turn.least in record { max_rx_from = range.0; max_rx_to = range.1; asks = tt };
 }
 
 pub ranged_kept : (setup : Setup) → IsTurned setup (AreRanged setup)
 ranged_kept setup = record {
-  feeds = λ begun octet facts is.
-      let in_turn = (turn_kept setup).feeds begun octet facts is.in_turn in record {
-        in_turn = in_turn;
-        makes = subst MakesMax (sym in_turn.does) tt;
-        each = octet_open HasRanges ranges_hosts ranges_asked setup facts octet is.each;
-      };
+  feeds = λ begun octet facts is. record {
+    in_turn = (turn_kept setup).feeds begun octet facts is.in_turn;
+    each = octet_open HasRanges ranges_hosts ranges_asked setup facts octet is.each;
+  };
   begins = λ begun on facts is. record {
     in_turn = (turn_kept setup).begins begun on facts is.in_turn;
-    makes = begins_max _ (begins_may setup begun on facts is.in_turn.begun_is);
     each = begin_open HasRanges HasRanges ranges_served setup begun on facts (entered_ranges begun) is.each;
   };
   passes = λ phases begun received facts is. record {
     in_turn = (turn_kept setup).passes phases begun received facts is.in_turn;
-    makes = phase_max setup facts received;
-    each = phase_open HasRanges ranges_open setup facts received (may_open facts is.makes) is.each;
+    each = phase_open HasRanges ranges_open setup facts received (may_open setup (Within phases) begun facts is.in_turn) is.each;
   };
   ends = λ begun facts is. record {
     in_turn = (turn_kept setup).ends begun facts is.in_turn;
-    makes = tt;
     each = end_open HasRanges ranges_hosts setup facts is.each;
   };
 }
 
 pub ranged_first : (setup : Setup) → AreRanged setup Between 0 (first_facts setup)
-ranged_first setup = record { in_turn = turn_first setup; makes = tt; each = none_open HasRanges setup.links }
+ranged_first setup = record { in_turn = turn_first setup; each = none_open HasRanges setup.links }
 
 -- ---- in a run
 

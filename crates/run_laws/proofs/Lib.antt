@@ -14,6 +14,7 @@ pub mod ByCalls
 pub mod ChSel
 pub mod LinkPasses
 pub mod InRange
+pub mod MostReceived
 pub mod EndLengths
 pub mod Payloads
 pub mod Pieces

@@ -76,7 +76,7 @@ module _ (facts : Facts) (received : Option (List ℕ)) where
 
   under_passes : (free : Option ℕ) (own : Address) (pdu : AdvPdu) (fields : ConnectFields) → Passing (taken_under free own pdu fields facts)
   under_passes None own pdu fields = LeavesAll refl (no_link _)
-  under_passes (Some handle) own pdu fields = opens_passes (link_taken own pdu fields handle)
+  under_passes (Some handle) own pdu fields = opens_passes (link_taken facts.view own pdu fields handle)
 
   if_passes : (new : Bool) (own : Address) (pdu : AdvPdu) (fields : ConnectFields) → Passing (taken_if new own pdu fields facts)
   if_passes false own pdu fields = LeavesAll refl (no_link _)

@@ -18,7 +18,7 @@ use Rattle.hci_cmd.specs.declared.command.CmdRead.TheVariants.{Known, UnknownOpc
 use Rattle.hci_cmd.specs.Command.{command_of}
 use Rattle.host_view.specs.View.{View}
 use Rattle.host_view.specs.OnLinks.{asks_links}
-use Rattle.host_view.specs.Unbuilt.{status_of}
+use Rattle.host_view.specs.Status.{status_of}
 use Rattle.ble_base.specs.ChannelMap.{IsMap}
 use Rattle.ble_base.specs.ErrorCodes.{unsupported_remote_feature}
 use Rattle.ble_base.specs.declared.roles.Role.{Role}
@@ -64,7 +64,6 @@ use Rattle.run_model.proofs.controller_model.Always.{ending_is, leaving_is, link
 use Rattle.run_model.proofs.controller_model.Phases.{EachOutcome, heard_is, unheard_is}
 use Rattle.run_model.specs.Run.{step_of}
 use Rattle.run_model.specs.controller_model.Entering.{all_entered}
-use Rattle.run_model.proofs.controller_model.Accepted.{table_accepts}
 use Rattle.run_model.proofs.controller_model.Asked.{IsAskedStep}
 use Rattle.run_model.proofs.controller_model.Places.{refusal_at}
 use Rattle.run_model.proofs.controller_model.link_commands.Ranges.{asked_in_range}
@@ -213,7 +212,7 @@ step_is_well other moment role peer step ranged is = absurd cc
 
 pub accepted_in_range : (view : View) (command : Command) → status_of view command ≡ 0 → AsksInRange command
 unfolding status_of
-accepted_in_range view command accepted = asked_in_range view command (table_accepts _ _ accepted)
+accepted_in_range view command accepted = asked_in_range view command accepted
 
 -- ---- what a controller answers at once to a request that the mask withholds from its host
 
@@ -430,7 +429,7 @@ module _ (P : OpenLink → Type 0) where
       pub made : (channel : ℕ) (link : LinkSetup) → facts.turn.doing ≡ Connects channel link → P (new_link (record { link = link; opened = facts.turn.slot }))
       pub taken : (pdu : AdvPdu) (on : AdvertiserFacts) (fields : ConnectFields) (handle : ℕ)
           → advertiser_answer on.params facts.view.accepted pdu ≡ Takes fields
-          → P (new_link (record { link = link_taken on.params.own pdu fields handle; opened = facts.turn.slot }))
+          → P (new_link (record { link = link_taken facts.view on.params.own pdu fields handle; opened = facts.turn.slot }))
 
     opens_open : (link : LinkSetup) (facts : Facts) → P (new_link (record { link = link; opened = facts.turn.slot })) → EachOpen P facts.links
         → EachOpen P (facts_passed (opens link facts)).links
@@ -460,7 +459,7 @@ module _ (P : OpenLink → Type 0) where
       sent = λ channel link doing. opens_open link facts (may.made channel link doing) each;
       responds = λ channel on doing is_on. each;
       taken = λ channel octets pdu on fields handle is_on hears takes free.
-          opens_open (link_taken on.params.own pdu fields handle) facts (may.taken pdu on fields handle takes) each;
+          opens_open (link_taken facts.view on.params.own pdu fields handle) facts (may.taken pdu on fields handle takes) each;
       scanned = λ channel octets pdu on doing is_on hears.
           asks_open (true && does_ask (scan_answer on.params facts.view.accepted on.recent pdu)) facts.turn.slot channel pdu facts.links each;
       answered = λ channel octets pdu on doing is_on hears.

@@ -88,7 +88,7 @@ outcomes_unopened setup facts none = record {
   sent = λ channel link doing. opening_passes IsUnopened link facts (λ on. absurd cc);
   responds = λ channel on doing is_on leads_on. absurd cc;
   taken = λ channel octets pdu on fields handle is_on hears takes free.
-      opening_passes IsUnopened (link_taken on.params.own pdu fields handle) facts (λ leads_on. absurd cc);
+      opening_passes IsUnopened (link_taken facts.view on.params.own pdu fields handle) facts (λ leads_on. absurd cc);
   scanned = λ channel octets pdu on doing is_on hears.
       asks_unopened (true && does_ask (scan_answer on.params facts.view.accepted on.recent pdu)) channel pdu (with_scanner (scanner_after on facts.view.accepted pdu) facts);
   answered = λ channel octets pdu on doing is_on hears.

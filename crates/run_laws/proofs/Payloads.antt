@@ -1,6 +1,6 @@
 -- What the payload of a packet of an end is on the air, in all phases of encryption.
 use Rattle.std.proofs.Common.{◌≡◌, ℕ, ◌+◌, ◌≤◌, ◌==◌, ◌&&◌, ◌||◌, ◌⊎◌, inl, inr, not, Bool, true, false, Option, Some, None, List, [], ◌∷◌, fold, length, refl, sym, ap, subst, ◌∙◌, arith, if◌then◌else◌}
-use Rattle.std.proofs.lemmas.Bool.{eqb-false, ne_eqb}
+use Rattle.std.proofs.lemmas.Bool.{ne_eqb}
 use Rattle.ack_bit.specs.AckBits.{acknowledges}
 use Rattle.ble_base.specs.declared.roles.Role.{Role}
 use Rattle.ccm_link.specs.Ccm.{sealed_payload}
@@ -22,18 +22,11 @@ use Rattle.run_model.specs.link_model.enc_phase.Phases.{is_central, seals}
 use Rattle.run_model.specs.link_model.enc_phase.Sealing.{EncEnd}
 use Rattle.run_model.proofs.link_model.Acknowledging.{ack_heard, ack_sent, forged_leaves}
 use Rattle.run_model.proofs.link_model.Agreeing.{others_leave}
+use Rattle.run_model.proofs.link_model.Opening.{some_body}
 use Rattle.run_model.proofs.link_model.Repeating.{first_payload, payload_kept, sent_again}
 use Rattle.run_laws.specs.Ranges.{IsPayload, IsReadable}
 
 -- ---- a payload that is made
-
-some_body : (pdu : Pdu) → is_empty pdu ≡ false → 1 ≤ length pdu.body
-some_body pdu is = by (pdu.llid == 0) (length pdu.body == 0) refl is
-  where
-    by : (none empty : Bool) → (length pdu.body == 0) ≡ empty → (none || empty) ≡ false → 1 ≤ length pdu.body
-    by true empty e t = absurd cc
-    by false true e t = absurd cc
-    by false false e t = let some = eqb-false (length pdu.body) 0 e in omega (arith, some)
 
 -- a longer body leaves it not empty
 still_some : (pdu : Pdu) (body : List ℕ) → is_empty pdu ≡ false → 1 ≤ length body → is_empty (record { llid = pdu.llid; body = body }) ≡ false
@@ -86,7 +79,7 @@ received_out : (all says accepted : Bool) (pdu : Pdu) (ack : Acknowledgement) �
 received_out true says accepted pdu ack is out = absurd (let h : true ≡ false = sym is ∙ out in absurd cc)
 received_out false says accepted pdu ack is out = refl
 
-heard_out : (role : Role) (slot : ℕ) (room : Bool) (pdu : Option (List ℕ)) (facts : Facts) → is_acked (facts_received role slot room pdu facts).acknowledgement ≡ false
+pub heard_out : (role : Role) (slot : ℕ) (room : Bool) (pdu : Option (List ℕ)) (facts : Facts) → is_acked (facts_received role slot room pdu facts).acknowledgement ≡ false
     → is_acked facts.acknowledgement ≡ false
 heard_out role slot room None facts out = out
 heard_out role slot room (Some octets) facts out =

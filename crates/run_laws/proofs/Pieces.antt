@@ -39,6 +39,7 @@ use Rattle.run_model.specs.link_model.Hearing.{IsOpened, IsUnderstood}
 use Rattle.run_model.specs.link_model.Packets.{FitsReceiver, payload_sent, pdu_sent}
 use Rattle.run_model.specs.link_model.Payload.{CanOpen, payload_made}
 use Rattle.run_model.specs.link_model.enc_phase.Sealing.{EncEnd}
+use Rattle.run_model.proofs.link_model.Fixing.{acked_control}
 use Rattle.run_model.proofs.link_model.KnownEnds.{IsPast, first_past, step_past}
 use Rattle.run_model.proofs.link_model.Llids.{past_llid}
 use Rattle.run_model.proofs.link_model.Moves.{EachMoveKeeps, past_keeps}
@@ -146,14 +147,14 @@ steps_room setup facts [] p are has = has
 steps_room setup facts (step ∷ steps) p are has =
     steps_room setup (facts_after setup facts step) steps (step_past setup facts step p) are.1 (room_after setup facts step p are.0 has)
 
-room_first : (setup : Setup) → setup.link.max_rx ≡ payload_octets → HasRoom (first_facts setup)
+room_first : (setup : Setup) → setup.link.max_rx ≤ payload_octets → HasRoom (first_facts setup)
 room_first setup max = record {
   lengths = record { own = omega arith; peer = omega arith; own_to = omega arith; own_rx_to = omega (arith, max) };
   kept = tt;
   limit = omega arith;
 }
 
-past_room : (setup : Setup) (past : List Step) → setup.link.max_rx ≡ payload_octets → AreAsksInRange past → HasRoom (facts_of setup past)
+past_room : (setup : Setup) (past : List Step) → setup.link.max_rx ≤ payload_octets → AreAsksInRange past → HasRoom (facts_of setup past)
 unfolding facts_of
 past_room setup past max are = steps_room setup (first_facts setup) past (first_past setup) are (room_first setup max)
 
@@ -235,7 +236,7 @@ next_whole false control fixed is = is
 pub fixed_whole : (link : OpenLink) → HasRanges link → is_empty (pdu_fixed (facts_in link)) ≡ true → pdu_fixed (facts_in link) ≡ empty_pdu
 fixed_whole link ranges =
     let facts = facts_in link in
-    let room = past_room link.setup link.past ranges.max_rx ranges.asks in
+    let room = past_room link.setup link.past ranges.max_rx_to ranges.asks in
     next_whole facts.fixes_control (next_control facts) facts.outgoing.fixed (past_keeps IsWholeNext whole_kept link.setup link.past room.limit)
 
 -- ---- no payload is longer than 251 octets
@@ -310,10 +311,6 @@ sent_fitting slot facts are =
     let went = went_fitting payload (is_acked now.acknowledgement) now.outgoing.fixed now.acknowledgement.last now.outgoing refl gone.fixed gone.last in
     record { fixed = went.0; last = went.1 }
 
-acked_fixed : (acked : Bool) (outgoing : Data) → (data_acked_if acked outgoing).fixed ≡ outgoing.fixed
-acked_fixed true outgoing = refl
-acked_fixed false outgoing = refl
-
 taken_fitting : (takes : Bool) (pdu : Pdu) (slot : ℕ) (facts : Facts) → AreFitting facts → AreFitting (procedures_take_if takes pdu slot facts)
 taken_fitting true pdu slot facts are = record { fixed = are.fixed; last = are.last }
 taken_fitting false pdu slot facts are = are
@@ -335,7 +332,7 @@ received_fitting role slot room (Some octets) facts are =
     let own = acknowledged_if acks (heard_in_slot slot header.md facts) in
     let now = facts_before_taking role slot header facts in
     let accepted = accepts room header pdu now in
-    let first = fitting_same facts own (acked_fixed (acks && is_data facts.acknowledgement.last) facts.outgoing) refl are in
+    let first = fitting_same facts own (acked_control (acks && is_data facts.acknowledgement.last) facts.outgoing) refl are in
     let gone = gone_fitting (answers_with_control role own) slot own first in
     data_fitting (accepted && is_data pdu) (procedures_take_if (accepted && is_procedure_pdu pdu) pdu slot (accepted_if accepted pdu now))
     (taken_fitting (accepted && is_procedure_pdu pdu) pdu slot (accepted_if accepted pdu now) (record { fixed = gone.fixed; last = gone.last }))
@@ -359,7 +356,7 @@ steps_fitting setup facts (step ∷ steps) p asks has are =
     steps_fitting setup (facts_after setup facts step) steps (step_past setup facts step p) asks.1
     (room_after setup facts step p asks.0 has) (fitting_after setup facts step has.lengths are)
 
-past_fitting : (setup : Setup) (past : List Step) → setup.link.max_rx ≡ payload_octets → AreAsksInRange past → AreFitting (facts_of setup past)
+past_fitting : (setup : Setup) (past : List Step) → setup.link.max_rx ≤ payload_octets → AreAsksInRange past → AreFitting (facts_of setup past)
 unfolding facts_of
 past_fitting setup past max asks =
     steps_fitting setup (first_facts setup) past (first_past setup) asks (room_first setup max) (record { fixed = omega arith; last = omega arith })
@@ -372,7 +369,7 @@ one_fits false next last is is_too = is_too
 pub sent_short : (link : OpenLink) → HasRanges link → length (pdu_sent (facts_in link)).body ≤ payload_octets
 sent_short link ranges =
     let facts = facts_in link in
-    let are = past_fitting link.setup link.past ranges.max_rx ranges.asks in
+    let are = past_fitting link.setup link.past ranges.max_rx_to ranges.asks in
     one_fits (is_acked facts.acknowledgement) (pdu_fixed facts) facts.acknowledgement.last
     (next_fits facts.fixes_control (next_control facts) facts.outgoing.fixed are.fixed) are.last
 
@@ -396,19 +393,18 @@ FitsThere =
     → CanOpen made listener.encryption.end → length (pdu_sent sender).body ≤ to.link.max_rx → FitsReceiver sender to listener
 
 -- and an open end that can open what the far end made understands it
-pub ranged_understand : IsOpenedThere → FitsThere → (from to : OpenLink) (made : EncEnd) → HasRanges from → HasRanges to
+pub ranged_understand : IsOpenedThere → FitsThere → (from to : OpenLink) (made : EncEnd) → HasRanges from
     → from.setup.link.fields ≡ to.setup.link.fields → (facts_in from).event.channel ≡ (facts_in to).event.channel
     → payload_sent (facts_in from) ≡ payload_made made (pdu_sent (facts_in from)) → CanOpen made (facts_in to).encryption.end
+    → length (pdu_sent (facts_in from)).body ≤ to.setup.link.max_rx
     → IsUnderstood from.setup (facts_in from) to.setup (facts_in to)
-ranged_understand opened fits from to made ranges ranges_too fields channel is can =
+ranged_understand opened fits from to made ranges fields channel is can short =
     let sent = sent_readable from ranges in
-    let short = sent.short in
-    let most = ranges_too.max_rx in
     record {
       fields = fields;
       channel = channel;
       llid = sent.llid;
       octets = payload_short (facts_in from) sent;
-      fits = fits made (facts_in from) (facts_in to) to.setup is can (omega (arith, short, most));
+      fits = fits made (facts_in from) (facts_in to) to.setup is can short;
       opens = opened made (facts_in from) (facts_in to) sent.llid is can;
     }

@@ -27,7 +27,7 @@ use Rattle.run_model.specs.link_model.enc_phase.Phases.{is_central, opens}
 use Rattle.run_model.specs.link_model.enc_phase.Sealing.{EncEnd, is_right, opened_body}
 use Rattle.run_model.proofs.link_model.Acknowledging.{ack_heard, forged_leaves}
 use Rattle.run_model.proofs.link_model.Hearing.{IsHeardWhole}
-use Rattle.run_model.proofs.link_model.Received.{air_read, has_header}
+use Rattle.run_model.proofs.link_model.Received.{air_read, has_header, in_form}
 use Rattle.run_laws.specs.Ranges.{IsReadable}
 use Rattle.run_laws.specs.Shapes.{IsReadAsSent}
 use Rattle.run_laws.proofs.Payloads.{payload_short}
@@ -61,9 +61,6 @@ opened_some llid key iv extra payload true right some =
     some_left llid payload (opened_payload key iv payload) some (opened_long key iv payload long)
 
 -- ---- it is read with its header
-
-in_form : (count : ℕ) → count ≤ 255 → (nat_le 2 (suc (suc count)) && nat_le (suc (suc count)) 257 && (suc (suc count) == 2 + count)) ≡ true
-in_form count short = grind (arith, nat_tests)
 
 module _ (sender listener : Facts) where
   -- what is read, with its payload opened where it is new and not empty

@@ -72,10 +72,6 @@ IsUseSent facts Idle = ⊤
 
 -- ---- each PDU
 
-AreOther : Option AdvPdu → Type 0
-AreOther None = Unit {0}
-AreOther (Some pdu) = IsOther pdu
-
 advertisement_other_by : (undirected scannable directed : Bool) (own target : Address) (body : List ℕ)
     → IsOther (cond undirected (Ind own true (record { items = body }))
     (cond scannable (ScanInd own (record { items = body }))

@@ -1,5 +1,5 @@
 -- The turn of a controller after each call on it: its slot, what is done next, and how many access addresses were taken.
-use Rattle.std.proofs.Common.{◌≡◌, ℕ, zero, suc, ◌+◌, ◌≤◌, Bool, true, false, Option, Some, None, List, refl, sym, ap, ◌∙◌, arith, subst}
+use Rattle.std.proofs.Common.{◌≡◌, ℕ, zero, suc, ◌+◌, Bool, true, false, Option, Some, None, List, refl, sym, ap, ◌∙◌, arith, subst}
 use Rattle.std.specs.Prelude.{⊤, ◌&&◌, ◌==◌}
 use Rattle.adv_pdu.specs.declared.pdu.AdvPdu.{AdvPdu}
 use Rattle.adv_pdu.specs.Ranges.{is_in_range}
@@ -10,7 +10,9 @@ use Rattle.hci_cmd.specs.declared.command.Command.{Command}
 use Rattle.hci_cmd.specs.declared.command.CmdRead.{CmdRead}
 use Rattle.hci_cmd.specs.declared.command.CmdRead.TheVariants.{Known, UnknownOpcode, BadLength}
 use Rattle.hci_cmd.specs.Command.{command_of}
-use Rattle.host_view.specs.Unbuilt.{status_of}
+use Rattle.host_view.specs.Flow.{most_received}
+use Rattle.host_view.specs.Status.{status_of}
+use Rattle.host_view.specs.View.{View}
 use Rattle.run_model.specs.link_model.declared.setup.LinkSetup.{LinkSetup}
 use Rattle.scan_init.specs.Access.{nth_access}
 use Rattle.scan_init.specs.Reports.{does_ask, scan_answer}
@@ -209,7 +211,7 @@ passes_each setup facts = record {
   central_listens = λ handle doing. passes_on facts facts (CentralListens handle) refl refl refl refl;
   sent = λ channel link doing. opens_on link facts;
   responds = λ channel on doing is_on. passes_on facts facts (Responds channel) refl refl refl refl;
-  taken = λ channel octets pdu on fields handle is_on hears takes free. opens_on (link_taken on.params.own pdu fields handle) facts;
+  taken = λ channel octets pdu on fields handle is_on hears takes free. opens_on (link_taken facts.view on.params.own pdu fields handle) facts;
   scanned = λ channel octets pdu on doing is_on hears.
       asks_on facts (with_scanner (scanner_after on facts.view.accepted pdu) facts) (true && does_ask (scan_answer on.params facts.view.accepted on.recent pdu)) channel pdu refl refl;
   answered = λ channel octets pdu on doing is_on hears.
@@ -239,34 +241,35 @@ begins_may setup slot on facts is =
 
 -- ---- what a link has that is to be made
 
-pub record IsMade (setup : Setup) (connections : ℕ) (link : LinkSetup) : Type 0 where
+pub record IsMade (setup : Setup) (view : View) (connections : ℕ) (link : LinkSetup) : Type 0 where
   -- it has the access address that was taken last
   pub number : ℕ
   pub counted : connections ≡ number + 1
   pub access : access_found (nth_access setup.cursor number) ≡ Some link.fields.access
   pub in_range : is_in_range link.fields ≡ true
-  -- it receives payloads of 27 octets, and longer ones
-  pub receives : 27 ≤ link.max_rx
+  -- it receives payloads that its host can take
+  pub receives : link.max_rx ≡ most_received view
 
-abbrev pub MakesWell : Setup → ℕ → Doing → Type 0
-MakesWell setup connections (Connects channel link) = IsMade setup connections link
-MakesWell setup connections other = ⊤
+abbrev pub MakesWell : Setup → View → ℕ → Doing → Type 0
+MakesWell setup view connections (Connects channel link) = IsMade setup view connections link
+MakesWell setup view connections other = ⊤
 
-abbrev Makes : Setup → Facts → Type 0
-Makes setup facts = MakesWell setup facts.connections facts.turn.doing
+abbrev pub Makes : Setup → Facts → Type 0
+Makes setup facts = MakesWell setup facts.view facts.connections facts.turn.doing
 
-begin_makes : (setup : Setup) (connections : ℕ) (doing : Doing) → MayBegin doing → MakesWell setup connections doing
-begin_makes setup connections (Connects channel link) may = absurd may
-begin_makes setup connections (Advertises channel) may = tt
-begin_makes setup connections other may = tt
+begin_makes : (setup : Setup) (view : View) (connections : ℕ) (doing : Doing) → MayBegin doing → MakesWell setup view connections doing
+begin_makes setup view connections (Connects channel link) may = absurd may
+begin_makes setup view connections (Advertises channel) may = tt
+begin_makes setup view connections other may = tt
 
-asks_make : (setup : Setup) (connections : ℕ) (asks : Bool) (channel : ℕ) (pdu : AdvPdu) → MakesWell setup connections (asks_if asks channel pdu)
-asks_make setup connections true channel pdu = tt
-asks_make setup connections false channel pdu = tt
+asks_make : (setup : Setup) (view : View) (connections : ℕ) (asks : Bool) (channel : ℕ) (pdu : AdvPdu)
+    → MakesWell setup view connections (asks_if asks channel pdu)
+asks_make setup view connections true channel pdu = tt
+asks_make setup view connections false channel pdu = tt
 
-reply_makes : (setup : Setup) (connections : ℕ) (replies : Bool) (handle : ℕ) → MakesWell setup connections (reply_if replies handle)
-reply_makes setup connections true handle = tt
-reply_makes setup connections false handle = tt
+reply_makes : (setup : Setup) (view : View) (connections : ℕ) (replies : Bool) (handle : ℕ) → MakesWell setup view connections (reply_if replies handle)
+reply_makes setup view connections true handle = tt
+reply_makes setup view connections false handle = tt
 
 passes_making : (setup : Setup) (facts : Facts) → EachOutcome setup facts (λ outcome. Makes setup (facts_passed outcome))
 passes_making setup facts = record {
@@ -276,26 +279,25 @@ passes_making setup facts = record {
   central_listens = λ handle doing. tt;
   sent = λ channel link doing. opening_passes (Makes setup) link facts tt;
   responds = λ channel on doing is_on. tt;
-  taken = λ channel octets pdu on fields handle is_on hears takes free. opening_passes (Makes setup) (link_taken on.params.own pdu fields handle) facts tt;
+  taken = λ channel octets pdu on fields handle is_on hears takes free. opening_passes (Makes setup) (link_taken facts.view on.params.own pdu fields handle) facts tt;
   scanned = λ channel octets pdu on doing is_on hears.
-      asks_make setup facts.connections (true && does_ask (scan_answer on.params facts.view.accepted on.recent pdu)) channel pdu;
+      asks_make setup facts.view facts.connections (true && does_ask (scan_answer on.params facts.view.accepted on.recent pdu)) channel pdu;
   answered = λ channel octets pdu on doing is_on hears.
-      asks_make setup facts.connections (false && does_ask (scan_answer on.params facts.view.accepted on.recent pdu)) channel pdu;
+      asks_make setup facts.view facts.connections (false && does_ask (scan_answer on.params facts.view.accepted on.recent pdu)) channel pdu;
   connects = λ channel octets pdu on access handle doing is_on hears answers next free in_range.
-      record { number = facts.connections; counted = refl; access = next; in_range = in_range; receives = omega arith };
-  received = λ handle octets. reply_makes setup facts.connections (replies_in facts.turn.slot (has_room setup facts) (link_at handle facts.links) octets) handle;
+      record { number = facts.connections; counted = refl; access = next; in_range = in_range; receives = refl };
+  received = λ handle octets. reply_makes setup _ facts.connections (replies_in facts.turn.slot (has_room setup facts) (link_at handle facts.links) octets) handle;
 }
 
-pub phase_makes : (setup : Setup) (facts : Facts) (received : Option (List ℕ))
-    → MakesWell setup (facts_after setup facts (step_of received)).connections (facts_after setup facts (step_of received)).turn.doing
+pub phase_makes : (setup : Setup) (facts : Facts) (received : Option (List ℕ)) → Makes setup (facts_after setup facts (step_of received))
 phase_makes setup facts None = unheard_is setup facts _ (passes_making setup facts) facts.turn.doing refl
 phase_makes setup facts (Some octets) =
     heard_is setup facts (λ outcome. Makes setup (facts_passed outcome)) (passes_making setup facts) facts.turn.doing octets refl
     (λ handle. (passes_making setup (facts_with_words setup handle facts)).received handle octets)
 
 pub begins_make : (setup : Setup) (slot : ℕ) (on : Bool) (facts : Facts) → facts.turn.begun ≡ slot
-    → MakesWell setup (facts_after setup facts (TurnBegins slot on)).connections (facts_after setup facts (TurnBegins slot on)).turn.doing
-begins_make setup slot on facts is = begin_makes setup _ _ (begins_may setup slot on facts is)
+    → Makes setup (facts_after setup facts (TurnBegins slot on))
+begins_make setup slot on facts is = begin_makes setup _ _ _ (begins_may setup slot on facts is)
 
 -- ---- what it listens for
 

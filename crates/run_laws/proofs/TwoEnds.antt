@@ -415,13 +415,6 @@ stays_in_agreement whole = λ given before rest central peripheral distinct six 
     at_any_time AreInAgreement IsReadAsSent (in_agreement whole) ReadsAsSent takes_as_sent given before rest central peripheral distinct six is is_too at ends hear
     (reads.one_reads, reads.other_reads) is_open is_open_too
 
-pub ends_agree : IsHeardWhole → IsUnderstood → AreTaken → AreApart → (given : Given) → HaveAddresses given → AreDistinct given.stations → AreTwo given
-    → (before rest : List Event) → history_of (run_of given) ≡ before ++ rest → (end far : OpenEnd) → is_in end.station given.stations ≡ true
-    → is_in far.station given.stations ≡ true → (end.station == far.station) ≡ false → HaveOneConnectInd end.link.setup far.link.setup
-    → IsOpen given before end → IsOpen given before far → ReadsAsSent given before end far → ReadsAsSent given before far end
-    → AreInAgreement (ack_of end.link) (ack_of far.link)
-ends_agree whole = ends_at_any_time AreInAgreement IsReadAsSent (in_agreement whole) ReadsAsSent takes_as_sent
-
 -- however it is read
 pub stays_in_shape : IsHeardWhole → IsAnyTime AgreeInShape (λ given history one other. Unit {0})
 stays_in_shape whole = λ given before rest central peripheral distinct six is is_too at ends hear reads is_open is_open_too.

@@ -54,7 +54,7 @@ passes_wanting setup facts = record {
   central_listens = λ handle doing. tt;
   sent = λ channel link doing. opening_passes WantsIt link facts tt;
   responds = λ channel on doing is_on. tt;
-  taken = λ channel octets pdu on fields handle is_on hears takes free. opening_passes WantsIt (link_taken on.params.own pdu fields handle) facts tt;
+  taken = λ channel octets pdu on fields handle is_on hears takes free. opening_passes WantsIt (link_taken facts.view on.params.own pdu fields handle) facts tt;
   scanned = λ channel octets pdu on doing is_on hears.
       asks_wants (true && does_ask (scan_answer on.params facts.view.accepted on.recent pdu)) channel pdu (with_scanner (scanner_after on facts.view.accepted pdu) facts);
   answered = λ channel octets pdu on doing is_on hears.

@@ -70,9 +70,6 @@ due_event given history event so_far due uncalled unfed = record {
   taken = λ station. uncalled station ∙ so_far.taken station ∙ sym (flat_nothing (octets_in station) history event (unfed station));
 }
 
-uncalled_by : (station : ℕ) (history : List Event) (past : List Step) → past ≡ past_of station history → flat_map octet_in past ≡ octets_called station history
-uncalled_by station history past is = ap (flat_map octet_in) is
-
 due_call : (given : Given) (station : ℕ) (step : Step) (history : List Event) → octet_in step ≡ [] → IsCallDue given history station step → IsDueSoFar given history
     → IsDueSoFar given (after_call given station step history)
 due_call given station step history none due so_far =

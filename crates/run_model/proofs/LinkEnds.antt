@@ -263,7 +263,7 @@ record IsRequest (own : Address) (pdu : AdvPdu) (fields : ConnectFields) : Type 
   is : pdu ≡ Connect from to ch_sel fields
   to_own : to ≡ own
 
-scan_takes_none : (answered : Bool) (fields : ConnectFields) (X : Type 0) → (if answered then Respond else Ignore) ≡ Takes fields → X
+pub scan_takes_none : (answered : Bool) (fields : ConnectFields) (X : Type 0) → (if answered then Respond else Ignore) ≡ Takes fields → X
 scan_takes_none true fields X is = absurd cc
 scan_takes_none false fields X is = absurd cc
 
@@ -285,7 +285,7 @@ heard_step (Some heard) octets is = let same : heard ≡ octets = cc in ap Some 
 same_channel : (one other : ℕ) → Listens one ≡ Listens other → one ≡ other
 same_channel one other is = cc
 
-wanted_is : (given : Given) (station : ℕ) (history : List Event) → (facts_at given station history).wanted ≡ use_at given station history
+pub wanted_is : (given : Given) (station : ℕ) (history : List Event) → (facts_at given station history).wanted ≡ use_at given station history
 unfolding use_of
 wanted_is given station history = refl
 
@@ -349,7 +349,7 @@ taken_by : AreTaken → (given : Given) → HaveAddresses given → (station cha
     → step_of (packet_received station history) ≡ PacketHeard octets
     → (facts_at given station history).turn.doing ≡ AwaitsRequest channel → pdu_heard channel octets ≡ Some pdu
     → advertiser_answer on.params (facts_at given station history).view.accepted pdu ≡ Takes fields
-    → IsLast history station (record { link = link_taken on.params.own pdu fields handle; opened = (facts_at given station history).turn.slot })
+    → IsLast history station (record { link = link_taken (facts_at given station history).view on.params.own pdu fields handle; opened = (facts_at given station history).turn.slot })
 taken_by taken given six station channel octets on pdu fields handle history heard in_slot is doing found takes =
     let setup = setup_at given station in
     let past = past_of station history in
@@ -360,7 +360,7 @@ taken_by taken given six station channel octets on pdu fields handle history hea
     let request = is_request taken on.params (facts_at given station history).view.accepted pdu fields takes in
     let on_air = subst (λ one. is_advertising one ≡ true) on_it (of_advertising channel fits) in
     let says = subst (λ one. pdu_heard one octets ≡ Some (Connect request.from request.to request.ch_sel fields)) on_it (found ∙ ap Some request.is) in
-    subst (λ one. IsLast history station (record { link = link_taken on.params.own one fields handle; opened = (facts_at given station history).turn.slot }))
+    subst (λ one. IsLast history station (record { link = link_taken (facts_at given station history).view on.params.own one fields handle; opened = (facts_at given station history).turn.slot }))
     (sym request.is) (record {
       has = record {
         sent = record {

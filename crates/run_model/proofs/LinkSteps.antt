@@ -18,7 +18,7 @@ use Rattle.hci_cmd.specs.declared.command.Command.TheVariants.{Reset}
 use Rattle.hci_cmd.specs.declared.command.CmdRead.{CmdRead}
 use Rattle.hci_cmd.specs.declared.command.CmdRead.TheVariants.{Known, UnknownOpcode, BadLength}
 use Rattle.hci_cmd.specs.Command.{command_of}
-use Rattle.host_view.specs.Unbuilt.{status_of}
+use Rattle.host_view.specs.Status.{status_of}
 use Rattle.controller_model.specs.link_model.Setup.{Setup as EndSetup}
 use Rattle.controller_model.specs.link_model.Step.{Step as EndStep, DataGiven, PduFixed, PacketSent, PacketReceived, DataReported, WordsGiven}
 use Rattle.controller_model.specs.link_model.declared.setup.LinkSetup.{LinkSetup}
@@ -151,7 +151,7 @@ module _ (P : EndSetup → Type 0) where
   refuses (Some step) handle links each = changed handle (link_after step) links (λ link. refl) each
   refuses None handle links each = each
 
-  resets : (links : Links) → EachLink P (without_links links)
+  pub resets : (links : Links) → EachLink P (without_links links)
   resets [] = tt
   resets (place ∷ links) = (tt, resets links)
 
@@ -179,7 +179,7 @@ module _ (P : EndSetup → Type 0) where
   known_linked false setup facts command each = each
 
   -- a step that it makes changes no setup
-  places_linked : (command : Command) (moment : Moment) (first : ℕ) (links : Links) → EachLink P links → EachLink P (links_commanded_from first command moment links)
+  pub places_linked : (command : Command) (moment : Moment) (first : ℕ) (links : Links) → EachLink P links → EachLink P (links_commanded_from first command moment links)
   places_linked command moment first [] each = tt
   places_linked command moment first (place ∷ links) each = (
     place_asked (AtPlace P) command moment (is_about first command) place each.0 (λ link step is asked asks. subst (AtPlace P) is each.0),
@@ -198,7 +198,7 @@ module _ (P : EndSetup → Type 0) where
   read_linked setup facts UnknownOpcode each = each
   read_linked setup facts BadLength each = each
 
-  offered_linked : (offer : Offer) (handle : ℕ) (start : Bool) (octets : List ℕ) (facts : Facts) → EachLink P facts.links
+  pub offered_linked : (offer : Offer) (handle : ℕ) (start : Bool) (octets : List ℕ) (facts : Facts) → EachLink P facts.links
       → EachLink P (facts_offered offer handle start octets facts).links
   offered_linked Kept handle start octets facts each = changed handle (link_after (DataGiven start octets)) facts.links (λ link. refl) each
   offered_linked NoLink handle start octets facts each = each
@@ -247,7 +247,7 @@ module _ (P : EndSetup → Type 0) where
     pub taken : (channel : ℕ) (octets : List ℕ) (on : AdvertiserFacts) (pdu : AdvPdu) (fields : ConnectFields) (handle : ℕ)
         → step ≡ PacketHeard octets → facts.turn.doing ≡ AwaitsRequest channel → pdu_heard channel octets ≡ Some pdu
         → advertiser_answer on.params facts.view.accepted pdu ≡ Takes fields
-        → P (record { link = link_taken on.params.own pdu fields handle; opened = facts.turn.slot })
+        → P (record { link = link_taken facts.view on.params.own pdu fields handle; opened = facts.turn.slot })
 
   -- the same with all that the step says of a link that is taken: by the advertiser that is on, from a device with which
   -- there is no link yet, and under a free handle
@@ -258,7 +258,7 @@ module _ (P : EndSetup → Type 0) where
         → step ≡ PacketHeard octets → facts.turn.doing ≡ AwaitsRequest channel → pdu_heard channel octets ≡ Some pdu
         → facts.advertising.on ≡ Some on → advertiser_answer on.params facts.view.accepted pdu ≡ Takes fields
         → is_new_between on.params.own (sender_of pdu) facts.links ≡ true → free_from 0 facts.links ≡ Some handle
-        → P (record { link = link_taken on.params.own pdu fields handle; opened = facts.turn.slot })
+        → P (record { link = link_taken facts.view on.params.own pdu fields handle; opened = facts.turn.slot })
 
   opens_linked : (link : LinkSetup) (facts : Facts) → P (record { link = link; opened = facts.turn.slot }) → EachLink P facts.links → EachLink P (opens link facts).facts.links
   opens_linked link facts has each =
@@ -273,20 +273,20 @@ module _ (P : EndSetup → Type 0) where
   unheard_linked facts other made each = each
 
   under_linked : (free : Option ℕ) (own : Address) (pdu : AdvPdu) (fields : ConnectFields) (facts : Facts)
-      → ((handle : ℕ) → free ≡ Some handle → P (record { link = link_taken own pdu fields handle; opened = facts.turn.slot })) → EachLink P facts.links
+      → ((handle : ℕ) → free ≡ Some handle → P (record { link = link_taken facts.view own pdu fields handle; opened = facts.turn.slot })) → EachLink P facts.links
       → EachLink P (taken_under free own pdu fields facts).facts.links
   under_linked None own pdu fields facts has each = each
-  under_linked (Some handle) own pdu fields facts has each = opens_linked (link_taken own pdu fields handle) facts (has handle refl) each
+  under_linked (Some handle) own pdu fields facts has each = opens_linked (link_taken facts.view own pdu fields handle) facts (has handle refl) each
 
   if_linked : (new : Bool) (own : Address) (pdu : AdvPdu) (fields : ConnectFields) (facts : Facts)
-      → (new ≡ true → (handle : ℕ) → free_from 0 facts.links ≡ Some handle → P (record { link = link_taken own pdu fields handle; opened = facts.turn.slot }))
+      → (new ≡ true → (handle : ℕ) → free_from 0 facts.links ≡ Some handle → P (record { link = link_taken facts.view own pdu fields handle; opened = facts.turn.slot }))
       → EachLink P facts.links → EachLink P (taken_if new own pdu fields facts).facts.links
   if_linked false own pdu fields facts has each = each
   if_linked true own pdu fields facts has each = under_linked (free_from 0 facts.links) own pdu fields facts (has refl) each
 
   answers_linked : (answer : AdvAnswer) (channel : ℕ) (own : Address) (pdu : AdvPdu) (facts : Facts)
       → ((fields : ConnectFields) (handle : ℕ) → answer ≡ Takes fields → is_new_between own (sender_of pdu) facts.links ≡ true
-      → free_from 0 facts.links ≡ Some handle → P (record { link = link_taken own pdu fields handle; opened = facts.turn.slot }))
+      → free_from 0 facts.links ≡ Some handle → P (record { link = link_taken facts.view own pdu fields handle; opened = facts.turn.slot }))
       → EachLink P facts.links → EachLink P (advertiser_answers answer channel own pdu facts).facts.links
   answers_linked Ignore channel own pdu facts has each = each
   answers_linked Respond channel own pdu facts has each = each
@@ -296,7 +296,7 @@ module _ (P : EndSetup → Type 0) where
   advertiser_linked : (on : Option AdvertiserFacts) (channel : ℕ) (pdu : AdvPdu) (facts : Facts)
       → ((one : AdvertiserFacts) (fields : ConnectFields) (handle : ℕ) → on ≡ Some one → advertiser_answer one.params facts.view.accepted pdu ≡ Takes fields
       → is_new_between one.params.own (sender_of pdu) facts.links ≡ true → free_from 0 facts.links ≡ Some handle
-      → P (record { link = link_taken one.params.own pdu fields handle; opened = facts.turn.slot }))
+      → P (record { link = link_taken facts.view one.params.own pdu fields handle; opened = facts.turn.slot }))
       → EachLink P facts.links → EachLink P (advertiser_heard on channel pdu facts).facts.links
   advertiser_linked None channel pdu facts has each = each
   advertiser_linked (Some on) channel pdu facts has each =
@@ -405,7 +405,7 @@ each_slot setup facts = record {
   central_listens = λ handle doing. refl;
   sent = λ channel link doing. opens_slot link facts;
   responds = λ channel on doing is_on. refl;
-  taken = λ channel octets pdu on fields handle is_on hears takes free. opens_slot (link_taken on.params.own pdu fields handle) facts;
+  taken = λ channel octets pdu on fields handle is_on hears takes free. opens_slot (link_taken facts.view on.params.own pdu fields handle) facts;
   scanned = λ channel octets pdu on doing is_on hears. refl;
   answered = λ channel octets pdu on doing is_on hears. refl;
   connects = λ channel octets pdu on access handle doing is_on hears answers next free in_range. refl;

@@ -19,11 +19,6 @@ links_event history event = fold_event links_after first_links history event
 abbrev noted_links : ℕ → List Note → Links → Links
 noted_links station notes links = fold links_after links (map (Noted station) notes)
 
-begun_noted : (station : ℕ) (notes : List Note) (links : Links) → (noted_links station notes links).begun ≡ links.begun
-begun_noted station [] links = refl
-begun_noted station (Opened handle role own peer ∷ notes) links = begun_noted station notes (with_handle station handle links)
-begun_noted station (note ∷ notes) links = begun_noted station notes links
-
 last_noted : (station : ℕ) (notes : List Note) (links : Links) (other : ℕ) → (noted_links station notes links).last_of other ≡ links.last_of other
 last_noted station [] links other = refl
 last_noted station (Opened handle role own peer ∷ notes) links other = last_noted station notes (with_handle station handle links) other
@@ -61,11 +56,6 @@ links_called : (station : ℕ) (step : Step) (notes : List Note) (history : List
     → links_of (with_notes station step notes history) ≡ noted_links station notes (links_of history)
 unfolding links_of
 links_called station step notes history = fold-append links_after first_links history (Called station step ∷ map (Noted station) notes)
-
-pub begun_by_call : (station : ℕ) (step : Step) (notes : List Note) (history : List Event)
-    → (links_of (with_notes station step notes history)).begun ≡ (links_of history).begun
-begun_by_call station step notes history =
-    ap (λ (links : Links). links.begun) (links_called station step notes history) ∙ begun_noted station notes (links_of history)
 
 pub last_by_call : (station : ℕ) (step : Step) (notes : List Note) (history : List Event) (other : ℕ)
     → (links_of (with_notes station step notes history)).last_of other ≡ (links_of history).last_of other

@@ -101,7 +101,7 @@ phase_now setup facts own = record {
   sent = λ channel link doing. let new = subst (IsNew facts.links) doing own.new in opened_now facts link new.0 new.1;
   responds = λ channel on doing is_on. tt;
   taken = λ channel octets pdu on fields handle is_on hears takes free.
-      let new = free_is_new facts.links handle free in opened_now facts (link_taken on.params.own pdu fields handle) new.0 new.1;
+      let new = free_is_new facts.links handle free in opened_now facts (link_taken facts.view on.params.own pdu fields handle) new.0 new.1;
   scanned = λ channel octets pdu on doing is_on hears.
       passed_now facts (scanner_heard (Some on) true channel pdu facts)
       (λ handle. events_open handle facts.view (events_reported (scan_answer on.params facts.view.accepted on.recent pdu) pdu));

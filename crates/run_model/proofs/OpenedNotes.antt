@@ -29,7 +29,7 @@ use Rattle.hci_evt.specs.declared.event.Event.TheVariants.{DisconnectionComplete
 use Rattle.hci_evt.specs.Event.{mask_bit_of, written}
 use Rattle.host_view.specs.Links.{was_encrypted}
 use Rattle.host_view.specs.View.{View}
-use Rattle.host_view.specs.Unbuilt.{status_of}
+use Rattle.host_view.specs.Status.{status_of}
 use Rattle.data_pdu.specs.Header.{header_in}
 use Rattle.controller_model.specs.link_model.declared.setup.LinkSetup.{LinkSetup}
 use Rattle.controller_model.specs.control_end.declared.answers.Entry.{Entry}
@@ -60,7 +60,7 @@ use Rattle.controller_model.specs.Commands.{events_caused, notes_before, notes_c
 use Rattle.controller_model.specs.link_commands.LinksCommanded.{events_commanded_on}
 use Rattle.controller_model.specs.open_links.declared.offers.Offer.{Offer}
 use Rattle.controller_model.specs.open_links.declared.offers.Offer.TheVariants.{NoLink, Empty, Overflow, Kept}
-use Rattle.controller_model.specs.Data.{event_completed, facts_handed, note_received, notes_ended_turn, notes_handed, notes_offered, offer_of}
+use Rattle.controller_model.specs.Data.{event_completed, facts_handed, note_received, notes_ended_turn, notes_handed, notes_offered, offer_of, notes_pieces, pieces_handed}
 use Rattle.controller_model.specs.Entering.{events_entering, notes_all_entering}
 use Rattle.controller_model.specs.Events.{notes_of_events, passes}
 use Rattle.controller_model.specs.Heard.{advertiser_answers, advertiser_heard, events_received, events_reported, has_room, heard, if_pdu, is_new_between, link_heard, link_hearing, link_taken, notes_taken, opens, scanner_heard, taken_if, taken_under, unheard, facts_with_words}
@@ -221,8 +221,8 @@ module _ (handle : ℕ) where
   ended_turn_open facts =
       let events = map event_completed (completed_from 0 facts.links) in
       neither (notes_handed facts) (notes_leaving (facts_handed facts))
-      (neither (map note_received facts.received) (notes_of_events facts.view events) (pieces_open facts.received) (events_open facts.view events))
-      (ended_open facts.view (ends_for ending_in (facts_handed facts)))
+      (neither (notes_pieces facts) (notes_of_events facts.view events) (pieces_open (pieces_handed facts)) (events_open facts.view events))
+      (ended_open (facts_handed facts).view (ends_for ending_in (facts_handed facts)))
 
   -- ---- a turn begins
 
@@ -311,7 +311,7 @@ module _ (handle : ℕ) where
     sent = λ channel link doing. let new = subst (IsNew facts.links) doing own.new in opened_free facts link new.1;
     responds = λ channel on doing is_on. nothing;
     taken = λ channel octets pdu on fields other is_on hears takes free.
-        opened_free facts (link_taken on.params.own pdu fields other) (free_is_new facts.links other free).1;
+        opened_free facts (link_taken facts.view on.params.own pdu fields other) (free_is_new facts.links other free).1;
     scanned = λ channel octets pdu on doing is_on hears.
         passed_free facts (scanner_heard (Some on) true channel pdu facts)
         (events_open facts.view (events_reported (scan_answer on.params facts.view.accepted on.recent pdu) pdu));
@@ -366,4 +366,4 @@ taken_is_noted setup facts channel octets on pdu fields handle doing found is_on
     ∙ ap (λ (answer : AdvAnswer). noted (advertiser_answers answer channel own pdu facts)) takes
     ∙ ap (λ b. noted (taken_if b own pdu fields facts)) new
     ∙ ap (λ (one : Option ℕ). noted (taken_under one own pdu fields facts)) free
-    ∙ opened_is facts.view (link_taken own pdu fields handle)
+    ∙ opened_is facts.view (link_taken facts.view own pdu fields handle)

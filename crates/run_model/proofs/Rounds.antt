@@ -70,10 +70,6 @@ calls_at (AtPackets phases done left) station = phases_over phases
 calls_at (AtListening phases done left) station = if is_in station done then phases_over (suc phases) else phases_over phases
 calls_at (AtEnds done left) station = if is_in station done then calls_of_a_turn else phases_over 3
 
--- before the first turn there were no calls
-abbrev AreCalled : Given → Place → List Event → Type 0
-AreCalled given place history = (station : ℕ) → is_in station given.stations ≡ true → 0 < turns_begun history → calls_in_turn station history ≡ calls_at place station
-
 abbrev pub CalledBefore : Given → List Event → Event → Type 0
 CalledBefore given before (TurnBegan slot radios) =
     (station : ℕ) → is_in station given.stations ≡ true → 0 < turns_begun before → calls_in_turn station before ≡ calls_of_a_turn

@@ -21,7 +21,7 @@ plan_of turn = record {
 
 -- how many links each controller of a pair can hold (our choice)
 abbrev pub pair_links : ℕ
-pair_links = 1
+pair_links = 3
 
 -- how many packets of its host each of them can hold, and how many from the air (our choice)
 abbrev pub pair_buffers : ℕ

@@ -20,4 +20,4 @@ pub use crate::links::{
     each_open_link_has_its_number,
 };
 pub use crate::rows::{worked_connection, worked_damage, worked_runs};
-pub use controller_model::a_pdu_is_understood;
+pub use controller_model::{a_pdu_is_understood, a_sealed_packet_is_opened};

@@ -56,6 +56,7 @@ use Rattle.run_pairs.proofs.FarPackets.{HearsAll, listens_is, packet_now}
 use Rattle.run_pairs.proofs.PairSteps.{AreBothBegun, AtPlace, InTurn, IsPacketNow, IsPeripheralDone, NewOr, both_worded, central_begins, central_begins_too, central_deaf, central_hosted_all, central_reports, central_takes, packet_worded, peripheral_begins, peripheral_begins_too, peripheral_deaf, peripheral_hosted_all, peripheral_reports, peripheral_takes}
 use Rattle.run_pairs.proofs.Stages.{new_ends}
 use Rattle.link_calls.proofs.UnderHandles.{ended_under}
+use Rattle.link_calls.proofs.open_links.Steps.{reported_setup}
 use Rattle.link_calls.specs.Turns.{sent_if}
 use Rattle.link_calls.specs.Uses.{fixes_under, listens_under, sends_under}
 use Rattle.run_pairs.proofs.LinkSteps.{AsksMayCome, MayAskAt, octet_under, replies_under}
@@ -121,10 +122,6 @@ reported_facts : (reports : Bool) (setup : EndSetup) (link : OpenLink) → facts
     ≡ (if reports then end_after setup (facts_in link) DataReported else facts_in link)
 reported_facts true setup link = step_facts link DataReported
 reported_facts false setup link = refl
-
-reported_setup : (reports : Bool) (link : OpenLink) → (if reports then link_after DataReported link else link).setup ≡ link.setup
-reported_setup true link = refl
-reported_setup false link = refl
 
 abbrev room_of : Setup → Facts → Bool
 room_of setup facts = has_room setup facts

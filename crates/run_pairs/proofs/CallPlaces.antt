@@ -68,10 +68,6 @@ call_stands given station step history is each =
 
 -- ---- an octet of the host
 
-if_same : {A : Type 0} (b : Bool) (a : A) → a ≡ (if b then a else a)
-if_same true a = refl
-if_same false a = refl
-
 all_between : (given : Given) (history : List Event) (turns station : ℕ) → is_in station given.stations ≡ true
     → ((other : ℕ) → is_in other given.stations ≡ true → standing (past_of other history) ≡ Some (at_stage Between turns)) → StandsAtFeed given history station
 all_between given history turns station is all = record {
@@ -117,10 +113,6 @@ feed_each given station (octet ∷ octets) turns history is all each =
     (each_event (StandsIs given) history event each tt)
 
 -- ---- each round
-
-own_if : {A : Type 0} (b : Bool) (called one : A) (now : A) → b ≡ false → now ≡ (if b then called else one) → now ≡ one
-own_if true called one now off is = absurd (cc)
-own_if false called one now off is = is
 
 last_turn : (turns slot : ℕ) → turns ≡ slot + 1 → turns - 1 ≡ slot
 last_turn turns slot is = omega (arith, is)

@@ -31,6 +31,7 @@ use Rattle.link_calls.specs.Phases.{base_receiving, link_worded, refusal_at, ref
 use Rattle.link_runs.specs.link_pairs.Hearing.{received}
 use Rattle.link_runs.specs.link_pairs.Turns.{MayExchange, entered_in, prepared}
 use Rattle.link_runs.specs.link_pairs.Turns as turns
+use Rattle.link_runs.proofs.EventsKept.{none_replies}
 use Rattle.link_calls.proofs.run_laws.Agreed.{step_facts}
 use Rattle.link_calls.proofs.run_laws.LinkPhases.{HasRole, IsInPhase}
 use Rattle.link_calls.proofs.run_laws.TurnPlaces.{Between}
@@ -195,10 +196,6 @@ module _ (links : Links) (handle : ℕ) (link : OpenLink) (at : link_at handle l
 pub record IsUnheard (setup : EndSetup) (slot : ℕ) (octets : List ℕ) (room : Bool) (facts : EndFacts) : Type 0 where
   pub same : received setup slot octets room facts ≡ facts
   pub replies : replies_of setup facts slot octets room ≡ false
-
-none_replies : (role : Role) (ended : Bool) → replies_by role ended None ≡ false
-none_replies Central ended = refl
-none_replies Peripheral ended = refl
 
 -- one that is not forged is good or is not heard
 pub good_or_unheard : (setup : EndSetup) (slot : ℕ) (octets : List ℕ) (room : Bool) (facts : EndFacts) → is_forged setup facts octets ≡ false

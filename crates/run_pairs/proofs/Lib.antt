@@ -1,4 +1,5 @@
 -- The lemmas of this crate.
+pub mod QuietSteps
 pub mod Stages
 pub mod AtOnce
 pub mod Worded

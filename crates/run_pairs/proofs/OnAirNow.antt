@@ -6,7 +6,7 @@ use Rattle.link_calls.specs.link_model.Packets.{packet_sent}
 use Rattle.link_calls.specs.link_model.Step.{PacketSent}
 use Rattle.link_calls.specs.open_links.OpenLinks.{OpenLink, facts_in, link_after, link_at}
 use Rattle.link_calls.specs.controller_model.Facts.{Setup, Facts, Sends, Listens}
-use Rattle.link_calls.specs.controller_model.Side.{facts_after, facts_of, notes_after}
+use Rattle.link_calls.specs.controller_model.Side.{facts_after, notes_after}
 use Rattle.link_calls.specs.controller_model.Step.{Step, HostOctet, TurnBegins, PacketHeard, NothingHeard, TurnEnds}
 use Rattle.link_calls.specs.run_model.Due.{Each}
 use Rattle.link_calls.specs.run_model.Feeding.{AreDistinct}
@@ -15,12 +15,12 @@ use Rattle.link_calls.specs.run_model.LinkEnds.{HaveAddresses}
 use Rattle.link_calls.specs.run_model.Run.{Given, after_call, after_feed, after_octets, facts_at, hearings_of, history_of, octets_left, run_of, setup_at, step_of, use_at}
 use Rattle.link_calls.proofs.run_model.Calls.{past_other}
 use Rattle.link_calls.proofs.run_model.Handing.{IsUnforged}
-use Rattle.link_calls.proofs.run_model.LinkEnds.{received_by}
+use Rattle.link_calls.proofs.run_model.LinkEnds.{received_by, wanted_is}
 use Rattle.link_calls.proofs.run_model.Places.{each_at, each_called, each_event}
 use Rattle.link_calls.proofs.run_model.Stations.{among, in_more_other, in_more_same, is_in, not_before}
 use Rattle.link_calls.proofs.run_model.Walk.{AtListening, IsKept, IsStopped, IsWhole, Place, ends_with, run_kept}
 use Rattle.link_calls.proofs.run_laws.ByCalls.{first_hears}
-use Rattle.link_calls.proofs.run_laws.Hearings.{AreHearing, Hears, IsPduOnAir, IsUseInPhase, hearing_kept, own_facts, own_hears, sender_links, sends_deaf, unforged_same, use_in_phase, use_same, wanted_is}
+use Rattle.link_calls.proofs.run_laws.Hearings.{AreHearing, Hears, IsPduOnAir, IsUseInPhase, facts_same, hearing_kept, own_facts, own_hears, sender_links, sends_deaf, unforged_same, use_in_phase, use_same}
 use Rattle.link_calls.proofs.run_laws.LinkPhases.{IsInPhase, SendsAs, in_phase, sends_as}
 use Rattle.link_calls.proofs.run_laws.SentPackets.{IsLinkSent, IsUseSent}
 use Rattle.link_calls.proofs.run_laws.TurnPlaces.{Within, at_stage, stands_first}
@@ -121,9 +121,6 @@ record AreSentNow (given : Given) (place : Place) (history : List Event) : Type 
   each : Each (SentIs given) [] history
 
 -- ---- steps
-
-facts_same : (given : Given) (station : ℕ) (history after : List Event) → past_of station after ≡ past_of station history → facts_at given station after ≡ facts_at given station history
-facts_same given station history after same = ap (facts_of (setup_at given station)) same
 
 air_same : (called : Bool) (phases : ℕ) (given : Given) (history after : List Event) (sender channel : ℕ) (octets : List ℕ)
     → past_of sender after ≡ past_of sender history → AirIf called phases given history sender channel octets → AirIf called phases given after sender channel octets

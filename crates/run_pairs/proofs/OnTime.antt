@@ -1,9 +1,8 @@
 -- Each open end enters its events in the slots of their anchors, in every run.
 use Rattle.std.proofs.Common.{◌≡◌, ℕ, suc, ◌+◌, ◌<◌, ◌≤◌, ◌==◌, Bool, true, false, Option, Some, None, List, [], ◌∷◌, ◌++◌, refl, sym, ap, subst, ◌∙◌, arith}
-use Rattle.std.specs.Prelude.{IfSome, ◌&&◌, is_none, nat_lt, if◌then◌else◌}
+use Rattle.std.specs.Prelude.{IfSome, ◌&&◌, nat_lt, if◌then◌else◌}
 use Rattle.std.proofs.lemmas.Bool.{eqb-false, eqb-true}
 use Rattle.adv_pdu.specs.Ranges.{IsInRange}
-use Rattle.ble_base.specs.declared.error_codes.ErrCode.{ErrCode}
 use Rattle.instants.specs.Track.{TrackFacts, is_due, next_anchor_of, spacing_of, track_after_enter, track_changed, track_in_next, track_unchanged}
 use Rattle.instants.specs.declared.track.Change.{Change}
 use Rattle.link_calls.specs.run_laws.control_model.Control.{Answers, Asks, Control, Disconnects, Owes}
@@ -13,7 +12,6 @@ use Rattle.link_calls.specs.link_model.Data.{is_control}
 use Rattle.link_calls.specs.link_model.End.{facts_after as end_after, facts_of as end_facts}
 use Rattle.link_calls.specs.link_model.Entering.{control_entered, facts_entered, facts_entered_if}
 use Rattle.link_calls.specs.link_model.Facts.{Facts as EndFacts}
-use Rattle.link_calls.specs.link_model.Fixing.{fixed_anew}
 use Rattle.link_calls.specs.link_model.Hosts.{asked_unless, is_to_come}
 use Rattle.link_calls.specs.link_model.Packets.{good_pdu, is_forged}
 use Rattle.link_calls.specs.link_model.Receiving.{facts_forged_if, facts_received}
@@ -24,8 +22,9 @@ use Rattle.link_calls.specs.open_links.Data.{complete_in}
 use Rattle.link_calls.specs.open_links.OpenLinks.{OpenLink, facts_in, link_after, link_at, new_link}
 use Rattle.link_calls.specs.open_links.Turns.{entered_if, is_anchor, link_entered}
 use Rattle.link_calls.proofs.control_model.Moving.{enters_track, table_alone}
-use Rattle.link_calls.proofs.link_model.Views.{Owed, Owing, Same, entered_view}
+use Rattle.link_calls.proofs.link_model.Views.{entered_view}
 use Rattle.link_calls.proofs.open_links.Anchors.{IsInPlace, enters, moves_on, next_after_enter, sent_later, stays_in_place, went_on}
+use Rattle.link_calls.proofs.open_links.OnTime.{fixed_track}
 use Rattle.link_calls.proofs.open_links.Unmoved.{entered_setup}
 use Rattle.link_calls.proofs.open_links.Intervals.{HasIntervals, has_intervals, past_indicates}
 use Rattle.link_calls.specs.controller_model.declared.doing.Doing.{Doing}
@@ -46,6 +45,7 @@ use Rattle.link_calls.proofs.run_model.Stations.{is_in}
 use Rattle.link_calls.proofs.run_laws.Agreed.{step_facts}
 use Rattle.link_calls.proofs.run_laws.InRange.{AreRanged, ranged_first, ranged_kept, ranges_before}
 use Rattle.link_calls.proofs.controller_model.Asked.{IsAskedStep}
+use Rattle.link_calls.proofs.controller_model.Entries.{none_of, owing_track}
 use Rattle.link_calls.proofs.run_laws.OpenSteps.{open_has}
 use Rattle.link_calls.proofs.run_laws.TurnPlaces.{Between, IsTurned, Stage, Within, stands_in_run, turned}
 use Rattle.link_calls.proofs.Exchanging.{AfterAnchor, AtAnchor, IsInSlot}
@@ -128,11 +128,6 @@ asked_timed : (slot : ℕ) (link : OpenLink) (step : EndStep) → IsAskedStep st
 asked_timed slot link step by_host is =
     track_stays slot link step (asked_no_entry step by_host)
     (ap (λ (e : ConnectionEvent). e.slot) (asked_leaves link.setup (facts_in link) step by_host).event) (asked_track link.setup (facts_in link) step by_host) is
-
--- it fixes its PDU
-fixed_track : (stays : Bool) (facts : EndFacts) → (if stays then facts else fixed_anew facts).control.track ≡ facts.control.track
-fixed_track true facts = refl
-fixed_track false facts = refl
 
 fixed_timed : (slot : ℕ) (link : OpenLink) → IsTimed slot (facts_in link) → IsTimed slot (end_after link.setup (facts_in link) PduFixed)
 fixed_timed slot link is =
@@ -218,15 +213,6 @@ anchor_entered t = by t.waits
     by : (waits : Option Change) → (track_in_next waits t).anchor ≡ next_anchor_of t
     by None = refl
     by (Some change) = in_next change (is_due change t.entered)
-
-none_of : (ends : Option ErrCode) → is_none ends ≡ true → ends ≡ None
-none_of None is = refl
-none_of (Some code) is = absurd cc
-
--- a PDU of an encryption may be queued then, which leaves the track
-owing_track : (c d : Control) → Owing c d → d.track ≡ c.track
-owing_track c d (Same is) = ap (λ (e : Control). e.track) is
-owing_track c d (Owed ctrl may is) = ap (λ (e : Control). e.track) is ∙ table_alone c (Owes ctrl) refl
 
 entry_timed : (slot : ℕ) (link : OpenLink) → IsInRange link.setup.link.fields → HasRanges link → goes_on (facts_in link) ≡ true → is_anchor slot link ≡ true
     → IsTimed (slot + 1) (facts_in (link_after (EventEntered slot) link))

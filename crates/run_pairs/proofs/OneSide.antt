@@ -1,9 +1,8 @@
 -- What a controller alone knows of its open links, at any time: with what each was set up, that a link that is opened
 -- in a turn is new in all of that turn, and in which slot each sent last.
 use Rattle.std.proofs.Common.{◌≡◌, ℕ, ◌+◌, ◌<◌, ◌≤◌, Bool, true, false, Option, Some, None, List, [], ◌∷◌, ◌++◌, length, length-append, refl, sym, ap, subst, ◌∙◌, arith}
-use Rattle.std.specs.Prelude.{IfSome, ⊤, fold, nat_lt, ◌&&◌, if◌then◌else◌}
+use Rattle.std.specs.Prelude.{IfSome, ⊤, fold, nat_lt, if◌then◌else◌}
 use Rattle.std.proofs.lemmas.List.Sums.{fold-append}
-use Rattle.adv_pdu.specs.declared.pdu.AdvPdu.{AdvPdu}
 use Rattle.adv_pdu.specs.Ranges.{IsInRange}
 use Rattle.link_runs.specs.procedure_values.Values.{IsPayloadMax}
 use Rattle.link_calls.specs.link_model.Setup.{Setup as EndSetup}
@@ -12,29 +11,27 @@ use Rattle.link_calls.specs.open_links.Data.{complete_in}
 use Rattle.link_calls.specs.open_links.OpenLinks.{OpenLink, facts_in, link_after, link_at}
 use Rattle.link_calls.specs.open_links.Turns.{enters_in, entered_if, link_entered}
 use Rattle.link_calls.proofs.open_links.Unmoved.{entered_setup}
-use Rattle.scan_init.specs.Reports.{does_ask, scan_answer}
 use Rattle.link_calls.specs.controller_model.declared.doing.Doing.{Doing}
-use Rattle.link_calls.specs.controller_model.declared.doing.Doing.TheVariants.{Advertises, CentralListens, Connects, PeripheralListens}
+use Rattle.link_calls.specs.controller_model.declared.doing.Doing.TheVariants.{Advertises, CentralListens, PeripheralListens}
 use Rattle.link_calls.specs.controller_model.Facts.{Setup, Facts, first_facts}
-use Rattle.link_calls.specs.controller_model.Heard.{asks_if, facts_with_words, has_room, link_taken, replies_in, reply_if}
-use Rattle.link_calls.specs.controller_model.Outcome.{facts_passed}
+use Rattle.link_calls.specs.controller_model.Heard.{has_room}
 use Rattle.link_calls.specs.controller_model.Side.{facts_after}
 use Rattle.link_calls.specs.controller_model.Step.{TurnBegins}
-use Rattle.link_calls.proofs.controller_model.Always.{MayBegin, opening_passes}
+use Rattle.link_calls.specs.controller_model.host_view.Flow.{most_received}
+use Rattle.link_calls.proofs.controller_model.HostBuffers.{most_in_range}
 use Rattle.link_calls.proofs.controller_model.LinkFields.{range_of_test}
-use Rattle.link_calls.proofs.controller_model.Phases.{EachOutcome, heard_is, unheard_is}
 use Rattle.link_calls.specs.Phases.{HasPassed, IsNew, Stays, Takes, base_receiving, link_receiving, link_worded, refusal_at, refused_if}
 use Rattle.link_calls.specs.run_model.Run.{step_of}
 use Rattle.link_calls.proofs.run_model.LinkEnds.{AreTaken}
 use Rattle.link_calls.specs.Hosts.{HasHeardHost, GetsData, IsAsked, Unchanged}
-use Rattle.link_calls.proofs.run_laws.Entering.{taken_in_range}
+use Rattle.link_calls.proofs.run_laws.Entering.{IsInTurn, made_range, taken_in_range}
 use Rattle.link_calls.proofs.run_laws.InAgreement.{IsStation, OpenedBefore, first_station, station_begins, station_ends, station_fed, station_passes}
 use Rattle.link_calls.proofs.controller_model.Asked.{IsAskedStep}
 use Rattle.link_calls.proofs.run_laws.OpenSteps.{EachOpen, IsKeptOpen, IsKeptServed, KeepsAsked, MayOpen, begin_open, end_open, none_open, octet_open, open_has, phase_open}
 use Rattle.link_calls.proofs.run_laws.TurnPlaces.{Between, IsTurned, Stage, Within}
-use Rattle.link_calls.proofs.run_laws.TurnSteps.{MakesWell, begins_may, begins_slot, phase_turn}
+use Rattle.link_calls.proofs.run_laws.TurnSteps.{MakesWell, begins_slot, phase_turn}
 use Rattle.link_calls.proofs.Exchanging.{AreExchanging, exchanging_first, exchanging_kept}
-use Rattle.link_calls.proofs.LinkCalls.{HasBegun, begins_under, passes_under, receiving_setup}
+use Rattle.link_calls.proofs.LinkCalls.{HasBegun, begins_under, fixed_setup, passes_under, receiving_setup, sent_setup}
 use Rattle.link_calls.proofs.HostSteps.{asked_is_well}
 use Rattle.link_calls.proofs.UnderHandles.{ended_under, host_under}
 use Rattle.link_calls.specs.Turns.{fixed_if, sent_if}
@@ -158,67 +155,24 @@ set_up_open = record {
   answered = set_up_asked;
 }
 
--- a link that is to be made
-abbrev MakesMost : Doing → Type 0
-MakesMost (Connects channel link) = IsPayloadMax link.max_rx
-MakesMost other = ⊤
+-- a link that is opened has its fields and its payloads in range
+as_most : (most : ℕ) → (27 ≤ most) × (most ≤ 251) → IsPayloadMax most
+as_most most range = record { from = range.0; to = range.1 }
 
-begin_most : (doing : Doing) → MayBegin doing → MakesMost doing
-begin_most (Connects channel link) may = absurd may
-begin_most (Advertises channel) may = tt
-begin_most other may = tt
-
-asks_most : (asks : Bool) (channel : ℕ) (pdu : AdvPdu) → MakesMost (asks_if asks channel pdu)
-asks_most true channel pdu = tt
-asks_most false channel pdu = tt
-
-reply_most : (replies : Bool) (handle : ℕ) → MakesMost (reply_if replies handle)
-reply_most true handle = tt
-reply_most false handle = tt
-
-most_octets : IsPayloadMax 251
-most_octets = record { from = omega arith; to = omega arith }
-
-passes_most : (setup : Setup) (facts : Facts) → EachOutcome setup facts (λ outcome. MakesMost (facts_passed outcome).turn.doing)
-passes_most setup facts = record {
-  rests = tt;
-  awaits_request = λ channel doing. tt;
-  awaits_response = λ channel advertiser doing. tt;
-  central_listens = λ handle doing. tt;
-  sent = λ channel link doing. opening_passes (λ now. MakesMost now.turn.doing) link facts tt;
-  responds = λ channel on doing is_on. tt;
-  taken = λ channel octets pdu on fields handle is_on hears takes free. opening_passes (λ now. MakesMost now.turn.doing) (link_taken on.params.own pdu fields handle) facts tt;
-  scanned = λ channel octets pdu on doing is_on hears.
-      asks_most (true && does_ask (scan_answer on.params facts.view.accepted on.recent pdu)) channel pdu;
-  answered = λ channel octets pdu on doing is_on hears.
-      asks_most (false && does_ask (scan_answer on.params facts.view.accepted on.recent pdu)) channel pdu;
-  connects = λ channel octets pdu on access handle doing is_on hears answers next free in_range. most_octets;
-  received = λ handle octets. reply_most (replies_in facts.turn.slot (has_room setup facts) (link_at handle facts.links) octets) handle;
-}
-
-phase_most : (setup : Setup) (facts : Facts) (received : Option (List ℕ)) → MakesMost (facts_after setup facts (step_of received)).turn.doing
-phase_most setup facts None = unheard_is setup facts _ (passes_most setup facts) facts.turn.doing refl
-phase_most setup facts (Some octets) =
-    heard_is setup facts (λ outcome. MakesMost (facts_passed outcome).turn.doing) (passes_most setup facts) facts.turn.doing octets refl
-    (λ handle. (passes_most setup (facts_with_words setup handle facts)).received handle octets)
-
-may_set_up : AreTaken → (setup : Setup) (facts : Facts) → MakesWell setup facts.connections facts.turn.doing → MakesMost facts.turn.doing → MayOpen IsSetUp set_up_open facts
-may_set_up taken setup facts makes most = record {
+may_set_up : AreTaken → (setup : Setup) (stage : Stage) (begun : ℕ) (facts : Facts) → IsInTurn setup stage begun facts → MayOpen IsSetUp set_up_open facts
+may_set_up taken setup stage begun facts in_turn = record {
   made = λ channel link doing.
-      let made = subst (MakesWell setup facts.connections) doing makes in
-      record { in_range = range_of_test link.fields made.in_range; max = subst MakesMost doing most };
-  taken = λ pdu on fields handle takes. record { in_range = taken_in_range taken on.params facts.view.accepted pdu fields takes; max = most_octets };
+      let made = subst (MakesWell setup facts.view facts.connections) doing in_turn.makes in record {
+        in_range = range_of_test link.fields made.in_range;
+        max = as_most link.max_rx (made_range setup stage begun facts in_turn channel link doing);
+      };
+  taken = λ pdu on fields handle takes. record {
+    in_range = taken_in_range taken on.params facts.view.accepted pdu fields takes;
+    max = as_most (most_received facts.view) (most_in_range facts.view in_turn.least);
+  };
 }
 
 -- ---- a link keeps what it was set up with
-
-fixed_setup : (fixes : Bool) (link : OpenLink) → (fixed_if fixes link).setup ≡ link.setup
-fixed_setup true link = refl
-fixed_setup false link = refl
-
-sent_setup : (sends : Bool) (slot : ℕ) (link : OpenLink) → (sent_if sends slot link).setup ≡ link.setup
-sent_setup true slot link = refl
-sent_setup false slot link = refl
 
 pub begun_setup : (slot : ℕ) (facts : Facts) (on : Bool) (handle : ℕ) (doing : Doing) (after : OpenLink) (has : HasBegun facts slot on handle doing after)
     → after.setup ≡ has.link.setup
@@ -251,7 +205,6 @@ pub record StationAt (setup : Setup) (stage : Stage) (begun : ℕ) (facts : Fact
   pub holds : AreExchanging setup stage begun facts
   pub station : IsStation setup facts
   pub each : EachOpen IsSetUp facts.links
-  makes : MakesMost facts.turn.doing
   pub new : IsNewIf stage facts
   pub last : (handle : ℕ) (link : OpenLink) → link_at handle facts.links ≡ Some link → LastBefore begun link.past
 
@@ -288,7 +241,6 @@ station_kept taken setup = let kept = exchanging_kept setup in record {
         holds = holds;
         station = station_fed setup facts octet is.station;
         each = octet_open IsSetUp set_up_served.hosts set_up_asked setup facts octet is.each;
-        makes = subst MakesMost (sym holds.phased.uses.in_turn.does) tt;
         new = tt;
         last = λ handle link at.
             heard_last begun setup facts octet handle link (host_under setup facts octet handle link at) (is.last handle);
@@ -297,7 +249,6 @@ station_kept taken setup = let kept = exchanging_kept setup in record {
     holds = kept.begins begun on facts is.holds;
     station = station_begins setup facts begun on is.holds.phased.uses.in_turn.begun_is is.station;
     each = begin_open IsSetUp IsSetUp set_up_served setup begun on facts (λ link one. set_up_as link (link_entered begun link) (entered_setup begun link) one) is.each;
-    makes = begin_most _ (begins_may setup begun on facts is.holds.phased.uses.in_turn.begun_is);
     new = λ handle link at now.
         let has = begins_under setup facts begun on handle link at in
         let before = open_has (OpenedBefore facts.turn.begun) 0 handle facts.links has.link is.station.earlier has.was in
@@ -314,8 +265,7 @@ station_kept taken setup = let kept = exchanging_kept setup in record {
   passes = λ phases begun received facts is. record {
     holds = kept.passes phases begun received facts is.holds;
     station = station_passes setup facts phases begun received is.holds.phased.uses.in_turn is.station;
-    each = phase_open IsSetUp set_up_open setup facts received (may_set_up taken setup facts is.holds.phased.uses.in_turn.makes is.makes) is.each;
-    makes = phase_most setup facts received;
+    each = phase_open IsSetUp set_up_open setup facts received (may_set_up taken setup (Within phases) begun facts is.holds.phased.uses.in_turn) is.each;
     new = λ handle link at. passed_new setup facts received phases begun is handle link (passes_under setup facts received handle link is.holds.phased.uses.in_turn.listens at);
     last = λ handle link at. passed_last setup facts received phases begun is handle link (passes_under setup facts received handle link is.holds.phased.uses.in_turn.listens at);
   };
@@ -323,7 +273,6 @@ station_kept taken setup = let kept = exchanging_kept setup in record {
     holds = kept.ends begun facts is.holds;
     station = station_ends setup facts is.station;
     each = end_open IsSetUp set_up_served.hosts setup facts is.each;
-    makes = tt;
     new = tt;
     last = λ handle link at.
         let was = ended_under setup facts handle link at in
@@ -343,7 +292,6 @@ station_first setup = record {
   holds = exchanging_first setup;
   station = first_station setup;
   each = none_open IsSetUp setup.links;
-  makes = tt;
   new = tt;
   last = λ handle link at. none_at setup handle link _ at;
 }

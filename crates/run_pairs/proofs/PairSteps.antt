@@ -33,7 +33,8 @@ use Rattle.run_pairs.proofs.EndCalls.{IsEndBegun, IsUnheard, good_or_unheard, re
 use Rattle.run_pairs.proofs.Worded.{fitting_words, link_in_phase, worded_channel}
 use Rattle.run_pairs.proofs.OneSide.{LastBefore, last_other}
 use Rattle.run_pairs.proofs.Refusing.{IsButMore, lacking_first, received_stays, refused_first}
-use Rattle.run_pairs.proofs.Stages.{IsQuiet, answer_quiet, answered_more, answered_quiet, begun_worded, both_begin, central_forged, central_heard, central_hosted_open, central_quiet, central_unheard, key_quiet, peripheral_forged, peripheral_heard, peripheral_hosted_open, peripheral_quiet, peripheral_unheard, reported_quiet}
+use Rattle.run_pairs.proofs.QuietSteps.{IsQuiet, answer_quiet, key_quiet, reported_quiet}
+use Rattle.run_pairs.proofs.Stages.{answered_more, answered_quiet, begun_worded, both_begin, central_forged, central_heard, central_hosted_open, central_quiet, central_unheard, peripheral_forged, peripheral_heard, peripheral_hosted_open, peripheral_quiet, peripheral_unheard}
 use Rattle.link_calls.specs.Uses.{listens_under}
 
 -- where the end sent last in this slot, this is so

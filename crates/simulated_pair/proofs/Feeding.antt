@@ -1,5 +1,5 @@
 -- A station is fed octets of its host.
-use Rattle.std.proofs.Common.{◌≡◌, ℕ, zero, suc, ◌<◌, ◌≤◌, ◌==◌, Bool, false, List, [], ◌∷◌, ◌++◌, length, take, drop, if◌then◌else◌, refl, sym, ap, subst, ◌∙◌, append-nil, length-append, drop-drop, take-append-drop, arith}
+use Rattle.std.proofs.Common.{◌≡◌, ℕ, zero, suc, ◌<◌, ◌≤◌, ◌==◌, Bool, false, List, [], ◌∷◌, ◌++◌, length, take, drop, if◌then◌else◌, refl, sym, ap, subst, ◌∙◌, append-nil, length-append, drop-drop, arith}
 use Rattle.std.proofs.lemmas.Bool.{true≢false}
 use Rattle.ble_base.specs.declared.roles.Side.{Side}
 use Rattle.journal.specs.declared.entries.Entry.TheVariants.{Fed}
@@ -92,10 +92,6 @@ drop_taken zero octets = refl
 drop_taken (suc count) [] = refl
 drop_taken (suc count) (octet ∷ octets) = drop_taken count octets
 
--- where none is taken, all are left
-drop_none : (count : ℕ) (octets : List ℕ) → take count octets ≡ [] → drop count octets ≡ octets
-drop_none count octets none = ap (λ (taken : List ℕ). taken ++ drop count octets) (sym none) ∙ take-append-drop count octets
-
 -- ---- what the code keeps
 
 pub keeps_fed_other : (given : Given) (station other : ℕ) (octets : List ℕ) (history : List Event) (state : StationState) → (other == station) ≡ false
@@ -142,16 +138,6 @@ feeds given side count history state written done log told new_log octets at oct
     (subst (λ (after : List Event). StationIsUpTo given station after done new_log) (sym (feed_is given station octets history some))
     (go given (fed_history station octets history)
     (rw written_is (rw told_is (rw octets_are (fed_at given side station count history state log (side_is side) at))))))
-
--- a station is fed nothing
-pub feeds_nothing : (given : Given) (station count : ℕ) (history : List Event) (state done : StationState) (log : LogState) (octets : List ℕ)
-    → StationIsUpTo given station history state log → octets ≡ take count state.unfed → octets ≡ [] → done ≡ record state { unfed = drop count state.unfed }
-    → StationIsUpTo given station (after_feed given station (take count state.unfed) history) done log
-feeds_nothing given station count history state done log octets at octets_are none done_is =
-    let none_taken = sym octets_are ∙ none in
-    subst (λ (xs : List ℕ). StationIsUpTo given station (after_feed given station xs history) done log) (sym none_taken)
-    (subst (λ (now : StationState). StationIsUpTo given station history now log)
-    (sym (done_is ∙ ap (λ (unfed : List ℕ). record state { unfed = unfed }) (drop_none count state.unfed none_taken))) at)
 
 -- ---- what feeding leaves as it is
 

@@ -1,16 +1,11 @@
 -- The entries of notes, one by one.
-use Rattle.std.proofs.Common.{◌≡◌, ℕ, zero, suc, ◌+◌, ◌<◌, ◌≤◌, List, [], ◌∷◌, ◌++◌, length, take, get_or, set, refl, sym, ap, ◌∙◌, append_assoc, arith}
+use Rattle.std.proofs.Common.{◌≡◌, ℕ, ◌+◌, ◌<◌, List, [], ◌∷◌, ◌++◌, length, take, get_or, refl, sym, ap, ◌∙◌, append_assoc}
 use Rattle.std.proofs.lemmas.List.{take_more}
 use Rattle.ble_base.specs.declared.roles.Side.{Side}
 use Rattle.ble_base.specs.declared.notes.Note.{Note}
 use Rattle.journal.specs.declared.entries.Entry.{Entry}
 use Rattle.simulated_pair.specs.KnownLinks.{KnownLinks, with_note}
 use Rattle.simulated_pair.specs.Logs.{LogState, entry_noted, entries_noted, known_after, with_entries}
-
-pub set_beyond : (numbers : List ℕ) (place value : ℕ) → length numbers ≤ place → numbers ≡ set numbers place value
-set_beyond [] place value beyond = refl
-set_beyond (number ∷ numbers) zero value beyond = absurd (omega arith)
-set_beyond (number ∷ numbers) (suc place) value beyond = ap (λ (rest : List ℕ). number ∷ rest) (set_beyond numbers place value (omega arith))
 
 known_one_more : (known : KnownLinks) (notes : List Note) (note : Note) → known_after known (notes ++ note ∷ []) ≡ with_note (known_after known notes) note
 known_one_more known [] note = refl

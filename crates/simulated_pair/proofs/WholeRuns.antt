@@ -1,5 +1,6 @@
 -- A run, turn by turn, from its first station on.
 use Rattle.std.proofs.Common.{◌≡◌, ℕ, zero, suc, ◌+◌, ◌<◌, ◌≤◌, ◌⊎◌, inl, inr, List, [], ◌∷◌, map, length, drop, Some, refl, sym, ap, subst, ◌∙◌, arith}
+use Rattle.std.proofs.lemmas.List.{get_or-replicate}
 use Rattle.std.specs.Prelude.{slice_get}
 use Rattle.journal.specs.declared.entries.Entry.{Entry}
 use Rattle.radio_replay.specs.Script.{Script, Turn as ScriptTurn}
@@ -22,13 +23,12 @@ use Rattle.simulated_pair.specs.Turns.{HasPlans, PairIsUpTo}
 
 -- ---- the first station
 
-nothing_opened : (handle : ℕ) → number_in first_known handle ≡ 0
-nothing_opened zero = refl
-nothing_opened (suc handle) = refl
+nothing_opened : (handle : ℕ) → handle < LINKS → number_in first_known handle ≡ 0
+nothing_opened handle below = get_or-replicate LINKS handle 0 0 below
 
 knows_none : (station : ℕ) → KnowsLinks station (links_of []) first_known
 unfolding links_of
-knows_none station = record { last_is = refl; size = refl; by_handle_are = λ handle below. nothing_opened handle }
+knows_none station = record { last_is = refl; size = refl; by_handle_are = λ handle below. nothing_opened handle below }
 
 first_keeps : (given : Given) (station : ℕ) (state : StationState) → (setup_at given station).links ≡ LINKS
     → IsFirst (setup_at given station) (given.station_of station).stream state → Keeps given station [] state

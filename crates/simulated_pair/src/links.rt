@@ -6,7 +6,7 @@ use ble_base::Note;
 use std::marker::Model;
 
 /// How many links a controller of a run can hold. Their connection handles are the numbers below.
-pub(crate) const LINKS: usize = 1;
+pub(crate) const LINKS: usize = 3;
 
 /// The numbers of the links that a station knows.
 #[derive(Drop)]

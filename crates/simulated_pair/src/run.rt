@@ -120,7 +120,7 @@ fn run_turns(alloc: Global, schedule: &Schedule, mut pair: Pair<'_>) -> Result<J
 }
 
 /// Runs two controllers over the streams of their hosts and a schedule, and gives the journal of
-/// the run (our choice). Each can hold one link, and eight packets of data each way. `a` and `b`
+/// the run (our choice). Each can hold three links, and eight packets of data each way. `a` and `b`
 /// are the H4 octets of the two hosts, in the order in which they are fed; those that the schedule
 /// leaves unfed are not part of the run. `schedule` has at least one random word for each
 /// controller.

@@ -51,7 +51,7 @@ impl<'s> Station<'s> {
     /// The error is out of memory.
     pub(crate) fn start(alloc: Global, config: Config, stream: &'s [u8]) -> Result<Self, AllocError>
         requires { 1 ≤ length config.words.items }
-        ensures first { IfOk result (IsFirst (setup_of config 1 8 8) stream.now) }
+        ensures first { IfOk result (IsFirst (setup_of config LINKS BUFFERS BUFFERS) stream.now) }
         ensures order { IfOk result (λ station. MayBegin 0 station.held) }
     {
         Ok(Station {

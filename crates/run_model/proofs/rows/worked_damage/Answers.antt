@@ -4,7 +4,7 @@ use Rattle.h4_frames.specs.Frames.{frames}
 use Rattle.wire_fields.specs.Field.{little_endian}
 use Rattle.hci_cmd.specs.Command.{command_of, layout_of, layouts}
 use Rattle.host_view.specs.Changes.{view_after}
-use Rattle.host_view.specs.Unbuilt.{status_of}
+use Rattle.host_view.specs.Status.{status_of}
 use Rattle.frame_bits.specs.Crc.{crc, crc_octets, crc_of_bits, remainder}
 use Rattle.frame_bits.specs.Whitening.{mask_of, next_mask, whitening_bit, whitening_of}
 use Rattle.air_frame.specs.Hearing.{heard_in}

@@ -5,14 +5,16 @@ use Rattle.radio_replay.specs.Script.{Script}
 use Rattle.controller_model.specs.Facts.{Setup, setup_of}
 use Rattle.simulated_pair.specs.Stations.{IsFirst}
 use Rattle.simulated_pair.proofs.WholeRuns.{both_first}
+use Rattle.simulated_pair.specs.declared.links.TheConstants.{LINKS}
+use Rattle.simulated_pair.specs.declared.stations.TheConstants.{BUFFERS}
 use Rattle.simulated_pair.proofs.run.start_both.Goals as goal
 
 pub returns-clause-up : goal.returns-clause-up
 returns-clause-up c =
-    let setup_a = ap (λ (config : Config). setup_of config 1 8 8) c.copy.ensures
-    ∙ ap (λ (script : Script). setup_of script.a 1 8 8) c.schedule.view_is in
-    let setup_b = ap (λ (config : Config). setup_of config 1 8 8) c.copy-2.ensures
-    ∙ ap (λ (script : Script). setup_of script.b 1 8 8) c.schedule.view_is in
+    let setup_a = ap (λ (config : Config). setup_of config LINKS BUFFERS BUFFERS) c.copy.ensures
+    ∙ ap (λ (script : Script). setup_of script.a LINKS BUFFERS BUFFERS) c.schedule.view_is in
+    let setup_b = ap (λ (config : Config). setup_of config LINKS BUFFERS BUFFERS) c.copy-2.ensures
+    ∙ ap (λ (script : Script). setup_of script.b LINKS BUFFERS BUFFERS) c.schedule.view_is in
     both_first c.args.a.now c.args.b.now c.args.schedule.now c.in_ok-start.field-0 c.in_ok-start-2.field-0
     (subst (λ (setup : Setup). IsFirst setup c.args.a.now c.in_ok-start.field-0) setup_a c.in_ok-start.ensures.first)
     (subst (λ (setup : Setup). IsFirst setup c.args.b.now c.in_ok-start-2.field-0) setup_b c.in_ok-start-2.ensures.first)
