@@ -10,8 +10,8 @@ use Rattle.radio_replay.specs.Schedule.{Reading, Right, Wrong, TooMany}
 use Rattle.ble_tool.specs.declared.faults.Fault.{Fault}
 use Rattle.ble_tool.specs.declared.faults.Fault.TheVariants.{CannotRead, BadLine, CannotWrite, NoMemory, Unseen, TooLong, TooManyTurns}
 use Rattle.ble_tool.specs.declared.commands.Command.{Command}
-use Rattle.ble_tool.specs.declared.commands.Command.TheVariants.{Pair}
-use Rattle.ble_tool.specs.Causes.{OfUnseen, IsPairFault, IsWorkFault, HasCause}
+use Rattle.ble_tool.specs.declared.commands.Command.TheVariants.{Make, Pair}
+use Rattle.ble_tool.specs.Causes.{OfUnseen, IsMakeFault, IsPairFault, IsWorkFault, HasCause}
 use Rattle.ble_tool.specs.Commands.{command_of, files_of}
 use Rattle.ble_tool.specs.Ending.{IsEnding, IsKnown, CanPair, CanWork, CanPerform, NoneHasRisen, IsReliable}
 use Rattle.ble_tool.specs.FileRow.{FileRow}
@@ -76,7 +76,7 @@ no_read_fault reads files contents fault known none is = no_fault_at reads files
 
 -- ---- the work of `pair`
 
-abbrev IsRight : Reading → Type 0
+abbrev pub IsRight : Reading → Type 0
 IsRight (Right a b turns) = Unit {0}
 IsRight (Wrong line) = ⊥
 IsRight (TooMany line) = ⊥
@@ -105,12 +105,20 @@ no_pair_fault writes a b schedule (Unseen turn packet sent heard) can not_failed
 no_pair_fault writes a b schedule (CannotRead place) can not_failed is = absurd is
 no_pair_fault writes a b schedule (TooLong place) can not_failed is = absurd is
 
+-- ---- the work of `make`
+
+no_make_fault : (writes : Writes) (number : ℕ) (fault : Fault) → (¬ HaveWritesFailed writes) → IsMakeFault writes number fault → fault ≡ NoMemory
+no_make_fault writes number CannotWrite not_failed is = absurd (not_failed is.0)
+no_make_fault writes number NoMemory not_failed is = refl
+no_make_fault writes number fault not_failed is = absurd is
+
 -- ---- commands
 
 -- the work of a command that can be done ends with no fault but of an allocation
 no_work_fault : (command : Command) (writes : Writes) (contents : List (List ℕ)) (fault : Fault) → CanWork command contents
     → (¬ HaveWritesFailed writes) → IsWorkFault command writes fault contents → fault ≡ NoMemory
 no_work_fault (Pair names) writes contents fault can not_failed is = no_pair_fault writes _ _ _ fault can not_failed is
+no_work_fault (Make number) writes contents fault can not_failed is = no_make_fault writes number fault not_failed is
 
 can_only : (command : Command) (world : World) (outcome : Outcome) → HasCause (Some command) world outcome
     → CanPerform command world.reads → NoneFailed world.reads (files_of command)

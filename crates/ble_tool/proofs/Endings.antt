@@ -17,10 +17,9 @@ use Rattle.radio_replay.specs.Schedule.{Right, Wrong, TooMany, schedule_of, IsFa
 use Rattle.radio_replay.specs.Script.{Script}
 use Rattle.ble_tool.specs.declared.faults.Fault.{Fault}
 use Rattle.ble_tool.specs.declared.faults.Fault.TheVariants.{CannotRead, BadLine, CannotWrite, NoMemory, Unseen, TooLong, TooManyTurns}
-use Rattle.ble_tool.specs.Causes.{OfJournal, OfRun, IsWholeRun, IsEnded, IsWriteFault, IsScheduleFault, IsEndOf, IsWrittenEnd, IsPairFault}
-use Rattle.ble_tool.specs.Commands.{schedule_place}
+use Rattle.ble_tool.specs.Causes.{Told, OfJournal, journal_text, OfRun, IsWholeRun, IsEnded, IsWriteFault, IsScheduleFault, IsEndOf, IsWrittenEnd, IsPairFault}
 use Rattle.ble_tool.specs.Conversions.{fault_of_schedule, end_of}
-use Rattle.ble_tool.specs.World.{Writes, writes_of, HasFailed, HasWritten, HasWrittenPart, HasWrittenNothing}
+use Rattle.ble_tool.specs.World.{Writes, writes_of, HasFailed, HasWritten, HasWrittenPart}
 use Rattle.ble_tool.proofs.Growth.{grew_part, rose_since}
 
 -- what holds of the fault that an `Err` hands on
@@ -82,22 +81,12 @@ run_not_ended (Ok journal) = tt
 run_not_ended (Err (EndedUnseen turn packet sent heard journal)) = tt
 run_not_ended (Err NoRoomForRun) = refl
 
--- a schedule that was not read is a fault of the whole, of which nothing is written
-pub stopped_by_schedule : (writes : Writes) (a b schedule : List ℕ) (fault : Fault) → IsScheduleFault schedule_place schedule fault
-    → HasWrittenNothing writes → IsPairFault writes fault a b schedule
-stopped_by_schedule writes a b schedule (BadLine place number) is same = (is.0, is.1, same)
-stopped_by_schedule writes a b schedule (TooManyTurns place number) is same = (is.0, is.1, same)
-stopped_by_schedule writes a b schedule NoMemory is same = inl same
-stopped_by_schedule writes a b schedule CannotWrite is same = absurd is
-stopped_by_schedule writes a b schedule (Unseen turn packet sent heard) is same = absurd is
-stopped_by_schedule writes a b schedule (CannotRead place) is same = absurd is
-stopped_by_schedule writes a b schedule (TooLong place) is same = absurd is
-
 -- a fact of the text of a journal of a schedule that was read
-of_journal : (is_journal : Script → Given → List Entry → Type 0) (fact : List ℕ → Type 0) (a b schedule : List ℕ) (script : Script)
+pub of_journal : (told : Told) (is_journal : Script → Given → List Entry → Type 0) (fact : List ℕ → Type 0) (a b schedule : List ℕ) (script : Script)
     (journal : List Entry) → schedule_of schedule ≡ Right script.a script.b script.turns
-    → is_journal script (given_of a b script) journal → IsLawful a b script journal → fact (text journal) → OfJournal is_journal fact a b schedule
-of_journal is_journal fact a b schedule script journal read is lawful holds = record {
+    → is_journal script (given_of a b script) journal → IsLawful a b script journal → fact (told script journal)
+    → OfJournal told is_journal fact a b schedule
+of_journal told is_journal fact a b schedule script journal read is lawful holds = record {
   config_a = script.a;
   config_b = script.b;
   turns = script.turns;
@@ -123,7 +112,7 @@ reported : (writes : Writes) (a b schedule : List ℕ) (script : Script) (journa
     → schedule_of schedule ≡ Right script.a script.b script.turns → IsEndOf script (given_of a b script) journal (Some fault)
     → IsLawful a b script journal → HasWritten writes (text journal) → IsPairFault writes fault a b schedule
 reported writes a b schedule script journal (Unseen turn packet sent heard) read end lawful wrote =
-    of_journal _ (HasWritten writes) a b schedule script journal read end lawful wrote
+    of_journal journal_text _ (HasWritten writes) a b schedule script journal read end lawful wrote
 reported writes a b schedule script journal (BadLine place number) read end lawful wrote = absurd end
 reported writes a b schedule script journal (TooManyTurns place number) read end lawful wrote = absurd end
 reported writes a b schedule script journal NoMemory read end lawful wrote = absurd end
@@ -136,9 +125,9 @@ not_written : (writes : Writes) (a b schedule : List ℕ) (script : Script) (jou
     → schedule_of schedule ≡ Right script.a script.b script.turns → IsEnded script (given_of a b script) journal
     → IsLawful a b script journal → IsWriteFault writes (text journal) fault → IsPairFault writes fault a b schedule
 not_written writes a b schedule script journal CannotWrite read end lawful is =
-    (is.0, of_journal IsEnded (HasWrittenPart writes) a b schedule script journal read end lawful is.1)
+    (is.0, of_journal journal_text IsEnded (HasWrittenPart writes) a b schedule script journal read end lawful is.1)
 not_written writes a b schedule script journal NoMemory read end lawful is =
-    inr (of_journal IsEnded (HasWrittenPart writes) a b schedule script journal read end lawful is)
+    inr (of_journal journal_text IsEnded (HasWrittenPart writes) a b schedule script journal read end lawful is)
 not_written writes a b schedule script journal (BadLine place number) read end lawful is = absurd is
 not_written writes a b schedule script journal (TooManyTurns place number) read end lawful is = absurd is
 not_written writes a b schedule script journal (Unseen turn packet sent heard) read end lawful is = absurd is
@@ -152,7 +141,7 @@ pub octets_done : (writes : Writes) (a b schedule : List ℕ) (script : Script) 
     → IsWrittenEnd writes (text journal) fault result → OnOk result (OfRun (HasWritten writes) a b schedule)
 octets_done writes a b schedule script journal fault (Err cause) read end lawful whole written = tt
 octets_done writes a b schedule script journal fault (Ok done) read end lawful whole written =
-    of_journal IsWholeRun (HasWritten writes) a b schedule script journal read
+    of_journal journal_text IsWholeRun (HasWritten writes) a b schedule script journal read
     (record { is_run = subst (IsEndOf script (given_of a b script) journal) written.0 end; whole = whole written.0 }) lawful written.1
 
 pub octets_not_done : (writes : Writes) (a b schedule : List ℕ) (script : Script) (journal : List Entry) (fault : Option Fault)

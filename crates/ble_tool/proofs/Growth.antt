@@ -4,7 +4,7 @@ use Rattle.std.specs.Result.{IsErrAnd}
 use Rattle.outside.specs.declared.sink.SinkFault.{SinkFault}
 use Rattle.outside.specs.Count.{HasRisen}
 use Rattle.outside.specs.Growth.{HasGrownBy, HasGrownByPrefix}
-use Rattle.ble_tool.specs.Puts.{IsPut, Says}
+use Rattle.ble_tool.specs.Puts.{IsPut}
 
 pub grew_by_none : (old : Option (List ℕ)) → HasGrownBy old old []
 grew_by_none None = refl
@@ -84,11 +84,3 @@ put_handed_on {result = Err e} is part = record {
   counts = part.counts;
   same_memory = part.same_memory;
 }
-
--- a line that is put whole, or a prefix of it, is said
-pub is_said : {Sink : Type 0} {written : Sink → Option (List ℕ)} {faults : Sink → ℕ} {wants_memory : Sink → Type 0}
-    {old new : Sink} {result : Result (Unit {0}) SinkFault} {octets : List ℕ}
-    → IsPut written faults wants_memory old new result octets
-    → Says written faults wants_memory old new octets
-is_said {result = Ok done} put = inl put.ok
-is_said {result = Err e} put = inr (put.err, put.fault)

@@ -1,12 +1,12 @@
 -- What holds for a command holds for the words that give it.
-use Rattle.std.proofs.Common.{◌≡◌, List, ℕ, [], Some, None, sym, subst}
+use Rattle.std.proofs.Common.{◌≡◌, List, ℕ, [], Some, sym, subst}
 use Rattle.std.specs.Option.{option_map_or}
 use Rattle.ble_tool.specs.declared.commands.Command.{Command}
 use Rattle.ble_tool.specs.Causes.{HasCause}
 use Rattle.ble_tool.specs.Commands.{command_of, files_of}
 use Rattle.ble_tool.specs.Ending.{IsEnding}
-use Rattle.ble_tool.specs.Status.{Outcome, NoCommand, exit_status, last_words}
-use Rattle.ble_tool.specs.World.{World, HasWrittenNothing}
+use Rattle.ble_tool.specs.Status.{Outcome, exit_status, last_words}
+use Rattle.ble_tool.specs.World.{World}
 
 -- the ending of a command is that of the words that give it
 pub ending_by_words : (words : List (List ℕ)) (command : Command) (world : World) (says : List ℕ → Type 0) (outcome : Outcome) (status : ℕ)
@@ -18,7 +18,3 @@ ending_by_words words command world says outcome status is is_status cause said 
   has_cause = subst (λ given. HasCause given world outcome) (sym is) cause;
   is_said = subst (λ given. says (last_words (option_map_or files_of given []) outcome)) (sym is) said;
 }
-
-pub no_command : (words : List (List ℕ)) (world : World) → command_of words ≡ None → HasWrittenNothing world.writes
-    → HasCause (command_of words) world NoCommand
-no_command words world none same = subst (λ given. HasCause given world NoCommand) (sym none) same

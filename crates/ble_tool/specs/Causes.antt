@@ -7,25 +7,35 @@ use Rattle.pair_world.specs.journal_pdus.Lawful.{IsLawful, IsWhole}
 use Rattle.pair_world.specs.journal_pdus.Undelivered.{IsUndelivered}
 use Rattle.pair_world.specs.run_model.Pair.{given_of, IsRun, EndsUnseen}
 use Rattle.pair_world.specs.run_model.Run.{Given}
+use Rattle.radio_replay.specs.LoadSchedule.{load_schedule}
+use Rattle.radio_replay.specs.LoadStreams.{stream_a, stream_b}
 use Rattle.radio_replay.specs.Schedule.{Right, Wrong, TooMany, schedule_of, line_number}
 use Rattle.radio_replay.specs.Script.{Script, Turn}
 use Rattle.ble_tool.specs.declared.faults.Fault.{Fault}
 use Rattle.ble_tool.specs.declared.faults.Fault.TheVariants.{BadLine, CannotWrite, NoMemory, Unseen}
 use Rattle.ble_tool.specs.declared.faults.Fault.TheVariants.{TooManyTurns}
 use Rattle.ble_tool.specs.declared.commands.Command.{Command}
-use Rattle.ble_tool.specs.declared.commands.Command.TheVariants.{Pair}
+use Rattle.ble_tool.specs.declared.commands.Command.TheVariants.{Make, Pair}
 use Rattle.ble_tool.specs.Commands.{files_of, schedule_place}
+use Rattle.ble_tool.specs.LoadLine.{load_line}
 use Rattle.ble_tool.specs.Reading.{IsReadFault, OfRead}
 use Rattle.ble_tool.specs.Status.{Outcome, Done, NoCommand, Failed}
 use Rattle.ble_tool.specs.World.{Writes, World, HaveWritesFailed, HasWritten, HasWrittenPart, HasWrittenNothing}
 
 -- ---- journals
 
--- a fact of the text of some journal of this kind: a journal of these streams and of this schedule's text, which has
+-- what a command writes of a journal: its text, or something else that is said of it
+abbrev pub Told : Type 0
+Told = Script → List Entry → List ℕ
+
+abbrev pub journal_text : Told
+journal_text script journal = text journal
+
+-- a fact of what is told of some journal of this kind: a journal of these streams and of this schedule's text, which has
 -- no line at fault. It is lawful: it follows the schedule; links are those of their CONNECT_INDs, and each PDU goes out
 -- and is taken as it is due; after each of its lines, on each link, what the host of one side received is the first octets of what the host of
 -- the other submitted, and no packet is reported as complete that the other side did not accept whole
-pub record OfJournal (is_journal : Script → Given → List Entry → Type 0) (fact : List ℕ → Type 0)
+pub record OfJournal (told : Told) (is_journal : Script → Given → List Entry → Type 0) (fact : List ℕ → Type 0)
     (a b schedule : List ℕ) : Type 0 where
   pub config_a : Config
   pub config_b : Config
@@ -35,7 +45,7 @@ pub record OfJournal (is_journal : Script → Given → List Entry → Type 0) (
   pub is_of_kind : is_journal (record { a = config_a; b = config_b; turns = turns })
       (given_of a b (record { a = config_a; b = config_b; turns = turns })) journal
   pub lawful : IsLawful a b (record { a = config_a; b = config_b; turns = turns }) journal
-  pub holds : fact (text journal)
+  pub holds : fact (told (record { a = config_a; b = config_b; turns = turns }) journal)
 
 -- the journal of the whole run: all turns begin, and at the end nothing waits for a host
 pub record IsWholeRun (script : Script) (given : Given) (journal : List Entry) : Type 0 where
@@ -44,7 +54,7 @@ pub record IsWholeRun (script : Script) (given : Given) (journal : List Entry) :
 
 -- a fact of the text of the journal of the whole run
 abbrev pub OfRun : (List ℕ → Type 0) → List ℕ → List ℕ → List ℕ → Type 0
-OfRun fact a b schedule = OfJournal IsWholeRun fact a b schedule
+OfRun fact a b schedule = OfJournal journal_text IsWholeRun fact a b schedule
 
 -- the journal of a run that ends because damage to this packet would be judged good: it is the packet that is due next
 pub record IsUnseenRun (turn packet : ℕ) (sent heard : List ℕ) (script : Script) (given : Given) (journal : List Entry) : Type 0 where
@@ -54,7 +64,7 @@ pub record IsUnseenRun (turn packet : ℕ) (sent heard : List ℕ) (script : Scr
 -- a fact of the text of the journal of such a run
 abbrev pub OfUnseen : ℕ → ℕ → List ℕ → List ℕ → (List ℕ → Type 0) → List ℕ → List ℕ → List ℕ → Type 0
 OfUnseen turn packet sent heard fact a b schedule =
-    OfJournal (IsUnseenRun turn packet sent heard) fact a b schedule
+    OfJournal journal_text (IsUnseenRun turn packet sent heard) fact a b schedule
 
 -- the journal of a run, whole or ended by damage that would be judged good
 abbrev pub IsEnded : Script → Given → List Entry → Type 0
@@ -64,7 +74,12 @@ IsEnded script given journal = IsRun given journal
 
 -- a fact of the text of the journal of either run
 abbrev pub OfEnded : (List ℕ → Type 0) → List ℕ → List ℕ → List ℕ → Type 0
-OfEnded fact a b schedule = OfJournal IsEnded fact a b schedule
+OfEnded fact a b schedule = OfJournal journal_text IsEnded fact a b schedule
+
+-- a fact of the line on the whole run of the load of a number
+abbrev pub OfLoad : (List ℕ → Type 0) → ℕ → Type 0
+OfLoad fact number =
+    OfJournal (load_line number) IsWholeRun fact (stream_a number) (stream_b number) (load_schedule number)
 
 -- ---- faults
 
@@ -115,6 +130,20 @@ IsPairFault writes (Unseen turn packet sent heard) a b schedule =
     OfUnseen turn packet sent heard (HasWritten writes) a b schedule
 IsPairFault writes _ a b schedule = ⊥
 
+-- what holds where the load of a number was not run, or the line on its run was not written whole
+abbrev pub IsMakeFault : Writes → ℕ → Fault → Type 0
+IsMakeFault writes number CannotWrite = HaveWritesFailed writes × OfLoad (HasWrittenPart writes) number
+IsMakeFault writes number NoMemory = HasWrittenNothing writes ⊎ OfLoad (HasWrittenPart writes) number
+IsMakeFault writes number _ = ⊥
+
+-- ---- the load of a number
+
+-- the whole run of the load of a number, by the schedule that was read of it
+pub record IsLoadRun (number : ℕ) (script : Script) (journal : List Entry) : Type 0 where
+  pub read : schedule_of (load_schedule number) ≡ Right script.a script.b script.turns
+  pub run : IsWholeRun script (given_of (stream_a number) (stream_b number) script) journal
+  pub lawful : IsLawful (stream_a number) (stream_b number) script journal
+
 -- ---- commands
 
 -- a fact of the octets of the three files of `pair`
@@ -124,10 +153,12 @@ OfPair fact contents = fact (slice_index_or contents 0 []) (slice_index_or conte
 -- the work of a command over the octets of its files is done
 abbrev pub IsWorkDone : Command → Writes → List (List ℕ) → Type 0
 IsWorkDone (Pair names) writes contents = OfPair (OfRun (HasWritten writes)) contents
+IsWorkDone (Make number) writes contents = OfLoad (HasWritten writes) number
 
 -- what holds where the work of a command over the octets of its files ends with a fault
 abbrev pub IsWorkFault : Command → Writes → Fault → List (List ℕ) → Type 0
 IsWorkFault (Pair names) writes fault contents = OfPair (IsPairFault writes fault) contents
+IsWorkFault (Make number) writes fault contents = IsMakeFault writes number fault
 
 -- a command has read its files and done its work
 abbrev pub IsPerformed : Command → World → Type 0

@@ -1,10 +1,11 @@
 -- The commands, in the words after the program's name, and the files of each (our choice).
-use Rattle.std.specs.Prelude.{ℕ, Bool, ◌&&◌, ◌==◌, List, [], ◌∷◌, length, slice_get, slice_index_or, codes}
+use Rattle.std.specs.Prelude.{ℕ, ◌-◌, ◌^◌, Bool, ◌&&◌, ◌==◌, List, [], ◌∷◌, length, slice_get, slice_index_or, codes}
 use Rattle.std.specs.Prelude.{Option, Some, None, if◌then◌else◌}
-use Rattle.std.specs.Option.{option_map_or}
+use Rattle.std.specs.Option.{option_map, option_map_or}
 use Rattle.std.specs.Str.{bytes_eq}
+use Rattle.line_words.specs.Numbers.{in_range, number_in}
 use Rattle.ble_tool.specs.declared.commands.Command.{Command}
-use Rattle.ble_tool.specs.declared.commands.Command.TheVariants.{Pair}
+use Rattle.ble_tool.specs.declared.commands.Command.TheVariants.{Make, Pair}
 use Rattle.ble_tool.specs.FileRow.{FileRow}
 use Rattle.ble_tool.specs.PairFiles.{PairFiles}
 
@@ -52,13 +53,25 @@ pair_files names = host_file names.a ∷ host_file names.b ∷ schedule_file nam
 abbrev pub schedule_place : ℕ
 schedule_place = 2
 
+-- whether the words are `make` and one more
+abbrev pub is_make : List (List ℕ) → Bool
+is_make words = (length words == 2) && bytes_eq (slice_index_or words 0 []) (codes "make")
+
+-- the number of a load: 0 to 4294967295, in decimal digits with no sign and no zero before others
+abbrev pub load_number : List ℕ → Option ℕ
+load_number word = in_range 0 (2 ^ 32 - 1) (number_in word)
+
 -- the command of these words, where they are those of one
 abbrev pub command_of : List (List ℕ) → Option Command
-command_of words = if is_pair words then Some (Pair (pair_names words)) else None
+command_of words =
+    if is_pair words then Some (Pair (pair_names words))
+    else if is_make words then option_map Make (load_number (slice_index_or words 1 []))
+    else None
 
 -- the files of a command, in the order in which they are read
 abbrev pub files_of : Command → List FileRow
 files_of (Pair names) = pair_files names
+files_of (Make number) = []
 
 -- the files of the command of these words, where they are those of one
 abbrev pub files_in : List (List ℕ) → List FileRow

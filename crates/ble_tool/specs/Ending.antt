@@ -8,7 +8,7 @@ use Rattle.pair_world.specs.run_model.Pair.{given_of, EndsUnseen}
 use Rattle.radio_replay.specs.Schedule.{Right, schedule_of}
 use Rattle.radio_replay.specs.Script.{Turn}
 use Rattle.ble_tool.specs.declared.commands.Command.{Command}
-use Rattle.ble_tool.specs.declared.commands.Command.TheVariants.{Pair}
+use Rattle.ble_tool.specs.declared.commands.Command.TheVariants.{Make, Pair}
 use Rattle.ble_tool.specs.Causes.{OfPair, HasCause}
 use Rattle.ble_tool.specs.Commands.{command_of, files_of, files_in}
 use Rattle.ble_tool.specs.FileRow.{FileRow}
@@ -48,6 +48,7 @@ pub record CanPair (a b schedule : List ℕ) : Type 0 where
 -- the work of a command over the octets of its files can be done
 abbrev pub CanWork : Command → List (List ℕ) → Type 0
 CanWork (Pair names) contents = OfPair CanPair contents
+CanWork (Make number) contents = Unit {0}
 
 -- a command can do its work: the contents of its files are known and within their limits, and the work over them can be
 -- done

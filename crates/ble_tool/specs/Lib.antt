@@ -6,6 +6,7 @@ pub mod Status
 pub mod World
 pub mod Conversions
 pub mod Reading
+pub mod LoadLine
 pub mod Causes
 pub mod Puts
 pub mod Ending

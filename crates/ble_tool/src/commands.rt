@@ -1,8 +1,9 @@
 //! The commands of the program, as its words give them, and the files that each reads.
 ghost use Rattle.std.specs.Prelude.{◌≡◌, map, slice_get, string_bytes};
 ghost use Rattle.ble_tool.specs.Commands.{host_file, schedule_file, name_at, word_at};
-ghost use Rattle.ble_tool.specs.Commands.{pair_files, command_of, files_of};
+ghost use Rattle.ble_tool.specs.Commands.{pair_files, command_of, files_of, load_number};
 
+use line_words::read_number;
 use std::marker::Model;
 
 /// How long the octets of a host and the text of a schedule may be, in octets.
@@ -114,11 +115,21 @@ impl<'a> PairNames<'a> {
     }
 }
 
+/// The number of a load in a word, or `None` where it is outside the range or has another form.
+fn load_number(word: &str) -> Option<u32>
+    ensures { result ≡ load_number word.now }
+{
+    let number = read_number(word.as_bytes(), 0, u64::from(u32::MAX))?;
+    Some(number as u32)
+}
+
 /// A command, with the names of the files that it reads.
 #[derive(Drop)]
 pub enum Command<'a> {
     /// `pair A B SCHEDULE`: two controllers over the streams of two hosts and a schedule.
     Pair(PairNames<'a>),
+    /// `make NUMBER`: the load of a number.
+    Make(u32),
 }
 
 impl<'a> Command<'a> {
@@ -132,6 +143,10 @@ impl<'a> Command<'a> {
                 b: b.as_str(),
                 schedule: schedule.as_str(),
             })),
+            [word, number] if word.as_str() == "make" => match load_number(number.as_str()) {
+                Some(number) => Some(Command::Make(number)),
+                None => None,
+            },
             _ => None,
         }
     }
@@ -143,6 +158,7 @@ impl<'a> Command<'a> {
     {
         match self {
             Command::Pair(names) => names.file_at(place),
+            Command::Make(_) => None,
         }
     }
 

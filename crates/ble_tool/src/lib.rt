@@ -3,10 +3,12 @@
 
 mod commands;
 mod faults;
+mod makes;
 mod messages;
 mod pairs;
 mod reading;
 mod tool;
+mod writing;
 
 pub use crate::commands::{Command, CommandFile, FILE_LIMIT, PairNames};
 pub use crate::faults::Fault;

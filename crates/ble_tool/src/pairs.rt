@@ -11,7 +11,8 @@ ghost use Rattle.ble_tool.specs.Commands.{schedule_place};
 ghost use Rattle.ble_tool.specs.World.{writes_of, HasWritten};
 
 use crate::commands::SCHEDULE;
-use crate::faults::{Fault, end_of, fault_of_schedule, fault_of_sink};
+use crate::faults::{Fault, end_of, fault_of_schedule};
+use crate::writing::write_octets;
 use journal::{Entry, Journal, write_lines};
 use outside::Sink;
 use pair_world::run_pair;
@@ -33,10 +34,7 @@ fn write_block<O: Sink>(alloc: Global, entries: &[Entry], out: &mut O) -> Result
     let Ok(lines) = write_lines(alloc, entries) else {
         return Err(Fault::NoMemory);
     };
-    match out.put(lines.as_slice()) {
-        Ok(()) => Ok(()),
-        Err(fault) => Err(fault_of_sink(fault)),
-    }
+    write_octets(lines.as_slice(), out)
 }
 
 /// The entries that are written next, and those after them.
@@ -66,7 +64,7 @@ fn write_journal<O: Sink>(alloc: Global, journal: &Journal, out: &mut O) -> Resu
 
 /// Reads the text of a schedule.
 #[tactic(auto, using(crate::proofs::Endings::schedule_not_read))]
-fn read_schedule(alloc: Global, octets: &[u8]) -> Result<Schedule, Fault>
+pub(crate) fn read_schedule(alloc: Global, octets: &[u8]) -> Result<Schedule, Fault>
     ensures ok { IfOk result (λ schedule.
         schedule_of octets.now ≡ Right schedule.a schedule.b schedule.turns) }
     ensures words_a { IfOk result (λ schedule. 1 ≤ length schedule.a.words.items) }
@@ -82,7 +80,7 @@ fn read_schedule(alloc: Global, octets: &[u8]) -> Result<Schedule, Fault>
 /// Runs the two streams by a schedule: the journal to write, and the fault to report after it, if
 /// there is one.
 #[tactic(auto, using(crate::proofs::Endings::run_ended, crate::proofs::Endings::run_not_ended, crate::proofs::Endings::run_whole))]
-fn run_streams(
+pub(crate) fn run_streams(
     alloc: Global,
     a: &[u8],
     b: &[u8],

@@ -10,6 +10,7 @@ ghost use Rattle.ble_tool.specs.declared.commands.Command.{Command};
 
 use crate::commands::Command;
 use crate::faults::Fault;
+use crate::makes::make;
 use crate::messages::{refuse_words, report};
 use crate::pairs::pair;
 use crate::reading::read_files;
@@ -33,6 +34,7 @@ fn work<O: Sink>(
 {
     match command {
         Command::Pair(_) => pair(alloc, contents, out),
+        Command::Make(number) => make(alloc, *number, out),
     }
 }
 
@@ -58,21 +60,24 @@ fn perform<F: Files, O: Sink>(
 ///
 /// `pair A B SCHEDULE` reads the octets of two hosts and the text of a schedule, in this order,
 /// each of at most 1,048,576 octets, runs two controllers over them and writes the journal to
-/// `out`. With a status other than 0 one line on `err` says why, or a prefix of that line where
+/// `out`. `make NUMBER` runs the load of a number from 0 to 4294967295, which has no zero before
+/// other digits, as `pair` does, and writes one line on that run: `make NUMBER turns T links K a X b
+/// Y`, with the numbers of turns, of links, and of the octets of data that the hosts of A and of B
+/// receive. With a status other than 0 one line on `err` says why, or a prefix of that line where
 /// `err` fails:
 ///
-/// - 0: the whole journal was written;
+/// - 0: the whole journal was written, or the line on it;
 /// - 1: the words are not a command;
 /// - 2: a file could not be read;
 /// - 3: a line of the schedule is outside its grammar;
-/// - 4: the journal could not be written;
+/// - 4: the journal, or the line on it, could not be written;
 /// - 5: an allocation failed;
 /// - 6: a packet was changed on the air, and its receiver would judge it good;
 /// - 7: a file is longer than its limit, or the schedule has more than 100,000 turns.
 ///
 /// Each status but 5 has its cause in the words, the files and the output. What is claimed of the
 /// content of files and output holds where `files` and `out` make it known: there, with status 0,
-/// `out` has grown by exactly the text of the journal.
+/// `out` has grown by exactly the text of the journal, or by that line.
 pub fn ble_tool<F: Files, O: Sink, E: Sink>(
     alloc: Global,
     words: &Vec<String>,

@@ -1,2 +1,4 @@
 -- The lemmas of this crate.
 mod Lawful
+mod CountedLinks
+mod CountedOctets

@@ -2,8 +2,10 @@
 //! make, which is lawful.
 #![tactic(auto)]
 
+mod counts;
 mod run;
 
+pub use crate::counts::{links_in, octets_received};
 pub use crate::run::run_pair;
 pub use ble_base::{Config, Side};
 pub use journal::{Entry, Journal, Octets};

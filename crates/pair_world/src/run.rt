@@ -27,17 +27,18 @@ fn publics_are_six(schedule: &Schedule)
 }
 
 /// Runs two controllers over the streams of their hosts and a schedule, and gives the journal of
-/// the run (our choice). Each can hold one link, and eight packets of data each way. `a` and `b`
+/// the run (our choice). Each can hold three links, and eight packets of data each way. `a` and `b`
 /// are the H4 octets of the two hosts, in the order in which they are fed; those that the schedule
 /// leaves unfed are not part of the run. `schedule` has at least one random word for each
 /// controller.
 ///
 /// The journal follows the schedule: its turns, what is fed in them, and the fates of packets are
-/// those of the schedule. In it, after each of its lines, what one host receives of a link is the first octets of
-/// what the other submitted, and no packet is reported as complete that the other side did not
-/// accept whole (Core 5.2, volume 4 part E, section 4.1). Each new PDU is the next piece of what a
-/// host submitted, and is taken as the first good packet brings it; MD says whether more waits; and
-/// between turns each host has all that its side took (volume 6 part B, sections 4.5.6 and 4.5.9).
+/// those of the schedule. In it, after each of its lines, what one host receives of a link is the
+/// first octets of what the other submitted, and no packet is reported as complete that the other
+/// side did not accept whole (Core 5.2, volume 4 part E, section 4.1). Each new PDU is the next piece
+/// of what a host submitted, and is taken as the first good packet brings it; MD says whether more
+/// waits; and between turns each host has all that its side took, or as many packets as its buffers
+/// take (volume 6 part B, sections 4.5.6 and 4.5.9; volume 4 part E, section 4.2).
 ///
 /// Errors: `Unseen` exactly where a fate changes a packet and its receiver would judge the changed
 /// one good; `Memory` where there is no memory for the two controllers, for a line of the journal,
@@ -53,7 +54,7 @@ pub fn run_pair(alloc: Global, a: &[u8], b: &[u8], schedule: &Schedule) -> Resul
     ensures lawful_so_far { IfErr result (IsLawfulSoFar a.now b.now schedule.now) }
     // The packet at which damage ends it is the one that is due next.
     ensures due { IfErr result (IsDueAtFault schedule.now) }
-    // All turns begin, and at the end nothing waits for a host.
+    // All turns begin, and at the end each host has what its buffers take.
     ensures whole { IfOk result (IsWhole schedule.now) }
 {
     journal_pdus::each_journal_is_lawful();

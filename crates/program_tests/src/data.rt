@@ -71,6 +71,19 @@ pair a.bin b.bin schedule = 0 [\
     27 up a 0413050100000100|\
     27 up b 02001001001b|\
     ] []
+# The host of B turns flow control on and has one buffer: the second packet waits until that \
+    host says that it has taken the first.
+a 01010c08ffffffffff1f0020010d20196000600000000b0000eeffc000180018000000480000000000020000010\
+    05a02000001005a
+b 01010c08ffffffffff1f002001310c010101330c071b000001000000010a20010101350c050100000100
+turns t ++ a41 b33|run 9|t ++ a12|run 29|t ++ b9|
+only took,up b 02
+pair a.bin b.bin schedule = 0 [\
+    26 took b 1 1 2 5a|\
+    26 up b 02002001005a|\
+    27 took b 1 2 2 5a|\
+    40 up b 02002001005a|\
+    ] []
 # Damage to a packet of data that fits its CRC ends the run, and nothing is handed up.
 a 01010c08ffffffffff1f0020010d20196000600000000b0000eeffc00018001800000048000000000002000001005a
 b 01010c08ffffffffff1f0020010a200101

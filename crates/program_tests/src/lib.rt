@@ -20,6 +20,8 @@ mod lines;
 #[cfg(test)]
 mod links;
 #[cfg(test)]
+mod loads;
+#[cfg(test)]
 mod scripts;
 #[cfg(test)]
 mod statuses;

@@ -111,8 +111,9 @@ pair a.bin b.bin schedule = 0 [\
     74 air a 21 29417671 . good|\
     74 air b 21 29417671 . good|\
     ] []
-# A controller of one link does not initiate while connectable advertising is on. A sends LE \
-    Set Advertising Enable, and LE Create Connection with device B.
+# A controller with room for a further link initiates while connectable advertising is on, and the \
+    advertiser has the radio first. A sends LE Set Advertising Enable, and LE Create Connection \
+    with device B.
 a 010a200101010d20196000600000000b0000eeffc000180018000000480000000000
 b
 turns t ++ a34|
@@ -120,8 +121,88 @@ pair a.bin b.bin schedule = 0 [\
     turn 0 ++|\
     in a 010a200101010d20196000600000000b0000eeffc000180018000000480000000000|\
     up a 040e04010a2000|\
-    up a 040f0409010d20|\
+    up a 040f0400010d20|\
     air a 37 d6be898eadd45da13d499970163906 . missed|\
+    ] []
+# Two links between two devices, the second one with a random address of A, under the second \
+    handle. Their events are in slots of their own.
+a 01010c08ffffffffff1f0020010520060c0000eeffc0010d20196000600000000b0000eeffc000180018000000480000\
+    000000010d20196000600000000b0000eeffc001180018000000480000000000
+b 01010c08ffffffffff1f0020010a200101010a200101
+turns t ++ a51 b17|run 11|t ++ a29 b5|run 27|
+only open,up a 043e,up b 043e,air a 2,air a 33
+pair a.bin b.bin schedule = 0 [\
+    0 open a 1 0 central|\
+    0 up a 043e130100000000000b0000eeffc018000000480000|\
+    0 open b 1 0 peripheral|\
+    0 up b 043e130100000001000a0000eeffc018000000480000|\
+    2 air a 25 29417671 . good|\
+    12 open a 2 1 central|\
+    12 up a 043e130100010000000b0000eeffc018000000480000|\
+    12 open b 2 1 peripheral|\
+    12 up b 043e130100010001010c0000eeffc018000000480000|\
+    14 air a 25 2a417671 . good|\
+    26 air a 20 29417671 . good|\
+    38 air a 33 2a417671 . good|\
+    ] []
+# Two links whose events are in the same slots: the one that had the radio less recently has it.
+a 01010c08ffffffffff1f0020010520060c0000eeffc0010d20196000600000000b0000eeffc000180018000000480000\
+    000000010d20196000600000000b0000eeffc001180018000000480000000000
+b 01010c08ffffffffff1f0020010a200101010a200101
+turns t ++ a51 b17|run 23|t ++ a29 b5|run 60|
+only enter,air
+pair a.bin b.bin schedule = 0 [\
+    0 air b 37 d6be898e . good|\
+    0 air a 37 d6be898e . good|\
+    2 enter a 1 0 25|\
+    2 enter b 1 0 25|\
+    2 air a 25 29417671 . good|\
+    2 air b 25 29417671 . good|\
+    24 air b 37 d6be898e . good|\
+    24 air a 37 d6be898e . good|\
+    26 enter a 1 1 20|\
+    26 enter a 2 0 25|\
+    26 enter b 1 1 20|\
+    26 enter b 2 0 25|\
+    26 air a 20 29417671 . good|\
+    26 air b 20 29417671 . good|\
+    50 enter a 1 2 6|\
+    50 enter a 2 1 33|\
+    50 enter b 1 2 6|\
+    50 enter b 2 1 33|\
+    50 air a 33 2a417671 . good|\
+    50 air b 33 2a417671 . good|\
+    74 enter a 1 3 21|\
+    74 enter a 2 2 2|\
+    74 enter b 1 3 21|\
+    74 enter b 2 2 2|\
+    74 air a 21 29417671 . good|\
+    74 air b 21 29417671 . good|\
+    ] []
+# Three links are the limit: a fourth is not asked for, and no advertiser asks for one.
+a 01010c08ffffffffff1f0020010d20196000600000000b0000eeffc000180018000000480000000000010520060c00\
+    00eeffc0010d20196000600000000b0000eeffc001180018000000480000000000010520060d0000eeffc0010d2019\
+    6000600000000b0000eeffc001180018000000480000000000010520060e0000eeffc0010d20196000600000000b00\
+    00eeffc001180018000000480000000000
+b 01010c08ffffffffff1f0020010a200101010a200101010a200101010a200101
+turns t ++ a41 b17|run 11|t ++ a39 b5|run 7|t ++ a39 b5|run 9|t ++ a39 b5|
+only open,up a 040f,up b 040e
+pair a.bin b.bin schedule = 0 [\
+    0 up a 040f0400010d20|\
+    0 up b 040e0401010c00|\
+    0 up b 040e04010a2000|\
+    0 open a 1 0 central|\
+    0 open b 1 0 peripheral|\
+    12 up a 040f0400010d20|\
+    12 up b 040e04010a2000|\
+    12 open a 2 1 central|\
+    12 open b 2 1 peripheral|\
+    20 up a 040f0400010d20|\
+    20 up b 040e04010a2000|\
+    20 open a 3 2 central|\
+    20 open b 3 2 peripheral|\
+    30 up a 040f0409010d20|\
+    30 up b 040e04010a2009|\
     ] []
 ";
 

@@ -9,7 +9,7 @@ turns t ++|
 pair a.bin b.bin = 1 [] [usage: ble pair A B SCHEDULE, ble make NUMBER, ble solo HOST AIR|]
 pair a.bin b.bin schedule schedule = 1 [] [usage: ble pair A B SCHEDULE, ble make NUMBER, ble \
     solo HOST AIR|]
-make 7 = 1 [] [usage: ble pair A B SCHEDULE, ble make NUMBER, ble solo HOST AIR|]
+makes 7 = 1 [] [usage: ble pair A B SCHEDULE, ble make NUMBER, ble solo HOST AIR|]
 pairs a.bin b.bin schedule = 1 [] [usage: ble pair A B SCHEDULE, ble make NUMBER, ble solo HOST \
     AIR|]
 # The file that is missing is named, and no decoy, even where a later file is at fault too.

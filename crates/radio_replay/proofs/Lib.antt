@@ -8,3 +8,7 @@ pub mod SpelledSchedule
 pub mod Patterns
 pub mod Settings
 pub mod Strikes
+pub mod Drawn
+pub mod LoadLines
+pub mod LoadTurns
+pub mod LoadExamples

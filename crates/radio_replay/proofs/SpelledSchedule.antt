@@ -2,7 +2,7 @@
 use Rattle.std.proofs.Common.{◌≡◌, ℕ, zero, suc, ◌+◌, ◌^◌, ◌<◌, ◌≤◌, Bool, true, false, List, [], ◌∷◌, ◌++◌, length, Some, Ok, refl, ◌∙◌, ap, sym, arith, append_assoc}
 use Rattle.std.specs.Prelude.{◌==◌, ◌&&◌, nat_lt, map, reverse, slice_index, codes, replicate, decimal}
 use Rattle.std.specs.Option.{option_map}
-use Rattle.std.specs.List.{All, list_all, slice_split}
+use Rattle.std.specs.List.{All, concat, list_all, slice_split}
 use Rattle.std.proofs.lemmas.Bool.{and_from, le-leb}
 use Rattle.std.specs.Int.{w32, bytes_high_first, to_be_bytes}
 use Rattle.hex.specs.Hex.{IsBytes, encode_lower}
@@ -26,9 +26,9 @@ use Rattle.line_words.specs.Numbers.{number_in, in_range}
 use Rattle.radio_replay.specs.Schedule.{Right, schedule_of, turns_from, with_line}
 use Rattle.radio_replay.specs.Script.{Turn}
 use Rattle.radio_replay.specs.SideLine.{config_in_words, config_in_line, random_words_in, letter_of, all_random_words}
-use Rattle.radio_replay.specs.Spelling.{CanBeDone, CanBeSet, CanBeTaken, fate_word, feed_words, random_word_text, run_line, schedule_lines, schedule_text, side_words, turn_words}
+use Rattle.radio_replay.specs.Spelling.{CanBeDone, CanBeSet, CanBeTaken, fate_word, feed_words, random_word_text, run_line, schedule_text, side_words, turn_words}
 use Rattle.line_words.specs.Signs.{sign_of}
-use Rattle.line_words.specs.Text.{words_of, line_of}
+use Rattle.line_words.specs.Text.{words_of, line_of, with_newline}
 use Rattle.radio_replay.specs.TurnLine.{fates_in, feed_in, line_in, plain_turn, radios_of, turn_after_feed_a, line_turns}
 use Rattle.ble_base.specs.declared.limits.TheConstants.{AIR_PACKET_OCTETS, RANDOM_WORDS}
 use Rattle.radio_replay.specs.declared.limits.TheConstants.{LAST_PLACE, MOST_FED, MOST_REPEATED, MOST_TURNS}
@@ -144,7 +144,7 @@ above-turn_words turn h =
 more_words : Turn → List (List ℕ)
 more_words turn = (sign_of turn.a_on ∷ sign_of turn.b_on ∷ []) ∷ (feed_words 97 turn.feed_a ++ (feed_words 98 turn.feed_b ++ map fate_word turn.fates))
 
-line_in-line : (turn : Turn) → CanBeTaken turn → line_in (words_of (line_of (turn_words turn))) ≡ Some (Single turn)
+pub line_in-line : (turn : Turn) → CanBeTaken turn → line_in (words_of (line_of (turn_words turn))) ≡ Some (Single turn)
 unfolding more_words
 line_in-line turn h =
     ap line_in (words_of-line_of (codes "t") (more_words turn) (above-turn_words turn h)) ∙ line_in-words turn h
@@ -160,18 +160,24 @@ turns_from-lines number before (turn ∷ turns) h short =
     (turns_from-lines (number + 1) (before ++ turn ∷ []) turns (All-tail CanBeTaken turn turns h) (omega (arith, length-append before (turn ∷ [])))
     ∙ ap Ok (append_assoc before (turn ∷ []) turns))
 
-above-turns : (turns : List Turn) → All CanBeTaken turns → list_all (λ l. is_above 10 l) (map (λ turn. line_of (turn_words turn)) turns) ≡ true
+pub above-turn_line : (turn : Turn) → CanBeTaken turn → is_above 10 (line_of (turn_words turn)) ≡ true
 unfolding more_words
+above-turn_line turn h = above-line_of (codes "t") (more_words turn) (above-turn_words turn h)
+
+above-turns : (turns : List Turn) → All CanBeTaken turns → list_all (λ l. is_above 10 l) (map (λ turn. line_of (turn_words turn)) turns) ≡ true
 above-turns [] h = refl
 above-turns (turn ∷ turns) h =
     and_from (is_above 10 (line_of (turn_words turn))) (list_all (λ l. is_above 10 l) (map (λ turn. line_of (turn_words turn)) turns))
-    (above-line_of (codes "t") (more_words turn) (above-turn_words turn (All-head CanBeTaken turn turns h)))
+    (above-turn_line turn (All-head CanBeTaken turn turns h))
     (above-turns turns (All-tail CanBeTaken turn turns h))
 
 -- ---- runs
 
 above-run : (count : ℕ) → count ≤ MOST_REPEATED → list_all (λ w. is_above 32 w) (codes "run" ∷ decimal count ∷ []) ≡ true
 above-run count most = rw (above-decimal count (omega arith)) refl
+
+pub above-run_line : (count : ℕ) → count ≤ MOST_REPEATED → is_above 10 (run_line count) ≡ true
+above-run_line count most = above-line_of (codes "run") (decimal count ∷ []) (above-run count most)
 
 pub line_turns-run : (count : ℕ) → 1 ≤ count → count ≤ MOST_REPEATED → option_map line_turns (line_in (words_of (run_line count))) ≡ Some (replicate count plain_turn)
 line_turns-run count some most =
@@ -223,13 +229,25 @@ above-side_line side config h =
     ((letter_of side ∷ []) ∷ encode_lower (reverse config.public) ∷ encode_lower (to_be_bytes w32 config.cursor) ∷ map random_word_text config.words.items)
     (above-side_words side config h)
 
-above-lines : (a b : Config) (turns : List Turn) → CanBeSet a → CanBeSet b → All CanBeTaken turns → list_all (λ l. is_above 10 l) (schedule_lines a b turns) ≡ true
-above-lines a b turns ha hb ht =
-    and_from (is_above 10 (line_of (side_words A a))) (is_above 10 (line_of (side_words B b)) && list_all (λ l. is_above 10 l) (map (λ turn. line_of (turn_words turn)) turns))
+above-lines : (a b : Config) (lines : List (List ℕ)) → CanBeSet a → CanBeSet b → list_all (λ l. is_above 10 l) lines ≡ true
+    → list_all (λ l. is_above 10 l) (codes "ble-schedule 1" ∷ line_of (side_words A a) ∷ line_of (side_words B b) ∷ lines) ≡ true
+above-lines a b lines ha hb above =
+    and_from (is_above 10 (line_of (side_words A a))) (is_above 10 (line_of (side_words B b)) && list_all (λ l. is_above 10 l) lines)
     (above-side_line A a ha)
-    (and_from (is_above 10 (line_of (side_words B b))) (list_all (λ l. is_above 10 l) (map (λ turn. line_of (turn_words turn)) turns))
-    (above-side_line B b hb) (above-turns turns ht))
+    (and_from (is_above 10 (line_of (side_words B b))) (list_all (λ l. is_above 10 l) lines) (above-side_line B b hb) above)
+
+-- the settings in the plainest form, and lines of turns
+pub schedule_of-lines : (a b : Config) (lines : List (List ℕ)) (turns : List Turn) → CanBeSet a → CanBeSet b → list_all (λ l. is_above 10 l) lines ≡ true
+    → turns_from 4 [] lines ≡ Ok turns
+    → schedule_of (concat (map with_newline (codes "ble-schedule 1" ∷ line_of (side_words A a) ∷ line_of (side_words B b) ∷ lines))) ≡ Right a b turns
+schedule_of-lines a b lines turns ha hb above read =
+    rw (
+      lines_of-with_newline (codes "ble-schedule 1" ∷ line_of (side_words A a) ∷ line_of (side_words B b) ∷ lines) (above-lines a b lines ha hb above),
+      config_in_line-spelled A a ha,
+      config_in_line-spelled B b hb,
+      read,
+    ) refl
 
 pub schedule_of-schedule_text : (a b : Config) (turns : List Turn) → CanBeSet a → CanBeSet b → All CanBeTaken turns → length turns ≤ MOST_TURNS → schedule_of (schedule_text a b turns) ≡ Right a b turns
 schedule_of-schedule_text a b turns ha hb ht short =
-    rw (lines_of-with_newline (schedule_lines a b turns) (above-lines a b turns ha hb ht), config_in_line-spelled A a ha, config_in_line-spelled B b hb, turns_from-lines 4 [] turns ht (omega arith)) refl
+    schedule_of-lines a b (map (λ turn. line_of (turn_words turn)) turns) turns ha hb (above-turns turns ht) (turns_from-lines 4 [] turns ht (omega arith))

@@ -10,3 +10,6 @@ pub mod Script
 pub mod SideLine
 pub mod Spelling
 pub mod TurnLine
+pub mod RandomOctets
+pub mod LoadStreams
+pub mod LoadSchedule

@@ -19,6 +19,7 @@
 //!   one into which 1 to 264 octets are xored from place P on, 0 to 263.
 #![tactic(auto)]
 
+mod draws;
 mod fate_words;
 mod fates;
 mod faults;
@@ -26,13 +27,17 @@ mod kept_fates;
 mod laws;
 mod limits;
 mod lines;
+mod load_text;
+mod loads;
 mod numbers;
 mod schedules;
 mod side_lines;
+mod streams;
 mod turns;
 
 pub use crate::fates::Fate;
 pub use crate::faults::ScheduleFault;
-pub use crate::laws::{a_run_is_plain_turns, every_schedule_is_read};
+pub use crate::laws::{a_load_has_a_schedule, a_run_is_plain_turns, every_schedule_is_read};
 pub use crate::limits::{LAST_PLACE, MOST_FED, MOST_REPEATED, MOST_TURNS};
+pub use crate::loads::{Load, make_load};
 pub use crate::schedules::Schedule;
