@@ -1,11 +1,11 @@
 -- The counts of an end as it begins, sends and receives are those that a journal has for it.
-use Rattle.std.proofs.Common.{◌≡◌, ℕ, ◌+◌, ◌<◌, ◌≤◌, ◌==◌, ◌&&◌, ◌||◌, not, Bool, true, false, Some, List, [], ◌∷◌, ◌++◌, length, refl, sym, ap, subst, ◌∙◌, arith}
+use Rattle.std.proofs.Common.{◌≡◌, ℕ, ◌+◌, ◌≤◌, ◌==◌, ◌&&◌, ◌||◌, not, Bool, true, false, Some, List, [], ◌∷◌, ◌++◌, length, refl, sym, ap, subst, ◌∙◌, arith}
 use Rattle.std.specs.Prelude.{if◌then◌else◌}
 use Rattle.std.proofs.lemmas.Bool.{eqb-true, eqb-false, and_left}
 use Rattle.std.proofs.lemmas.List.{length_push}
 use Rattle.ble_base.specs.declared.verdicts.Verdict.TheVariants.{Good}
 use Rattle.ack_bit.specs.AckBits.{is_new}
-use Rattle.journal_packets.specs.link_model.Acknowledgement.{Acknowledgement, Pdu, after_sending, bits_of, first_acknowledgement, is_acked, next_sent, received_by}
+use Rattle.journal_packets.specs.link_model.Acknowledgement.{Acknowledgement, Pdu, after_sending, bits_of, first_acknowledgement, is_acked, received_by}
 use Rattle.journal_packets.specs.link_model.Data.{is_accepted, is_data, is_empty}
 use Rattle.journal_packets.specs.link_model.Controls.{pdu_fixed}
 use Rattle.journal_packets.specs.link_model.Facts.{Facts}
@@ -15,9 +15,10 @@ use Rattle.journal_packets.specs.link_model.Receiving.{accepts, facts_before_tak
 use Rattle.journal_packets.specs.link_model.Setup.{Setup as EndSetup}
 use Rattle.journal_packets.specs.link_model.Step.{PacketSent, PacketReceived}
 use Rattle.journal_packets.proofs.link_model.Acknowledging.{ack_before_taking}
+use Rattle.journal_packets.proofs.link_model.Agreeing.{ack_ahead as sent_ack}
 use Rattle.journal_packets.proofs.link_model.Hearing.{IsHeardWhole}
 use Rattle.journal_packets.specs.open_links.OpenLinks.{OpenLink, facts_in, link_after}
-use Rattle.journal_packets.proofs.run_laws.Agreed.{ack_of, ack_sent, sent_ack, step_facts}
+use Rattle.journal_packets.proofs.run_laws.Agreed.{ack_of, ack_sent, step_facts}
 use Rattle.journal_packets.specs.run_laws.Ranges.{IsReadable}
 use Rattle.journal_packets.specs.run_laws.Shapes.{AgreeInShape}
 use Rattle.journal_packets.proofs.run_laws.AgreeingShapes.{heard_shapes, shapes_acked, shapes_fresh, shapes_high, shapes_low}
@@ -61,11 +62,6 @@ pub empty_is_no_data : (pdu : Pdu) → is_empty pdu ≡ true → is_data pdu ≡
 empty_is_no_data pdu is =
     is_none (pdu.llid == 0) (length pdu.body == 0) (pdu.llid == 1) (pdu.llid == 2)
     (λ zero. ap (λ n. n == 1 || n == 2) (eqb-true pdu.llid 0 zero)) is
-
--- while a PDU is not acknowledged, the same one is sent again
-pub sent_again : (ack : Acknowledgement) (next : Pdu) (acked : Bool) → is_acked ack ≡ acked → ack.acked < length ack.sent → (next_sent acked next ack).sent ≡ ack.sent
-sent_again ack next true is out = absurd (let same = eqb-true ack.acked (length ack.sent) is in omega (arith, same, out))
-sent_again ack next false is out = refl
 
 counted : (fresh : Bool) (accepted : List Pdu) (pdu : Pdu) (count : ℕ) → fresh ≡ (count == length accepted + 1)
     → length accepted ≤ count → count ≤ length accepted + 1

@@ -7,8 +7,7 @@ use Rattle.ble_base.specs.declared.roles.Role.{Role}
 use Rattle.ble_base.specs.declared.roles.Role.TheVariants.{Central, Peripheral}
 use Rattle.ble_base.specs.declared.roles.Side.{Side}
 use Rattle.ble_base.specs.declared.roles.Side.TheVariants.{A, B}
-use Rattle.ble_base.specs.declared.verdicts.Verdict.{Verdict}
-use Rattle.ble_base.specs.declared.verdicts.Verdict.TheVariants.{Broken as IsBroken, Forged, Good, Missed}
+use Rattle.ble_base.specs.declared.verdicts.Verdict.TheVariants.{Forged, Good}
 use Rattle.air_frame.specs.Packet.{access_octets}
 use Rattle.journal_packets.specs.link_model.Packets.{pdu_sent, verdict_of}
 use Rattle.journal_packets.specs.link_model.Data.{is_empty}
@@ -34,14 +33,14 @@ use Rattle.link_calls.specs.run_model.Journal.{journal_of, side_of}
 use Rattle.link_calls.specs.run_model.LinkEnds.{HaveAddresses}
 use Rattle.link_calls.specs.run_model.Links.{is_advertising}
 use Rattle.link_calls.specs.run_model.Run.{Given, facts_at, hearings_of, setup_at, unseen_in, use_at}
-use Rattle.link_calls.proofs.run_model.LinkEnds.{is_listener, received_own}
+use Rattle.link_calls.proofs.run_model.LinkEnds.{is_listener, received_own, wanted_is}
 use Rattle.link_calls.proofs.run_model.Stations.{is_in, among, in_more_other, in_more_same, not_before}
+use Rattle.link_calls.proofs.run_model.Unseen.{good_is}
 use Rattle.link_calls.proofs.run_model.Walk.{Place, AtPackets}
 use Rattle.journal_packets.specs.run_laws.Ends.{HaveOneConnectInd}
 use Rattle.journal_packets.proofs.run_laws.Agreed.{AgreeIn, ack_of}
 use Rattle.journal_packets.proofs.run_laws.ByCalls.{Holds}
 use Rattle.journal_packets.proofs.run_laws.ConnectInds.{on_channel}
-use Rattle.journal_packets.proofs.run_laws.Hearings.{wanted_is}
 use Rattle.journal_packets.proofs.run_laws.InAgreement.{AreStations, WithAllIn, differs_back}
 use Rattle.journal_packets.proofs.run_laws.OpenSteps.{open_has}
 use Rattle.journal_packets.proofs.run_laws.OwnLinks.{sent_begins}
@@ -64,12 +63,6 @@ use Rattle.journal_acks.proofs.Standing.{AreOne, listener_role, listener_sends, 
 use Rattle.journal_packets.proofs.run_laws.Payloads.{payload_is, payload_short}
 use Rattle.journal_packets.proofs.run_laws.Pieces.{sent_readable}
 use Rattle.journal_acks.proofs.TwoStations.{IsHearing, IsOfTwo, after_air, air_of_link, air_quiet, good_handed, handed_begins, hearing_of, link_hears, one_hearing, other_is, other_of, reached, same_number, sent_empty, side_differs, side_other, side_same, unchanged}
-
-only_good : (verdict : Verdict) → is_good verdict ≡ true → verdict ≡ Good
-only_good Good is = refl
-only_good Missed is = absurd cc
-only_good IsBroken is = absurd cc
-only_good Forged is = absurd cc
 
 -- ---- the counts of a side after a packet
 
@@ -125,7 +118,7 @@ takes unsent octets handle turn link end on none is =
     any_sending false unsent (Some octets) handle turn link end none
     (subst (λ b. IsCounted end (ack_taking b (Some octets) turn.slot link)) (sym on) is)
 
-listener_off : (handle : ℕ) (turn : Turn) → sends_under handle turn.doing ≡ true → (listens : Bool) → listens_under handle turn.doing ≡ listens → listens ≡ false
+pub listener_off : (handle : ℕ) (turn : Turn) → sends_under handle turn.doing ≡ true → (listens : Bool) → listens_under handle turn.doing ≡ listens → listens ≡ false
 listener_off handle turn on true is = absurd (let h : true ≡ false = sym on ∙ listener_sends handle turn.doing is in absurd cc)
 listener_off handle turn on false is = refl
 
@@ -415,7 +408,7 @@ module _ (whole : IsHeardWhole) (given : Given) (Q : Place → List Event → Ty
           judged_good : verdict_of link.setup (facts_in link) octets ≡ Good
           judged_good =
               ap (verdict_of link.setup (facts_in link)) (sym same) ∙ ap (λ (l : OpenLink). verdict_of l.setup (facts_in l) heard) one.links
-              ∙ sym listening.verdict_is ∙ only_good hearing.verdict good
+              ∙ sym listening.verdict_is ∙ good_is hearing.verdict good
 
           before_taken : IsCounted (exchange_at (number_at other handle history) history (side_of other)) (ack_of link)
           before_taken = before_heard is_too differs silent handle link is_open listens

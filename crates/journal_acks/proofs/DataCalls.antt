@@ -11,6 +11,7 @@ use Rattle.journal_packets.specs.link_model.End.{notes_after as end_notes}
 use Rattle.journal_packets.specs.link_model.Packets.{good_pdu}
 use Rattle.journal_packets.specs.link_model.Step.{PacketSent}
 use Rattle.journal_packets.specs.open_links.OpenLinks.{Links, OpenLink, facts_in, link_after, link_at, with_change}
+use Rattle.journal_packets.proofs.Replies.{receiving_setup as received_setup_is}
 use Rattle.journal_packets.proofs.open_links.Handles.{handle_is}
 use Rattle.journal_packets.specs.controller_model.declared.doing.Doing.{Doing}
 use Rattle.journal_packets.specs.controller_model.declared.doing.Doing.TheVariants.{Advertises, CentralSends, CentralListens, PeripheralListens}
@@ -42,7 +43,7 @@ use Rattle.link_calls.specs.Uses.{listens_under, sends_under}
 use Rattle.journal_acks.proofs.PhaseNotes.{IsOnLink, IsPhaseOf, IsPlainPhase, SendsFrom, SendsNothing, SendsOne, sends_from}
 use Rattle.link_calls.proofs.UnderHandles.{change_by}
 use Rattle.journal_acks.proofs.TwoStations.{same_number}
-use Rattle.journal_acks.proofs.Worded.{link_worded, received_setup_is, worded, worded_here, worded_setup}
+use Rattle.journal_acks.proofs.Worded.{link_worded, worded, worded_here, worded_setup}
 
 -- the link with a number began before this turn
 pub record IsBegunBefore (number : ℕ) (history : List Event) : Type 0 where

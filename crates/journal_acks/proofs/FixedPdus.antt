@@ -4,9 +4,10 @@ use Rattle.std.proofs.lemmas.Bool.{eqb-true, eqb-false}
 use Rattle.std.proofs.lemmas.List.{length_push}
 use Rattle.journal_packets.specs.link_model.Acknowledgement.{Acknowledgement, Pdu, is_acked, next_sent}
 use Rattle.journal_packets.specs.link_model.Controls.{pdu_fixed}
+use Rattle.journal_packets.proofs.link_model.Agreeing.{ack_ahead as sent_ack}
 use Rattle.journal_packets.proofs.link_model.Counts.{past_counts}
 use Rattle.journal_packets.specs.open_links.OpenLinks.{OpenLink, facts_in}
-use Rattle.journal_packets.proofs.run_laws.Agreed.{ack_of, sent_ack}
+use Rattle.journal_packets.proofs.run_laws.Agreed.{ack_of}
 
 -- ---- what was sent
 

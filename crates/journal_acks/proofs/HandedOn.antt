@@ -90,7 +90,7 @@ forged_counted unsent received octets handle turn link end none forged was = by 
 
 -- ---- a station that listens on a link judges a packet as that link does
 
-doing_link : (links : Links) (doing : Doing) (handle : ℕ) (link : OpenLink) (octets : List ℕ) → listens_under handle doing ≡ true → link_at handle links ≡ Some link
+pub doing_link : (links : Links) (doing : Doing) (handle : ℕ) (link : OpenLink) (octets : List ℕ) → listens_under handle doing ≡ true → link_at handle links ≡ Some link
     → verdict_doing links doing octets ≡ verdict_of link.setup (facts_in link) octets
 doing_link links (CentralListens other) handle link octets on at =
     (λ i. verdict_doing links (CentralListens (eqb-true other handle on i)) octets) ∙ ap (λ found. verdict_of_link found octets) at

@@ -1,5 +1,5 @@
 -- Each step of a run of a pair keeps what the counts of its journal are, end by end.
-use Rattle.std.proofs.Common.{◌≡◌, ℕ, suc, ◌+◌, ◌-◌, ◌<◌, ◌==◌, ◌⊎◌, inl, inr, Bool, true, false, not, Option, Some, None, List, [], ◌∷◌, ◌++◌, length, refl, sym, ap, subst, ◌∙◌, append_assoc, arith}
+use Rattle.std.proofs.Common.{◌≡◌, ℕ, suc, ◌+◌, ◌-◌, ◌<◌, ◌==◌, inl, inr, Bool, true, false, not, Option, Some, None, List, [], ◌∷◌, ◌++◌, length, refl, sym, ap, subst, ◌∙◌, append_assoc, arith}
 use Rattle.std.specs.Prelude.{All, map, take, if◌then◌else◌}
 use Rattle.std.proofs.lemmas.Bool.{eqb-true, false_from_ne_true}
 use Rattle.std.proofs.lemmas.List.Elements.{All-append, All-nil}
@@ -33,12 +33,12 @@ use Rattle.link_calls.specs.run_model.LinkEnds.{HaveAddresses}
 use Rattle.link_calls.specs.run_model.Links.{is_advertising}
 use Rattle.link_calls.specs.run_model.Run.{Given, after_call, after_feed, after_octets, facts_at, hearings_of, octets_left, setup_at, step_of, use_at}
 use Rattle.link_calls.proofs.run_model.Calls.{same_station, turns_called}
-use Rattle.link_calls.proofs.run_model.LinkEnds.{received_by, received_event, received_own}
+use Rattle.link_calls.proofs.run_model.LinkEnds.{received_by, received_event, received_own, wanted_is}
 use Rattle.link_calls.proofs.run_model.Stations.{is_in, among, in_more_other, in_more_same, not_before}
 use Rattle.link_calls.proofs.run_model.Walk.{Place, NoTurn, AtFeeds, AtBegins, AfterPhases, AtPackets, AtListening, AtEnds, IsKept}
 use Rattle.journal_packets.proofs.run_laws.Agreed.{ack_of}
 use Rattle.journal_packets.proofs.run_laws.ByCalls.{Holds, holds_kept}
-use Rattle.journal_packets.proofs.run_laws.Hearings.{own_facts, use_sent_at, wanted_is}
+use Rattle.journal_packets.proofs.run_laws.Hearings.{own_facts, use_sent_at}
 use Rattle.journal_packets.proofs.run_laws.Entering.{IsInTurn}
 use Rattle.journal_packets.proofs.run_laws.InAgreement.{AreStations, IsStation, OpenedBefore, differs_back, stations_kept}
 use Rattle.journal_packets.proofs.run_laws.LinkPasses.{is_on_link}
@@ -58,8 +58,9 @@ use Rattle.link_calls.proofs.CallNotes.{OpensNone, opening_none}
 use Rattle.journal_acks.proofs.Exchanging.{exchange_at, exchange_called, exchange_took, feed_quiet, number_at, number_called, number_quiet, turn_quiet}
 use Rattle.journal_acks.proofs.FirstCounts.{AreFirst, IsCallOf, IsFirst, OfNone, first_called, first_event, first_event_at, first_of}
 use Rattle.link_calls.specs.Phases.{HasPassed, IsNew, Stays, Takes}
-use Rattle.link_calls.proofs.LinkCalls.{IsOpenedNow, base_ack, begins_under, passes_under, phase_quiet}
+use Rattle.link_calls.proofs.LinkCalls.{base_ack, begins_under}
 use Rattle.link_calls.specs.Uses.{listens_under, sends_under}
+use Rattle.journal_acks.proofs.PassedLinks.{passed_or_new}
 use Rattle.journal_acks.proofs.PhaseNotes.{IsOnLink, IsPhaseOf, IsPlainPhase, IsTakenSo, Noted, Unnoted, phase_of, same_but, taken_so}
 use Rattle.journal_acks.proofs.SentLines.{air_line, feed_line, turn_line}
 use Rattle.journal_acks.proofs.Standing.{PhasedBy, fresh_counted, last_phase, phased_at, sending_on_link, silent_sends}
@@ -490,16 +491,10 @@ module _ (given : Given) (Q : Place → List Event → Type 0) (known : AreKnown
 
   pub passes_own : (handle : ℕ) (link : OpenLink) → link_at handle (facts_at given station after).links ≡ Some link
       → IsEndCounted true (packet_received station after) handle (facts_at given station after).turn link (exchange_at (number_at station handle after) after (side_of station))
-  passes_own handle link at = by (phase_quiet (setup_at given station) facts received handle)
-    where
-      by : All (OpensNone handle) (notes_after (setup_at given station) (facts_at given station history) (step_of (packet_received station history)))
-          ⊎ ((one : OpenLink) → link_at handle (facts_after (setup_at given station) (facts_at given station history) (step_of (packet_received station history))).links ≡ Some one
-          → IsOpenedNow (facts_at given station history).turn.slot one)
-          → IsEndCounted true (packet_received station after) handle (facts_at given station after).turn link (exchange_at (number_at station handle after) after (side_of station))
-      by (inl quiet) =
-          passed handle link at (number_called given station (step_of received) history handle quiet)
-          (passes_under (setup_at given station) facts received handle link phased.uses.in_turn.listens (own_at given station (step_of received) history handle link at))
-      by (inr new) = fresh handle link at (new link (own_at given station (step_of received) history handle link at)).opened
+  passes_own handle link at =
+      passed_or_new given station history phased.uses.in_turn.listens
+      (IsEndCounted true (packet_received station after) handle (facts_at given station after).turn link (exchange_at (number_at station handle after) after (side_of station))) handle link at
+      (passed handle link at) (λ new. fresh handle link at new.opened)
 
 -- what is sent on a data channel is sent on a link
 sends_on_link : (held : Facts) (channel : ℕ) (octets : List ℕ) → is_advertising channel ≡ false → IsUseSent held (Sends channel octets) → is_on_link held.turn.doing ≡ true
@@ -514,9 +509,6 @@ later_sender one done station out false is = refl
 
 module _ (whole : IsHeardWhole) (given : Given) (Q : Place → List Event → Type 0) (known : AreKnown given Q) (are_two : IsOfTwo given) (six : HaveAddresses given)
     (distinct : AreDistinct given.stations) where
-  P : Place → List Event → Type 0
-  P place history = AreCountedAt given Q place history
-
   still_silent : (phases : ℕ) (done left : List ℕ) (station : ℕ) (history : List Event) → IsSilent given (AtPackets phases done (station ∷ left)) history
       → IsSilent given (AtPackets phases (done ++ station ∷ []) left) history
   still_silent phases done left station history silent = λ other sender in_it is_too differs out.

@@ -1,5 +1,5 @@
 -- Each step of a run of a pair keeps which PDU the lines of new PDUs say that an end has sent last.
-use Rattle.std.proofs.Common.{◌≡◌, ℕ, ◌+◌, ◌-◌, ◌<◌, ◌==◌, ◌&&◌, ◌⊎◌, inl, inr, not, Bool, true, false, Option, Some, None, List, [], ◌∷◌, ◌++◌, length, refl, sym, ap, subst, ◌∙◌, append-nil, arith}
+use Rattle.std.proofs.Common.{◌≡◌, ℕ, ◌+◌, ◌-◌, ◌<◌, ◌==◌, ◌&&◌, not, Bool, true, false, Option, Some, None, List, [], ◌∷◌, ◌++◌, length, refl, sym, ap, subst, ◌∙◌, append-nil, arith}
 use Rattle.std.specs.Prelude.{All, map, take, if◌then◌else◌}
 use Rattle.std.proofs.lemmas.Bool.{eqb-true, eq-eqb, false_from_ne_true, ne_eqb}
 use Rattle.std.proofs.lemmas.List.{length_push}
@@ -11,6 +11,8 @@ use Rattle.journal_packets.specs.link_model.Setup.{Setup as EndSetup}
 use Rattle.journal_packets.specs.link_model.Controls.{pdu_fixed}
 use Rattle.journal_packets.specs.link_model.Sending.{sent_notes_if}
 use Rattle.journal_packets.specs.link_model.Facts.{Facts as EndFacts}
+use Rattle.journal_packets.proofs.Replies.{receiving_setup as received_setup_is}
+use Rattle.journal_packets.proofs.link_model.Agreeing.{ack_ahead as sent_ack}
 use Rattle.journal_packets.proofs.link_model.Hearing.{IsHeardWhole}
 use Rattle.journal_packets.specs.link_model.Step.{PacketReceived, PacketSent}
 use Rattle.journal_packets.specs.open_links.OpenLinks.{OpenLink, facts_in, link_after, link_at}
@@ -33,7 +35,7 @@ use Rattle.link_calls.specs.run_model.Run.{Given, after_call, after_feed, after_
 use Rattle.link_calls.proofs.run_model.Calls.{turns_called}
 use Rattle.link_calls.proofs.run_model.Stations.{is_in, among, not_before}
 use Rattle.link_calls.proofs.run_model.Walk.{Place, AtBegins, AtListening, IsKept}
-use Rattle.journal_packets.proofs.run_laws.Agreed.{ack_of, ack_sent, sent_ack}
+use Rattle.journal_packets.proofs.run_laws.Agreed.{ack_of, ack_sent}
 use Rattle.journal_packets.proofs.run_laws.ByCalls.{Holds}
 use Rattle.journal_packets.proofs.run_laws.Hearings.{other_facts, own_facts}
 use Rattle.journal_packets.proofs.run_laws.InAgreement.{AreStations, IsFresh, IsStation, differs_back}
@@ -52,16 +54,17 @@ use Rattle.link_calls.specs.Ranges.{HasRanges}
 use Rattle.link_calls.proofs.InRange.{ranges_before}
 use Rattle.link_calls.proofs.Pieces.{fixed_whole}
 use Rattle.journal_acks.proofs.KeptCounts.{AreCountedAt, before_call, call_is, counts_kept, link_then, own_at, phased, station_is, was_taking}
-use Rattle.link_calls.proofs.LinkCalls.{HasBegun, IsOpenedNow, base_ack, begins_under, begun_before, passes_under, phase_quiet, received_noted, taking_opens, taking_sends}
+use Rattle.link_calls.proofs.LinkCalls.{HasBegun, base_ack, begins_under, begun_before, received_noted, taking_opens, taking_sends}
 use Rattle.link_calls.specs.Phases.{HasPassed, IsNew, Stays, Takes}
 use Rattle.link_calls.specs.Uses.{listens_under, sends_under}
+use Rattle.journal_acks.proofs.PassedLinks.{passed_or_new}
 use Rattle.journal_acks.proofs.PhaseNotes.{IsOnLink, IsPhaseOf, IsPlainPhase, HasSentSame, SendsFrom, SendsNothing, SendsOne, doing_notes, notes_when, phase_of, same_but, sends_from, sent_same}
 use Rattle.journal_acks.proofs.SentLines.{air_line, feed_line, line_called, line_other, line_sent, sent_line_at, turn_line}
 use Rattle.journal_acks.proofs.Standing.{PhasedBy, phased_at, reply_under, sends_once}
 use Rattle.journal_acks.proofs.TwoStations.{IsOfTwo, other_is, same_number, side_differs}
 use Rattle.link_calls.proofs.UnderHandles.{end_under, octet_under}
 use Rattle.link_calls.specs.Turns.{sent_if}
-use Rattle.journal_acks.proofs.Worded.{link_worded, received_ack_is, received_setup_is, worded, worded_heard, worded_here, worded_setup}
+use Rattle.journal_acks.proofs.Worded.{link_worded, received_ack_is, worded, worded_heard, worded_here, worded_setup}
 
 -- the PDU that an end has sent last is that of the line, if no other was sent since, and else an empty one
 pub record IsLined (line : Option SentLine) (ack : Acknowledgement) : Type 0 where
@@ -489,17 +492,10 @@ module _ (given : Given) (Q : Place → List Event → Type 0) (known : AreKnown
 
   passes_own : (handle : ℕ) (link : OpenLink) → link_at handle (facts_at given station after).links ≡ Some link
       → IsLined (sent_line_at (number_at station handle after) after (side_of station)) (ack_of link)
-  passes_own handle link at = by (phase_quiet (setup_at given station) facts received handle)
-    where
-      by : All (OpensNone handle) (notes_after (setup_at given station) (facts_at given station history) (step_of (packet_received station history)))
-          ⊎ ((one : OpenLink) → link_at handle (facts_after (setup_at given station) (facts_at given station history) (step_of (packet_received station history))).links ≡ Some one
-          → IsOpenedNow (facts_at given station history).turn.slot one)
-          → IsLined (sent_line_at (number_at station handle after) after (side_of station)) (ack_of link)
-      by (inl quiet) =
-          passed handle link at (number_called given station (step_of received) history handle quiet)
-          (passes_under (setup_at given station) facts received handle link
-          (phased given Q known distinct phases done left station history are is q holds).uses.in_turn.listens (own_at given station (step_of received) history handle link at))
-      by (inr new) = fresh handle link at (new link (own_at given station (step_of received) history handle link at)).opened
+  passes_own handle link at =
+      passed_or_new given station history (phased given Q known distinct phases done left station history are is q holds).uses.in_turn.listens
+      (IsLined (sent_line_at (number_at station handle after) after (side_of station)) (ack_of link)) handle link at (passed handle link at)
+      (λ new. fresh handle link at new.opened)
 
 -- ---- each step
 

@@ -9,6 +9,7 @@ pub mod FirstCounts
 pub mod Standing
 pub mod Worded
 pub mod PhaseNotes
+pub mod PassedLinks
 pub mod DataCalls
 pub mod HandedOn
 pub mod AirCounts

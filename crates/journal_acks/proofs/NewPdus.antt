@@ -14,6 +14,7 @@ use Rattle.journal_packets.specs.link_model.Setup.{Setup as EndSetup}
 use Rattle.journal_packets.specs.link_model.Controls.{pdu_fixed}
 use Rattle.journal_packets.specs.link_model.Sending.{sent_notes, sent_notes_if}
 use Rattle.journal_packets.specs.link_model.Step.{PacketSent}
+use Rattle.journal_packets.proofs.Replies.{receiving_setup as received_setup_is}
 use Rattle.journal_packets.proofs.link_model.Hearing.{IsHeardWhole}
 use Rattle.journal_packets.specs.open_links.OpenLinks.{OpenLink, facts_in, link_after, link_at}
 use Rattle.journal_packets.proofs.open_links.Handles.{handle_is}
@@ -60,7 +61,7 @@ use Rattle.journal_acks.proofs.PhaseNotes.{IsOnLink, IsPhaseOf, IsPlainPhase, Se
 use Rattle.journal_acks.proofs.RunCounts.{counts_first}
 use Rattle.journal_acks.proofs.Standing.{PhasedBy, phased_at}
 use Rattle.journal_acks.proofs.TwoStations.{IsOfTwo, same_number}
-use Rattle.journal_acks.proofs.Worded.{link_worded, received_ack_is, received_setup_is, worded, worded_heard, worded_here, worded_setup}
+use Rattle.journal_acks.proofs.Worded.{link_worded, received_ack_is, worded, worded_heard, worded_here, worded_setup}
 
 -- ---- the notes of a call
 
@@ -268,7 +269,7 @@ module _ (whole : IsHeardWhole) (given : Given) (Q : Place → List Event → Ty
 
 -- ---- a line
 
-in_middle : (P : Note → Type 0) (earlier later : List Note) (note : Note) → All P (earlier ++ note ∷ later) → P note
+pub in_middle : (P : Note → Type 0) (earlier later : List Note) (note : Note) → All P (earlier ++ note ∷ later) → P note
 in_middle P [] later note all = All-head P note later all
 in_middle P (first ∷ earlier) later note all = in_middle P earlier later note (All-tail P first (earlier ++ note ∷ later) all)
 

@@ -51,6 +51,7 @@ use Rattle.journal_packets.proofs.run_laws.Agreed.{ack_of}
 use Rattle.journal_acks.proofs.Acks.{empty_is_no_data}
 use Rattle.journal_acks.proofs.Counting.{accepted_before, ack_taking, has_own_line}
 use Rattle.link_calls.proofs.CallNotes.{HasNoData, OpensNone, TakesNone, events_noted, no_data}
+use Rattle.link_calls.proofs.RadioUses.{first_of_both}
 use Rattle.link_calls.proofs.Worded.{received_ack}
 use Rattle.link_calls.specs.Uses.{listens_under, sends_under}
 use Rattle.journal_acks.proofs.TwoStations.{same_number}
@@ -122,12 +123,8 @@ second_true : (one other : Bool) → other ≡ true → (one && other) ≡ false
 second_true true other is none = absurd (let h : true ≡ false = sym is ∙ none in absurd cc)
 second_true false other is none = refl
 
-first_true : (one other : Bool) → (one && other) ≡ true → one ≡ true
-first_true true other is = refl
-first_true false other is = absurd cc
-
 -- what is noted of procedures
-done_takes : (handle : ℕ) (kind : Option Kind) → All TakesNone (done_notes handle kind)
+pub done_takes : (handle : ℕ) (kind : Option Kind) → All TakesNone (done_notes handle kind)
 done_takes handle None = All-nil TakesNone
 done_takes handle (Some kind) = All-cons TakesNone _ [] refl (All-nil TakesNone)
 
@@ -135,11 +132,11 @@ done_opens : (handle : ℕ) (kind : Option Kind) (other : ℕ) → All (OpensNon
 done_opens handle None other = All-nil (OpensNone other)
 done_opens handle (Some kind) other = All-cons (OpensNone other) _ [] refl (All-nil (OpensNone other))
 
-refused_takes : (handle : ℕ) (refused : Option (Kind × ErrCode)) → All TakesNone (refused_notes handle refused)
+pub refused_takes : (handle : ℕ) (refused : Option (Kind × ErrCode)) → All TakesNone (refused_notes handle refused)
 refused_takes handle None = All-nil TakesNone
 refused_takes handle (Some (kind, code)) = All-cons TakesNone _ [] refl (All-nil TakesNone)
 
-given_takes : (handle : ℕ) (given : Taken) → All TakesNone (given_notes handle given)
+pub given_takes : (handle : ℕ) (given : Taken) → All TakesNone (given_notes handle given)
 given_takes handle given =
     All-append TakesNone (refused_notes handle given.refused) (done_notes handle given.done) (refused_takes handle given.refused) (done_takes handle given.done)
 
@@ -221,7 +218,7 @@ module _ (slot : ℕ) (octets : List ℕ) (room : Bool) (link : OpenLink) where
           (done_takes own_handle (kind_by pdu)) (done_opens own_handle (kind_by pdu)) (later_takes pdu)
           (ap (λ (a : Acknowledgement). length a.accepted) (ack_is room pdu is)
           ∙ ap (λ b. length (received_by acked b (pdu_of pdu) own).accepted)
-          (first_true (accepts room (header_in pdu) (pdu_of pdu) (before pdu)) (not (is_empty (pdu_of pdu))) noted)
+          (first_of_both (accepts room (header_in pdu) (pdu_of pdu) (before pdu)) (not (is_empty (pdu_of pdu))) noted)
           ∙ length_push own.accepted (pdu_of pdu))
       noted_by pdu is false noted =
           Unnoted
@@ -303,7 +300,7 @@ unheard_plain other facts = nothing
 
 under_plain : (free : Option ℕ) (own : Address) (pdu : AdvPdu) (fields : ConnectFields) (facts : Facts) → IsPlain (taken_under free own pdu fields facts)
 under_plain None own pdu fields facts = nothing
-under_plain (Some handle) own pdu fields facts = opens_plain (link_taken own pdu fields handle) facts
+under_plain (Some handle) own pdu fields facts = opens_plain (link_taken facts.view own pdu fields handle) facts
 
 if_plain : (new : Bool) (own : Address) (pdu : AdvPdu) (fields : ConnectFields) (facts : Facts) → IsPlain (taken_if new own pdu fields facts)
 if_plain false own pdu fields facts = nothing

@@ -1,9 +1,8 @@
 -- A packet of one of two stations, as the other one hears it, and its line in the journal.
-use Rattle.std.proofs.Common.{◌≡◌, ℕ, zero, suc, ◌+◌, ◌<◌, ◌≤◌, ◌==◌, nat_le, ◌&&◌, ◌||◌, ◌⊎◌, inl, inr, Bool, true, false, not, Option, Some, None, List, [], ◌∷◌, ◌++◌, length, take, refl, sym, ap, subst, ◌∙◌, arith}
+use Rattle.std.proofs.Common.{◌≡◌, ℕ, zero, suc, ◌<◌, ◌≤◌, ◌==◌, ◌&&◌, ◌||◌, ◌⊎◌, inl, inr, Bool, true, false, not, Option, Some, None, List, [], ◌∷◌, ◌++◌, length, take, refl, sym, ap, subst, ◌∙◌, arith}
 use Rattle.std.specs.Prelude.{if◌then◌else◌}
 use Rattle.std.specs.Str.{bytes_eq}
 use Rattle.std.proofs.lemmas.Bool.{eqb-true, eqb-false, false_from_ne_true}
-use Rattle.std.proofs.lemmas.Bool.Decides.{nat_tests}
 use Rattle.std.proofs.lemmas.Slice.Eq.{bytes_eq-Decides}
 use Rattle.ble_base.specs.Side.{other_side}
 use Rattle.ble_base.specs.declared.roles.Side.{Side}
@@ -22,7 +21,7 @@ use Rattle.journal_packets.specs.link_model.Payload.{opens_now}
 use Rattle.journal_packets.specs.link_model.Verdicts.{verdict_by as verdict_by_end}
 use Rattle.journal_packets.specs.link_model.Setup.{Setup as EndSetup}
 use Rattle.journal_packets.proofs.link_model.Hearing.{IsHeardWhole}
-use Rattle.journal_packets.proofs.link_model.Received.{has_header}
+use Rattle.journal_packets.proofs.link_model.Received.{has_header, in_form}
 use Rattle.journal_packets.specs.open_links.OpenLinks.{OpenLink, facts_in, link_at}
 use Rattle.journal_packets.specs.controller_model.declared.doing.Doing.{Doing}
 use Rattle.journal_packets.specs.controller_model.declared.doing.Doing.TheVariants.{Advertises, AwaitsRequest, Scans, AwaitsResponse, Initiates, CentralListens}
@@ -114,13 +113,6 @@ received_if false good is = absurd cc
 
 pub other_received : (station : ℕ) (hearing : Hearing) → (station == hearing.listener) ≡ true → has_received station (hearing ∷ []) ≡ is_good hearing.verdict
 other_received station hearing same = received_if (station == hearing.listener) (is_good hearing.verdict) same
-
-not_received : (same good : Bool) → same ≡ false → ((same && good) || false) ≡ false
-not_received true good is = absurd cc
-not_received false good is = refl
-
-pub own_received : (station : ℕ) (hearing : Hearing) → (station == hearing.listener) ≡ false → has_received station (hearing ∷ []) ≡ false
-own_received station hearing differs = not_received (station == hearing.listener) (is_good hearing.verdict) differs
 
 -- what is handed on was judged by a station that listens on the channel
 pub record IsReached (wanted : Use) (channel : ℕ) (facts : Facts) (octets : List ℕ) (verdict : Verdict) : Type 0 where
@@ -280,10 +272,6 @@ air_of_link number other station channel octets history hearings hearing are off
     air_exchange number station channel octets history hearings hearing are
     ∙ ap (λ b. after_air (not b && is_number (link_of_packet (journal_of history) (side_of station) octets) number) (side_of station) (is_good hearing.verdict) empty (exchange_at number history)) off
     ∙ ap (λ may. after_air (is_number may number) (side_of station) (is_good hearing.verdict) empty (exchange_at number history)) belongs
-
--- whether the packet of a link carries an empty PDU
-in_form : (count : ℕ) → count ≤ 255 → (nat_le 2 (suc (suc count)) && nat_le (suc (suc count)) 257 && (suc (suc count) == 2 + count)) ≡ true
-in_form count short = grind (arith, nat_tests)
 
 pub sent_empty : IsHeardWhole → (setup : EndSetup) (facts : EndFacts) (link : LinkBegun) (channel : ℕ) (octets : List ℕ) → (pdu_sent facts).llid < 4
     → length (payload_sent facts) ≤ 255 → IsPayload (pdu_sent facts) (payload_sent facts) → link.fields ≡ setup.link.fields → channel ≡ facts.event.channel → octets ≡ packet_sent setup facts

@@ -74,10 +74,3 @@ received_ack_is other room octets facts link = by (refusal_at other room octets 
     by : (refusal : Option EndStep) → IfSome refusal IsAskedStep → ack_of (refused_if refusal taken) ≡ ack_of taken
     by None is = refl
     by (Some step) is = ack_asked step taken is
-
-pub received_setup_is : (other : ℕ) (room : Bool) (octets : List ℕ) (facts : Facts) (link : OpenLink) → (link_receiving other room octets facts link).setup ≡ link.setup
-received_setup_is other room octets facts link = by (refusal_at other room octets facts)
-  where
-    by : (refusal : Option EndStep) → (refused_if refusal (link_after (PacketReceived facts.turn.slot octets room) link)).setup ≡ link.setup
-    by None = refl
-    by (Some step) = refl

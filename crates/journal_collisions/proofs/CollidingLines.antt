@@ -61,7 +61,8 @@ use Rattle.journal_endings.proofs.journal_indications.journal_data.run_model.Num
 use Rattle.journal_endings.proofs.journal_indications.journal_data.run_model.Stations.{is_in}
 use Rattle.journal_endings.proofs.journal_indications.InTime.{role_of_end}
 use Rattle.journal_endings.proofs.journal_indications.LineEnds.{IsEndOfLine, end_of_line, in_it}
-use Rattle.journal_endings.proofs.journal_indications.Receptions.{IsReception, listened}
+use Rattle.journal_endings.proofs.journal_indications.Receptions.{IsReception}
+use Rattle.journal_endings.proofs.run_pairs.FarPackets.{listens_is}
 use Rattle.link_procedures.specs.Running.{runs_after as note_runs, runs_at}
 use Rattle.link_procedures.proofs.Steps.{past_goes}
 use Rattle.journal_endings.specs.link_runs.link_pairs.Hearing.{received}
@@ -84,7 +85,7 @@ pub record IsFirstPdu (llid : ℕ) (body : List ℕ) (q : Kind) : Type 0 where
   pub first : first_of ctrl ≡ Some kind
   pub opcode : first_opcode (kind_of kind) ≡ opcode_of_kind kind
 
-same_kind : (one other : Kind) → Some one ≡ Some other → one ≡ other
+pub same_kind : (one other : Kind) → Some one ≡ Some other → one ≡ other
 same_kind one other is = cc
 
 known_first : (llid : ℕ) (body : List ℕ) (q : Kind) (read : CtrlRead) → llid ≡ 3 → ctrl_of body ≡ read → kind_begun (Some read) ≡ Some q
@@ -177,9 +178,6 @@ module _ (whole_heard : IsHeardWhole) (understood : IsUnderstood) (taken : AreTa
   abbrev room : Bool
   room = has_room (setup_at given call.station) facts
 
-  abbrev end : OpenLink
-  end = heard.link
-
   abbrev setup : EndSetup
   setup = heard.link.setup
 
@@ -261,7 +259,7 @@ module _ (whole_heard : IsHeardWhole) (understood : IsUnderstood) (taken : AreTa
       (received setup facts.turn.slot heard.octets room (facts_in heard.link)) excludes.kind begun.kind
   prevails =
       let distinct = are_distinct given are_pair in
-      let listens = listened call.handle facts.turn.doing heard.listens in
+      let listens = listens_is call.handle facts.turn.doing heard.listens in
       prevail given call.base call.after heard.octets room central peripheral excludes.kind begun.kind distinct six
       (is_of_two given are_pair call.station on) (is_of_two given are_pair (other_of call.station) in_far) at two.ends
       (hear_before understood taken apart given six distinct (are_two given 0 1 are_pair) call.base

@@ -7,13 +7,10 @@ use Rattle.instants.specs.declared.indications.Indication.{Indication}
 use Rattle.instants.specs.Track.{event_of, next_number}
 use Rattle.journal_endings.specs.link_runs.link_pairs.control_model.Control.{Answers, Asks, Control, Disconnects, Enters, Owes, SeesAcknowledged, Sends, Step as ControlStep, Takes, after, following, goes_out, indicated_by, is_to_come, table_if, taken, went}
 use Rattle.journal_endings.specs.link_runs.link_pairs.procedure_stages.Closing.{is_disconnecting, is_open}
-use Rattle.journal_endings.specs.link_runs.link_pairs.procedure_stages.Queue.{QueueFacts, waiting_in, next_after_rejections, next_by, next_disconnect, with_reply}
-use Rattle.journal_endings.specs.link_runs.link_pairs.procedure_stages.Steps.{closing_after}
+use Rattle.journal_endings.specs.link_runs.link_pairs.procedure_stages.Queue.{QueueFacts, waiting_in, next_after_rejections, next_by, next_disconnect}
 use Rattle.journal_endings.specs.link_runs.link_pairs.procedure_stages.InProgress.{is_host_asked}
 use Rattle.journal_endings.specs.link_runs.link_pairs.procedure_stages.declared.closing.Closing.{Closing}
 use Rattle.journal_endings.specs.link_runs.link_pairs.procedure_stages.declared.closing.Closing.TheVariants.{Closed, Disconnecting, Open}
-use Rattle.journal_endings.specs.link_runs.link_pairs.procedure_stages.declared.steps.Effect.{Effect}
-use Rattle.journal_endings.specs.link_runs.link_pairs.procedure_stages.declared.steps.Effect.TheVariants.{PeerEnds}
 use Rattle.journal_endings.specs.link_runs.link_pairs.procedure_values.declared.asks.Ask.{Ask}
 use Rattle.journal_endings.specs.link_runs.link_pairs.procedure_values.declared.asks.Ask.TheVariants.{Length, Update}
 use Rattle.journal_endings.specs.link_runs.link_pairs.procedure_values.declared.drafts.Draft.{Draft}
@@ -25,18 +22,15 @@ use Rattle.journal_endings.specs.link_runs.link_pairs.procedures.Going.{closing_
 use Rattle.journal_endings.specs.link_runs.link_pairs.procedures.Sending.{acked_step}
 use Rattle.journal_endings.specs.link_runs.link_pairs.procedures.Table.{TableFacts}
 use Rattle.journal_endings.specs.link_runs.link_pairs.procedures.Taking.{facts_with, outcome_of}
-use Rattle.procedure_values.specs.Drafts.{is_out}
-use Rattle.journal_endings.specs.link_runs.link_pairs.procedure_stages.declared.reply.Reply.{Reply}
-use Rattle.journal_endings.specs.link_runs.link_pairs.procedure_stages.declared.reply.Reply.TheVariants.{Answer, Nothing as no_reply, Reject}
+use Rattle.procedure_values.specs.Drafts.{ctrl_of_outgoing, is_out}
 use Rattle.std.specs.List.{list_any}
 use Rattle.std.proofs.lemmas.Bool.{and_parts, or_parts}
 use Rattle.std.proofs.lemmas.List.Folds.{list_any-append}
 use Rattle.ble_base.specs.declared.notes.Note.TheVariants.{Sent}
-use Rattle.data_pdu.specs.Layouts.{written}
+use Rattle.data_pdu.specs.Layouts.{IsCtrl, written}
 use Rattle.data_pdu.specs.declared.ctrl.Ctrl.{Ctrl}
 use Rattle.data_pdu.specs.declared.ctrl.Ctrl.TheVariants.{TerminateInd}
 use Rattle.wire_fields.specs.Field.{little_endian}
-use Rattle.procedure_values.specs.Drafts.{ctrl_of_outgoing}
 use Rattle.journal_endings.proofs.link_calls.CallNotes.{is_sending}
 use Rattle.journal_endings.specs.journal_indications.journal_data.link_model.Acknowledgement.{empty_pdu, is_acked}
 use Rattle.journal_endings.specs.journal_indications.journal_data.link_model.Controls.{goes_on, is_quiet_now, next_control, pdu_fixed, pdu_of_control}
@@ -44,7 +38,6 @@ use Rattle.journal_endings.specs.journal_indications.journal_data.link_model.pha
 use Rattle.journal_endings.specs.journal_indications.journal_data.link_model.phased_control.table_laws.Encrypting.{has_encryption}
 use Rattle.journal_endings.specs.journal_indications.journal_data.link_model.Fixing.{data_cut, data_fixed_by, data_goes, facts_fixed, fixed_anew}
 use Rattle.arrayvec.specs.ArrayVec.{ArrayVec}
-use Rattle.data_pdu.specs.Layouts.{IsCtrl}
 use Rattle.data_pdu.specs.Reading.{ctrl_of}
 use Rattle.data_pdu.specs.declared.ctrl.CtrlRead.TheVariants.{Known}
 use Rattle.data_pdu.proofs.Rows.{written_is_known}
@@ -60,6 +53,7 @@ use Rattle.journal_endings.proofs.journal_indications.journal_data.link_model.Vi
 use Rattle.journal_endings.proofs.journal_indications.journal_data.link_model.phased_end.keyed_control.phased_control.Requests.{fewer, is_entering}
 use Rattle.journal_endings.proofs.journal_indications.journal_data.link_model.phased_end.keyed_control.phased_control.Tables.{begins_encryption, leaves_entering}
 use Rattle.journal_endings.proofs.link_calls.control_model.Moving.{same_role}
+use Rattle.journal_endings.proofs.link_runs.link_pairs.LastControl.{ends_after, reply_left}
 use Rattle.journal_endings.proofs.link_runs.link_pairs.joint_controls.EachEnd.{Keeps}
 use Rattle.run_collisions.specs.Prevailing.{next_outgoing}
 use Rattle.run_collisions.specs.Waiting.{facts_from, sends_control}
@@ -86,17 +80,6 @@ given_after (TerminateInd code) Open is = absurd (cc)
 given_after (TerminateInd code) Closed is = absurd (cc)
 given_after (TerminateInd code) Disconnecting is = refl
 given_after ctrl closing is = is
-
-ends_after : (effect : Effect) (closing : Closing) → is_disconnecting closing ≡ true → is_disconnecting (closing_after effect closing) ≡ true
-ends_after (PeerEnds code) Open is = absurd (cc)
-ends_after (PeerEnds code) Closed is = absurd (cc)
-ends_after (PeerEnds code) Disconnecting is = refl
-ends_after effect closing is = is
-
-reply_left : (closing : Closing) → is_open closing ≡ false → (reply : Reply) (q : QueueFacts) → with_reply closing reply q ≡ q
-reply_left closing shut no_reply q = refl
-reply_left closing shut (Reject rejection) q = rejection_left closing shut q rejection
-reply_left closing shut (Answer draft) q = draft_left closing shut q draft
 
 module _ (d : Option ErrCode) where
   abbrev IsEnding : Control → Type 0

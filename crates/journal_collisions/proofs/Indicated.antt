@@ -43,7 +43,7 @@ use Rattle.run_collisions.specs.Refused.{is_refusing}
 use Rattle.run_collisions.specs.joint_collisions.Facts.{is_first_down}
 use Rattle.journal_collisions.specs.Collisions.{any_line, control_in, is_kind, kind_begun, runs_on}
 use Rattle.journal_collisions.specs.Outcomes.{NoneIsIndicated, kind_answered, kind_indicated, takes_first}
-use Rattle.journal_collisions.proofs.CollidingLines.{PrevailInRuns}
+use Rattle.journal_collisions.proofs.CollidingLines.{PrevailInRuns, same_kind}
 use Rattle.journal_collisions.proofs.Openings.{is_opening_line}
 use Rattle.journal_collisions.proofs.RejectedNext.{owned}
 use Rattle.journal_collisions.proofs.Unrefused.{AreUnrefusedInRuns, line_unrefused}
@@ -55,9 +55,6 @@ record IsIndication (own : Kind) (llid : ℕ) (body : List ℕ) : Type 0 where
   kind_is : kind_of kind ≡ own
   three : llid ≡ 3
   is : indicates (ctrl_of body) ≡ Some kind
-
-same_kind : (one other : Kind) → Some one ≡ Some other → one ≡ other
-same_kind one other is = cc
 
 known_indication : (llid : ℕ) (body : List ℕ) (own : Kind) (read : CtrlRead) → llid ≡ 3 → ctrl_of body ≡ read → kind_indicated (Some read) ≡ Some own
     → IsIndication own llid body

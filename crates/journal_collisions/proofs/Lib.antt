@@ -20,3 +20,4 @@ pub mod Worked
 -- what the crates above use of those below
 pub use Rattle.journal_endings.proofs as journal_endings
 pub use Rattle.run_collisions.proofs as run_collisions
+pub use Rattle.journal_ends.proofs as journal_ends

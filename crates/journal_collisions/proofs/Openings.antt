@@ -1,13 +1,11 @@
 -- The lines that open a procedure of the peripheral at a central, or refuse one of its own, are those of such notes.
-use Rattle.std.proofs.Common.{◌≡◌, ℕ, ◌==◌, ◌&&◌, ◌||◌, Bool, true, false, Some, List, [], ◌∷◌, ◌++◌, fold, map, refl}
+use Rattle.std.proofs.Common.{◌≡◌, ℕ, ◌==◌, ◌&&◌, ◌||◌, Bool, false, List, [], ◌∷◌, ◌++◌, fold, map, refl}
 use Rattle.std.specs.List.{list_any}
 use Rattle.ble_base.specs.declared.notes.Note.{Note}
 use Rattle.ble_base.specs.declared.notes.Note.TheVariants.{Applied, Began, Done, Enter, Opened, Refused, Sent, Shut, Took, Up}
 use Rattle.ble_base.specs.declared.roles.Side.{Side}
 use Rattle.data_pdu.specs.Reading.{ctrl_of}
-use Rattle.exclusive_stages.specs.Pdus.{is_kind as is_exclusive_kind}
 use Rattle.exclusive_stages.specs.declared.pdus.Exclusive.{Exclusive}
-use Rattle.exclusive_stages.specs.declared.pdus.Exclusive.TheVariants.{Map, Phy, Request, Update}
 use Rattle.journal.specs.declared.entries.Entry.{Entry}
 use Rattle.journal.specs.declared.entries.Entry.TheVariants.{Took as TookEntry}
 use Rattle.journal_endings.specs.journal_indications.journal_data.journal_links.LinkLines.{line_of}
@@ -49,9 +47,3 @@ pub facts_joined : (setup : Setup) (facts : Facts) (steps more : List Step)
     → facts_from setup facts (steps ++ more) ≡ facts_from setup (facts_from setup facts steps) more
 facts_joined setup facts [] more = refl
 facts_joined setup facts (step ∷ steps) more = facts_joined setup (facts_after setup facts step) steps more
-
-pub same_exclusive : (kind : Exclusive) → is_exclusive_kind (Some kind) kind ≡ true
-same_exclusive Update = refl
-same_exclusive Request = refl
-same_exclusive Map = refl
-same_exclusive Phy = refl

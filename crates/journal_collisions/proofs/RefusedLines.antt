@@ -1,5 +1,5 @@
 -- Where a peripheral takes the rejection of its procedure, its next line of the link is that the procedure is refused.
-use Rattle.std.proofs.Common.{◌≡◌, ℕ, ◌==◌, ◌⊎◌, Bool, true, false, Option, Some, None, List, [], ◌∷◌, ◌++◌, map, refl, sym, ap, subst, ◌∙◌, append_assoc}
+use Rattle.std.proofs.Common.{◌≡◌, ℕ, ◌==◌, Bool, true, false, Option, Some, None, List, [], ◌∷◌, ◌++◌, map, refl, sym, ap, subst, ◌∙◌, append_assoc}
 use Rattle.std.specs.Prelude.{if◌then◌else◌}
 use Rattle.std.specs.List.{Contains}
 use Rattle.std.proofs.lemmas.Bool.{eq-eqb, eqb-true}
@@ -72,13 +72,15 @@ use Rattle.journal_endings.proofs.journal_indications.journal_data.run_model.Sta
 use Rattle.journal_endings.proofs.journal_indications.FarEnds.{far_before}
 use Rattle.journal_endings.proofs.journal_indications.InTime.{role_of_end}
 use Rattle.journal_endings.proofs.journal_indications.LineEnds.{IsEndOfLine, end_of_line, in_it}
-use Rattle.journal_endings.proofs.journal_indications.Receptions.{IsReception, listened, reception_of, same_notes}
+use Rattle.journal_endings.proofs.journal_indications.Receptions.{IsReception, reception_of, same_notes}
+use Rattle.journal_endings.proofs.run_pairs.FarPackets.{listens_is}
 use Rattle.run_collisions.specs.Prevailing.{seen}
 use Rattle.run_collisions.specs.Refused.{IsRefused, TakesRejection}
 use Rattle.run_collisions.proofs.OfPairs.{good_taken, hear_before, sent_to_peripheral}
 use Rattle.journal_endings.specs.run_pairs.InTurns.{HasSentNow, HearEachInTurn, HearNoMixed}
 use Rattle.journal_endings.specs.link_runs.link_pairs.Hearing.{received}
 use Rattle.journal_collisions.specs.Collisions.{AllAreRefused, IsRejection, control_in, first_of, first_opcode, kind_begun}
+use Rattle.journal_collisions.proofs.CollidingLines.{same_kind}
 use Rattle.journal_collisions.proofs.NextLines.{next_line, whole}
 
 -- ---- the notes of a call that receives octets on a link begin with those of its end
@@ -132,9 +134,6 @@ pub record IsBegun (kind : Kind) : Type 0 where
   pub kind_is : kind_of q ≡ kind
   pub opcode_is : first_opcode kind ≡ opcode_of_kind q
 
-same_kind : (one other : Kind) → Some one ≡ Some other → one ≡ other
-same_kind one other is = cc
-
 request_begun : IsBegun RequestKind
 request_begun = record { q = Request; kind_is = refl; opcode_is = refl }
 
@@ -173,7 +172,7 @@ line_here side number line lines named =
     where_of : Option (Side × ℕ) → List Entry
     where_of may = where_named side number may line ++ []
 
-far_peripheral : (central : Side) → role_by central (other_side central) ≡ Peripheral
+pub far_peripheral : (central : Side) → role_by central (other_side central) ≡ Peripheral
 far_peripheral A = refl
 far_peripheral B = refl
 
@@ -213,9 +212,6 @@ module _ (whole_heard : IsHeardWhole) (understood : IsUnderstood) (taken : AreTa
 
     abbrev station : ℕ
     station = call.station
-
-    abbrev end : OpenLink
-    end = heard.link
 
     abbrev facts : Facts
     facts = facts_at given call.station call.base
@@ -261,7 +257,7 @@ module _ (whole_heard : IsHeardWhole) (understood : IsUnderstood) (taken : AreTa
     at = call.called ∙ ap (λ s. call.base ++ Called call.station s ∷ call.after) heard.step_is
 
     listens : link_listened facts.turn.doing ≡ Some call.handle
-    listens = listened call.handle facts.turn.doing heard.listens
+    listens = listens_is call.handle facts.turn.doing heard.listens
 
     in_far : is_in (other_of call.station) given.stations ≡ true
     in_far = other_in given are_pair call.station on

@@ -87,7 +87,7 @@ use Rattle.link_answers.proofs.OwingEnds.{steps_owe}
 use Rattle.link_answers.proofs.CipherQueues.{past_may_wait}
 use Rattle.link_answers.proofs.SentIndications.{sent_runs}
 use Rattle.link_procedures.specs.Running.{runs_at}
-use Rattle.link_procedures.proofs.Seen.{at_central}
+use Rattle.link_procedures.proofs.Seen.{at_central, is_itself as same_exclusive}
 use Rattle.link_procedures.proofs.Steps.{past_goes}
 use Rattle.journal_endings.specs.link_runs.link_pairs.procedure_stages.Kinds.{role_of}
 use Rattle.data_pdu.specs.Header.{header_in}
@@ -116,7 +116,7 @@ use Rattle.journal_collisions.proofs.CollidingLines.{PrevailInRuns, at, begun, c
 use Rattle.journal_collisions.proofs.Continues.{IsSince, since_received}
 use Rattle.journal_collisions.proofs.EndLines.{end_lines, lines_sent, none_said, none_sent, sendings, sendings_grow, sendings_more, sents, sents_more}
 use Rattle.journal_collisions.proofs.LineOrder.{AreInOrder, InLaterCall, InOneCall, in_order}
-use Rattle.journal_collisions.proofs.Openings.{facts_joined, folded, is_opening_line, lines_open, same_exclusive}
+use Rattle.journal_collisions.proofs.Openings.{facts_joined, folded, is_opening_line, lines_open}
 use Rattle.journal_collisions.proofs.QuietCentrals.{closing_acked, exclusive_alone, none_kept, quiet_there}
 use Rattle.journal_collisions.proofs.RefusedLines.{line_here}
 use Rattle.journal_collisions.proofs.RunsNoted.{lines_run}

@@ -24,7 +24,6 @@ use Rattle.journal_endings.specs.journal_indications.journal_data.link_model.Rec
 use Rattle.journal_endings.specs.journal_indications.journal_data.link_model.Setup.{Setup}
 use Rattle.journal_endings.specs.journal_indications.journal_data.link_model.Step.{Step, PacketReceived}
 use Rattle.journal_endings.specs.journal_indications.journal_data.link_model.Verdicts.{pdu_of}
-use Rattle.link_procedures.specs.Running.{runs_at}
 use Rattle.link_procedures.proofs.Controls.{owing_keeps}
 use Rattle.link_procedures.proofs.Steps.{acked_goes}
 use Rattle.journal_endings.specs.journal_indications.journal_data.link_model.Controls.{is_procedure_pdu}
@@ -37,7 +36,7 @@ use Rattle.journal_endings.proofs.link_calls.control_model.Moving.{same_role}
 use Rattle.link_procedures.proofs.Seen.{at_central, same_kind}
 use Rattle.journal_endings.specs.link_runs.link_pairs.control_model.Control.{Control, Owes, SeesAcknowledged}
 use Rattle.journal_endings.specs.link_runs.link_pairs.procedure_stages.Kinds.{is_kind, role_of}
-use Rattle.link_procedures.specs.Running.{runs_after as note_runs}
+use Rattle.link_procedures.specs.Running.{runs_after as note_runs, runs_at}
 use Rattle.journal_collisions.specs.Collisions.{runs_after}
 use Rattle.run_collisions.specs.Prevailing.{seen, seen_by}
 

@@ -12,6 +12,7 @@ use Rattle.journal_endings.specs.controller_model.Packets.{notes_doing, notes_se
 use Rattle.journal_endings.specs.controller_model.Radio.{outcome_begun}
 use Rattle.journal_endings.specs.controller_model.Side.{facts_after, facts_of, notes_after}
 use Rattle.journal_endings.specs.controller_model.Step.{Step, HostOctet, TurnBegins, PacketHeard, NothingHeard, TurnEnds}
+use Rattle.journal_endings.proofs.PairedEnds.{one_link}
 use Rattle.journal_endings.proofs.controller_model.Handles.{own_handles}
 use Rattle.journal_endings.proofs.controller_model.Places.{link_receiving}
 use Rattle.journal_endings.specs.link_calls.Turns.{fixed_if}
@@ -26,11 +27,13 @@ use Rattle.journal_endings.specs.journal_indications.journal_data.open_links.Ope
 use Rattle.journal_endings.specs.journal_indications.journal_data.open_links.Turns.{link_entered}
 use Rattle.journal_endings.specs.journal_indications.journal_data.run_model.Run.{step_of}
 use Rattle.journal_endings.proofs.journal_indications.journal_data.journal_acks.DataCalls.{on_link_notes, own_begun, received_at, sent_at, unfound}
-use Rattle.journal_endings.proofs.journal_indications.journal_data.journal_acks.Worded.{link_worded, received_setup_is, worded, worded_here, worded_setup}
+use Rattle.journal_endings.proofs.journal_indications.journal_data.journal_acks.NewPdus.{in_middle}
+use Rattle.journal_endings.proofs.journal_indications.journal_data.journal_acks.Worded.{link_worded, worded, worded_here, worded_setup}
 use Rattle.journal_endings.proofs.journal_indications.journal_data.journal_acks.PhaseNotes.{IsOnLink, IsPhaseOf, IsPlainPhase, SendsFrom, SendsNothing, SendsOne, phase_of, sends_from}
 use Rattle.journal_endings.proofs.journal_indications.journal_data.open_links.Handles.{handle_is}
 use Rattle.journal_endings.proofs.journal_indications.journal_data.run_laws.LinkPhases.{begins_in}
 use Rattle.journal_endings.proofs.run_pairs.EndCalls.{central_sends, central_silent}
+use Rattle.journal_ends.proofs.journal_packets.Replies.{receiving_setup as received_setup_is}
 
 -- ---- lists of notes
 
@@ -41,10 +44,6 @@ data IsShort (notes : List Note) : Type 0 where
 no_notes : (earlier later : List Note) (note : Note) (X : Type 0) → [] ≡ earlier ++ note ∷ later → X
 no_notes [] later note X is = absurd cc
 no_notes (first ∷ earlier) later note X is = absurd cc
-
-in_middle : (P : Note → Type 0) (earlier later : List Note) (note : Note) → All P (earlier ++ note ∷ later) → P note
-in_middle P [] later note all = All-head P note later all
-in_middle P (first ∷ earlier) later note all = in_middle P earlier later note (All-tail P first (earlier ++ note ∷ later) all)
 
 short_is : (last earlier later : List Note) (note : Note) → IsShort last → last ≡ earlier ++ note ∷ later → last ≡ note ∷ []
 short_is last earlier later note (IsNone none) is = no_notes earlier later note _ (sym none ∙ is)
@@ -109,9 +108,6 @@ own_note own number other counted llid pdu body true is =
     let one : Sent own (number + 1) pdu.llid (record { items = pdu.body }) ≡ Sent other counted llid (record { items = body }) = cc in cc
 own_note own number other counted llid pdu body false is = absurd cc
 
-same_open : (one other : OpenLink) → Some one ≡ Some other → one ≡ other
-same_open one other is = cc
-
 fixed_past : (fixes : Bool) (one entered : OpenLink) → fixes ≡ true → one ≡ fixed_if fixes entered → one.past ≡ entered.past ++ PduFixed ∷ []
 fixed_past true one entered on is = ap (λ (l : OpenLink). l.past) is
 fixed_past false one entered on is = absurd cc
@@ -149,7 +145,7 @@ module _ (setup : Setup) (past : List Step) (earlier later : List Note) (handle 
       let outcome = outcome_begun slot on facts in
       let after = link_after (PacketSent outcome.facts.turn.slot) base in
       let begun = begins_under setup facts slot on other after (sent_at outcome.facts.turn.slot other outcome.next outcome.facts.links base sends found) in
-      let base_is = same_open begun.base base (sym begun.found ∙ found) in
+      let base_is = one_link begun.base base (sym begun.found ∙ found) in
       let own = handle_is 0 other outcome.facts.links base (own_begun setup slot on facts (own_handles setup past)).handles found in
       let last = last_is (notes_starting slot facts) (sent_notes base.setup (facts_in base)) earlier later note
       (no_data_sent (notes_starting slot facts) (start_noted HasNoData no_data slot facts)) (sent_short _ base.setup.link.handle _ _) refl

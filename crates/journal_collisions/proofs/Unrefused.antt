@@ -40,7 +40,8 @@ use Rattle.journal_endings.proofs.journal_indications.journal_data.run_model.Sta
 use Rattle.journal_endings.proofs.journal_indications.FarEnds.{far_before}
 use Rattle.journal_endings.proofs.journal_indications.InTime.{role_of_end}
 use Rattle.journal_endings.proofs.journal_indications.LineEnds.{IsEndOfLine, end_of_line, in_it}
-use Rattle.journal_endings.proofs.journal_indications.Receptions.{IsReception, listened, reception_of}
+use Rattle.journal_endings.proofs.journal_indications.Receptions.{IsReception, reception_of}
+use Rattle.journal_endings.proofs.run_pairs.FarPackets.{listens_is}
 use Rattle.run_collisions.specs.Refused.{is_refusing}
 use Rattle.run_collisions.specs.Taking.{TakesControl}
 use Rattle.run_collisions.proofs.OfPairs.{good_taken, hear_before, sent_to_central}
@@ -123,7 +124,7 @@ module _ (whole_heard : IsHeardWhole) (understood : IsUnderstood) (taken : AreTa
     unrefused_here : is_refusing ctrl ≡ false
     unrefused_here =
         let distinct = are_distinct given are_pair in
-        let listens = listened call.handle facts.turn.doing heard.listens in
+        let listens = listens_is call.handle facts.turn.doing heard.listens in
         unrefused given call.base call.after heard.octets room central peripheral distinct six
         (is_of_two given are_pair call.station on) (is_of_two given are_pair (other_of call.station) in_far) at two.ends
         (hear_before understood taken apart given six distinct (are_two given 0 1 are_pair) call.base

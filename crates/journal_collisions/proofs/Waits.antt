@@ -24,7 +24,7 @@ use Rattle.journal_endings.specs.link_runs.link_pairs.procedure_values.declared.
 use Rattle.journal_endings.specs.link_runs.link_pairs.procedure_values.declared.drafts.Rejection.{Rejection as TheRejection}
 use Rattle.journal_endings.specs.journal_indications.journal_data.link_model.Acknowledgement.{Pdu, is_acked}
 use Rattle.journal_endings.specs.journal_indications.journal_data.link_model.Controls.{goes_on, is_procedure_pdu, is_quiet_now, next_control, pdu_fixed}
-use Rattle.journal_endings.specs.journal_indications.journal_data.link_model.Data.{Data, data_acked_if, data_given, is_control, is_data, is_empty, numbered, pdu_with, llid_of}
+use Rattle.journal_endings.specs.journal_indications.journal_data.link_model.Data.{Data, is_control, is_data, is_empty, numbered, pdu_with, llid_of}
 use Rattle.journal_endings.specs.journal_indications.journal_data.link_model.End.{facts_after, facts_of, notes_after, notes_from}
 use Rattle.journal_endings.specs.journal_indications.journal_data.link_model.Entering.{facts_entered_if}
 use Rattle.journal_endings.specs.journal_indications.journal_data.link_model.Facts.{Facts, first_facts}
@@ -37,6 +37,7 @@ use Rattle.journal_endings.specs.journal_indications.journal_data.link_model.Sen
 use Rattle.journal_endings.specs.journal_indications.journal_data.link_model.Setup.{Setup}
 use Rattle.journal_endings.specs.journal_indications.journal_data.link_model.Step.{Step, DataGiven, DataReported, Disconnected, EventEntered, KeyAnswered, PacketReceived, PacketSent, PduFixed, ProcedureAsked, RequestAnswered, WordsGiven}
 use Rattle.journal_endings.specs.journal_indications.journal_data.link_model.Verdicts.{pdu_of}
+use Rattle.journal_endings.proofs.journal_indications.journal_data.link_model.Fixing.{acked_control as acked_fixed, given_control as given_fixed}
 use Rattle.journal_endings.proofs.journal_indications.journal_data.link_model.KnownEnds.{IsPast, stays_over, step_past}
 use Rattle.run_collisions.specs.Prevailing.{next_outgoing}
 use Rattle.run_collisions.specs.Waiting.{facts_from, sends_control, sends_no_control}
@@ -167,10 +168,6 @@ module _ (x : TheRejection) (setup : Setup) (is_central : setup.link.role ≡ Ce
 abbrev HasNone : Facts → Type 0
 HasNone facts = is_control facts.outgoing.fixed ≡ false
 
-given_none : (handle : ℕ) (start : Bool) (body : List ℕ) (outgoing : Data) → (data_given handle start body outgoing).fixed ≡ outgoing.fixed
-given_none handle start [] outgoing = refl
-given_none handle start (octet ∷ octets) outgoing = refl
-
 piece_none : (piece : Option Piece) → is_control (pdu_with piece) ≡ false
 piece_none None = refl
 piece_none (Some piece) = by piece.start
@@ -220,10 +217,6 @@ forged_none : (forged : Bool) (facts : Facts) → HasNone facts → HasNone (fac
 forged_none true facts none = none
 forged_none false facts none = none
 
-acked_same : (acked : Bool) (outgoing : Data) → (data_acked_if acked outgoing).fixed ≡ outgoing.fixed
-acked_same true outgoing = refl
-acked_same false outgoing = refl
-
 heard_none : (slot : ℕ) (room : Bool) (header : DataHeader) (pdu : Pdu) (facts : Facts) → HasNone facts
     → HasNone (facts_hearing Central slot room header pdu facts)
 heard_none slot room header pdu facts none =
@@ -233,7 +226,7 @@ heard_none slot room header pdu facts none =
     let takes = accepted && is_procedure_pdu pdu in
     data_none (accepted && is_data pdu) (procedures_take_if takes pdu slot (accepted_if accepted pdu now))
     (taken_none takes pdu slot (accepted_if accepted pdu now)
-    (ap is_control (acked_same (acks && is_data facts.acknowledgement.last) facts.outgoing) ∙ none))
+    (ap is_control (acked_fixed (acks && is_data facts.acknowledgement.last) facts.outgoing) ∙ none))
 
 received_none : (slot : ℕ) (room : Bool) (pdu : Option (List ℕ)) (facts : Facts) → HasNone facts → HasNone (facts_received Central slot room pdu facts)
 received_none slot room None facts none = none
@@ -241,7 +234,7 @@ received_none slot room (Some octets) facts none = heard_none slot room (header_
 
 module _ (setup : Setup) (is_central : setup.link.role ≡ Central) where
   step_none : (step : Step) (facts : Facts) → HasNone facts → HasNone (facts_after setup facts step)
-  step_none (DataGiven start body) facts none = ap is_control (given_none setup.link.handle start body facts.outgoing) ∙ none
+  step_none (DataGiven start body) facts none = ap is_control (given_fixed setup.link.handle start body facts.outgoing) ∙ none
   step_none (ProcedureAsked ask) facts none = asked_none (is_to_come ask facts) ask facts none
   step_none (RequestAnswered answer) facts none = none
   step_none (KeyAnswered key slot) facts none = none

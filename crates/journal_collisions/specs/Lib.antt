@@ -9,3 +9,4 @@ pub use Rattle.journal_endings.specs as journal_endings
 pub use Rattle.journal_endings.specs.journal_indications.journal_data.journal_links as journal_links
 pub use Rattle.run_collisions.specs.link_pairs as link_pairs
 pub use Rattle.run_collisions.specs as run_collisions
+pub use Rattle.journal_ends.specs as journal_ends

@@ -14,7 +14,7 @@ pub use crate::rows::{worked_collision, wrong_collisions_are_refused, wrong_outc
 
 // What the crates above call of those below.
 pub use journal_endings::{
-    a_pdu_is_understood, data_of_two_stations_arrives_in_order,
+    a_pdu_is_understood, a_sealed_packet_is_opened, data_of_two_stations_arrives_in_order,
     ends_enter_each_event_alike_in_every_journal, ends_follow_their_central_in_every_journal,
     ends_that_last_are_sound, no_link_ends_by_a_protocol_error,
     no_procedure_ends_a_link_but_a_late_one, packets_of_a_link_are_read_as_sent,

@@ -20,9 +20,10 @@ use Rattle.journal_ends.specs.run_model.History.{Event}
 use Rattle.journal_ends.specs.run_model.Journal.{journal_of}
 use Rattle.journal_ends.specs.run_model.Run.{Given, after_call}
 use Rattle.journal_ends.proofs.AskedCalls.{call_journal}
-use Rattle.journal_ends.proofs.HostedLinks.{IfHostStep, IsHostStep, keyed_asked}
+use Rattle.journal_ends.proofs.HostedLinks.{IfHostStep, keyed_asked}
 use Rattle.journal_ends.proofs.link_model.KeyedPasts.{past_in_phase}
 use Rattle.journal_ends.proofs.link_model.KeyedSteps.{one_step}
+use Rattle.journal_ends.proofs.controller_model.Asked.{IsAskedStep}
 use Rattle.journal_controls.specs.KeyedLines.{answering, does_if, keyed_by_all}
 use Rattle.journal_controls.specs.LineSteps.{is_coming, keyed_from, keyed_in_line, keyed_on, steps_asking}
 use Rattle.journal_controls.specs.SaidLines.{after_asking}
@@ -138,7 +139,7 @@ same_coming (Map map) facts = refl
 same_coming other facts = refl
 
 -- its procedures, its phase and its keys are as after that
-end_asked_so : (base : OpenLink) (step : Step) → IsHostStep step → after_asking (Some step) (keyed_of (facts_in base)) ≡ keyed_of (end_after base.setup (facts_in base) step)
+end_asked_so : (base : OpenLink) (step : Step) → IsAskedStep step → after_asking (Some step) (keyed_of (facts_in base)) ≡ keyed_of (end_after base.setup (facts_in base) step)
 end_asked_so base (ProcedureAsked ask) by_host =
     let k = keyed_of (facts_in base) in
     ap (λ steps. keyed_by_all steps k) (append-nil (steps_asking k (ProcedureAsked ask)))

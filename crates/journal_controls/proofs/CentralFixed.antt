@@ -5,7 +5,7 @@ use Rattle.data_pdu.specs.Header.{header_in}
 use Rattle.data_pdu.specs.declared.header.DataHeader.{DataHeader}
 use Rattle.journal_ends.specs.link_model.Acknowledgement.{Pdu, is_acked}
 use Rattle.journal_ends.specs.link_model.Controls.{goes_on, is_procedure_pdu, is_quiet_now, next_control}
-use Rattle.journal_ends.specs.link_model.Data.{Data, data_acked_if, data_given, is_control, is_data, next_piece, pdu_with}
+use Rattle.journal_ends.specs.link_model.Data.{Data, is_control, is_data, next_piece, pdu_with}
 use Rattle.journal_ends.specs.link_model.End.{facts_after, facts_of}
 use Rattle.journal_ends.specs.link_model.Entering.{facts_entered_if}
 use Rattle.journal_ends.specs.link_model.Facts.{Facts, first_facts}
@@ -19,13 +19,10 @@ use Rattle.journal_ends.specs.link_model.Setup.{Setup}
 use Rattle.journal_ends.specs.link_model.Step.{Step, DataGiven, DataReported, Disconnected, EventEntered, KeyAnswered, PacketReceived, PacketSent, PduFixed, ProcedureAsked, RequestAnswered, WordsGiven}
 use Rattle.journal_ends.specs.link_model.Verdicts.{pdu_of}
 use Rattle.journal_ends.specs.link_model.procedure_stages.Queue.{waiting_in}
+use Rattle.journal_ends.proofs.link_model.Fixing.{acked_control, given_control}
 
 abbrev pub IsFree : Facts → Type 0
 IsFree facts = is_control facts.outgoing.fixed ≡ false
-
-pub given_free : (handle : ℕ) (start : Bool) (body : List ℕ) (outgoing : Data) → (data_given handle start body outgoing).fixed ≡ outgoing.fixed
-given_free handle start [] outgoing = refl
-given_free handle start (octet ∷ octets) outgoing = refl
 
 asked_free : (comes : Bool) (facts : Facts) (ask : _) → IsFree facts → IsFree (asked_unless comes ask facts)
 asked_free true facts ask is = is
@@ -70,10 +67,6 @@ facts_sent_free slot facts is =
     ap (λ b. is_control (data_sent_as payload b gone.outgoing).fixed) (gone_acked (takes_leave facts) slot facts)
     ∙ sent_free payload (is_acked facts.acknowledgement) facts.fixes_control slot facts is
 
-pub acked_free : (acks : Bool) (outgoing : Data) → (data_acked_if acks outgoing).fixed ≡ outgoing.fixed
-acked_free true outgoing = refl
-acked_free false outgoing = refl
-
 pub taking_free : (takes : Bool) (pdu : Pdu) (slot : ℕ) (facts : Facts) → (procedures_take_if takes pdu slot facts).outgoing ≡ facts.outgoing
 taking_free true pdu slot facts = refl
 taking_free false pdu slot facts = refl
@@ -94,7 +87,7 @@ heard_free slot room header pdu facts =
     let takes = accepted && is_procedure_pdu pdu in
     ap (λ (outgoing : Data). outgoing.fixed)
     (data_free (accepted && is_data pdu) (procedures_take_if takes pdu slot (accepted_if accepted pdu now)) ∙ taking_free takes pdu slot (accepted_if accepted pdu now))
-    ∙ acked_free (has_acknowledged facts header && is_data facts.acknowledgement.last) facts.outgoing
+    ∙ acked_control (has_acknowledged facts header && is_data facts.acknowledgement.last) facts.outgoing
 
 received_free : (slot : ℕ) (room : Bool) (octets : Option (List ℕ)) (facts : Facts) → (facts_received Central slot room octets facts).outgoing.fixed ≡ facts.outgoing.fixed
 received_free slot room None facts = refl
@@ -102,7 +95,7 @@ received_free slot room (Some octets) facts = heard_free slot room (header_in oc
 
 module _ (setup : Setup) (central : setup.link.role ≡ Central) where
   pub step_free : (facts : Facts) (step : Step) → IsFree facts → IsFree (facts_after setup facts step)
-  step_free facts (DataGiven start body) is = ap is_control (given_free setup.link.handle start body facts.outgoing) ∙ is
+  step_free facts (DataGiven start body) is = ap is_control (given_control setup.link.handle start body facts.outgoing) ∙ is
   step_free facts (ProcedureAsked ask) is = asked_free (is_to_come ask facts) facts ask is
   step_free facts (RequestAnswered answer) is = is
   step_free facts (KeyAnswered key slot) is = is

@@ -34,7 +34,7 @@ use Rattle.journal_controls.proofs.ControlledEnds.{IsControlledAt, keyed_taking}
 use Rattle.journal_controls.proofs.Counted.{told_by}
 use Rattle.journal_controls.proofs.EndMoves.{past_keeps}
 use Rattle.journal_controls.proofs.EndSteps.{hearing_told}
-use Rattle.journal_controls.proofs.EventMoves.{air_line, aired, forged_moves, heard_moves, keyed_at, turn_at, unheard_still}
+use Rattle.journal_controls.proofs.EventMoves.{air_line, aired, forged_moves, heard_moves, keyed_at, unheard_still}
 use Rattle.journal_controls.proofs.GoodPackets.{forged_keyed, good_has, good_keyed}
 
 -- ---- the counts of an end that is to take it

@@ -4,25 +4,23 @@ use Rattle.std.specs.Prelude.{All}
 use Rattle.std.proofs.lemmas.List.Elements.{All-append, All-cons, All-head, All-nil, All-tail}
 use Rattle.ble_base.specs.declared.notes.Note.{Note}
 use Rattle.ble_base.specs.declared.notes.Note.TheVariants.{Took, Up}
-use Rattle.ble_base.specs.declared.error_codes.ErrCode.{ErrCode}
 use Rattle.ble_base.specs.declared.procedure_kinds.Kind.{Kind}
 use Rattle.ble_base.specs.declared.roles.Side.{Side}
 use Rattle.data_pdu.specs.Header.{header_in}
 use Rattle.journal_ends.specs.Asked.{Words}
 use Rattle.journal_ends.specs.GivenWords.{AreKept, may_draw}
 use Rattle.journal_ends.specs.controller_model.Facts.{Facts, Setup}
-use Rattle.journal_ends.specs.controller_model.Heard.{events_received, has_room, heard, link_heard, notes_taken, reply_if}
+use Rattle.journal_ends.specs.controller_model.Heard.{has_room, link_heard, notes_taken}
 use Rattle.journal_ends.specs.controller_model.Outcome.{Outcome, notes_passed}
 use Rattle.journal_ends.specs.controller_model.Side.{notes_after}
 use Rattle.journal_ends.specs.controller_model.Step.{Step as Call, HostOctet, NothingHeard, PacketHeard, TurnBegins, TurnEnds}
-use Rattle.journal_ends.specs.link_model.control_end.declared.answers.Taken.{Taken}
 use Rattle.journal_ends.specs.link_model.Acknowledgement.{Pdu}
 use Rattle.journal_ends.specs.link_model.Controls.{is_procedure_pdu}
 use Rattle.journal_ends.specs.link_model.Data.{is_empty}
 use Rattle.journal_ends.specs.link_model.Entering.{done_notes}
 use Rattle.journal_ends.specs.link_model.Facts.{Facts as EndFacts}
 use Rattle.journal_ends.specs.link_model.Packets.{good_pdu}
-use Rattle.journal_ends.specs.link_model.Receiving.{accepts, acked_kind, acks_control, facts_before_taking, given_if, given_notes, has_acknowledged, kept_given_if, received_notes, refused_notes, taken_notes, took_notes_if}
+use Rattle.journal_ends.specs.link_model.Receiving.{accepts, acked_kind, acks_control, facts_before_taking, given_if, given_notes, has_acknowledged, kept_given_if, received_notes, taken_notes, took_notes_if}
 use Rattle.journal_ends.specs.link_model.Setup.{Setup as EndSetup}
 use Rattle.journal_ends.specs.link_model.keyed_control.declared.material.Response.{Response}
 use Rattle.journal_ends.specs.link_model.Verdicts.{pdu_of}
@@ -32,7 +30,7 @@ use Rattle.journal_ends.specs.run_model.History.{Event, Noted}
 use Rattle.journal_ends.specs.run_model.Journal.{entry_of, journal_of, side_of}
 use Rattle.journal_ends.specs.run_model.Links.{links_of}
 use Rattle.journal_ends.specs.run_model.Run.{step_of}
-use Rattle.journal_ends.proofs.journal_acks.PhaseNotes.{IsOnLink, IsPhaseOf, IsPlainPhase, phase_of}
+use Rattle.journal_ends.proofs.journal_acks.PhaseNotes.{IsOnLink, IsPhaseOf, IsPlainPhase, given_takes, phase_of}
 use Rattle.journal_ends.proofs.journal_acks.Worded.{worded}
 use Rattle.journal_ends.proofs.journal_acks.link_calls.CallNotes.{HasNoData, TakesNone, all_more, begin_noted, doing_noted, end_noted, events_noted, is_taking, none_taken, octet_noted}
 use Rattle.journal_ends.proofs.run_model.Parts.{journal_event}
@@ -83,18 +81,6 @@ early_more notes more early none = record {
 done_none : (handle : ℕ) (kind : Option Kind) → All DrawsNone (done_notes handle kind)
 done_none handle None = All-nil DrawsNone
 done_none handle (Some kind) = All-cons DrawsNone _ [] refl (All-nil DrawsNone)
-
-done_takes : (handle : ℕ) (kind : Option Kind) → All TakesNone (done_notes handle kind)
-done_takes handle None = All-nil TakesNone
-done_takes handle (Some kind) = All-cons TakesNone _ [] refl (All-nil TakesNone)
-
-refused_takes : (handle : ℕ) (refused : Option (Kind × ErrCode)) → All TakesNone (refused_notes handle refused)
-refused_takes handle None = All-nil TakesNone
-refused_takes handle (Some (kind, code)) = All-cons TakesNone _ [] refl (All-nil TakesNone)
-
-pub given_takes : (handle : ℕ) (given : Taken) → All TakesNone (given_notes handle given)
-given_takes handle given =
-    All-append TakesNone (refused_notes handle given.refused) (done_notes handle given.done) (refused_takes handle given.refused) (done_takes handle given.done)
 
 took_first : (noted : Bool) (handle : ℕ) (pdu : Pdu) (facts : EndFacts) (more : List Note) → All TakesNone more → TakesFirst (took_notes_if noted handle pdu facts ++ more)
 took_first true handle pdu facts more none = none

@@ -1,6 +1,5 @@
 -- One end after several steps, by the lines of its notes.
 use Rattle.std.proofs.Common.{◌≡◌, ℕ, ◌&&◌, not, Bool, true, false, Option, Some, None, List, [], ◌∷◌, ◌++◌, fold, map, is_none, refl, sym, ap, subst, ◌∙◌, append-nil, if◌then◌else◌}
-use Rattle.ble_base.specs.ErrorCodes.{mic_failure}
 use Rattle.ble_base.specs.declared.error_codes.ErrCode.{ErrCode}
 use Rattle.ble_base.specs.declared.notes.Note.{Note}
 use Rattle.ble_base.specs.declared.notes.Note.TheVariants.{Enter}
@@ -22,7 +21,7 @@ use Rattle.journal_ends.specs.link_model.Events.{applied_notes}
 use Rattle.journal_ends.specs.link_model.Facts.{Facts, keyed_of}
 use Rattle.journal_ends.specs.link_model.KeyedSteps.{keyed_steps_of}
 use Rattle.journal_ends.specs.link_model.Packets.{good_pdu}
-use Rattle.journal_ends.specs.link_model.Receiving.{accepts, acked_kind, acknowledged_if, acks_control, answers_with_control, ended_by_forgery, facts_before_taking, given_if, given_notes, has_acknowledged, heard_in_slot, kept_given_if, keyed_acked_if, received_notes, refused_notes, taken_notes, took_notes_if}
+use Rattle.journal_ends.specs.link_model.Receiving.{accepts, acked_kind, acknowledged_if, acks_control, answers_with_control, facts_before_taking, given_if, given_notes, has_acknowledged, heard_in_slot, kept_given_if, keyed_acked_if, received_notes, refused_notes, taken_notes, took_notes_if}
 use Rattle.journal_ends.specs.link_model.Sending.{control_gone_if, sent_notes_if}
 use Rattle.journal_ends.specs.link_model.Setup.{Setup, first_anchor, first_params}
 use Rattle.journal_ends.specs.link_model.Step.{Step, EventEntered, PacketReceived, PacketSent}
@@ -32,16 +31,14 @@ use Rattle.journal_ends.specs.link_model.control_end.Held.{held_of}
 use Rattle.journal_ends.specs.link_model.control_end.declared.answers.Entry.{Entry}
 use Rattle.journal_ends.specs.link_model.control_end.declared.answers.Taken.{Taken}
 use Rattle.journal_ends.specs.link_model.declared.events.ConnectionEvent.{ConnectionEvent}
-use Rattle.journal_ends.specs.link_model.control_model.Control.{Control, ended}
 use Rattle.journal_ends.specs.link_model.keyed_control.Keyed.{Keyed}
 use Rattle.journal_ends.specs.link_model.keyed_control.KeyedSteps.{KeyedStep, SeesAcknowledged, Sends, keyed_after, phased_step, phased_steps, step_before}
 use Rattle.journal_ends.specs.link_model.keyed_control.declared.material.Response.{Response}
 use Rattle.journal_ends.specs.link_model.phased_control.Phased.{Phased, first_phased}
 use Rattle.journal_ends.specs.link_model.phased_control.Taken.{PhasedStep, phased_after, phased_after_all, phased_moved, role_now}
-use Rattle.journal_ends.specs.link_model.procedure_stages.Kinds.{role_of}
 use Rattle.journal_ends.specs.link_model.procedure_stages.declared.steps.Effect.{Effect}
 use Rattle.journal_ends.specs.link_model.procedure_stages.declared.steps.Effect.TheVariants.{AskHost, Cipher}
-use Rattle.journal_ends.proofs.link_model.KeyedPasts.{keeps_role, past_goes}
+use Rattle.journal_ends.proofs.link_model.KeyedPasts.{forged_over, forged_role, keeps_role, past_goes}
 use Rattle.journal_ends.proofs.link_model.KeyedSteps.{gone}
 use Rattle.journal_ends.proofs.link_model.phased_end.keyed_control.Phases.{after_one, moves, phased_once}
 use Rattle.journal_ends.proofs.link_model.phased_end.keyed_control.phased_control.Kept.{tied_now}
@@ -78,21 +75,6 @@ step_keeps : (role : Role) (k : Keyed) (step : KeyedStep) → KeepsRole role k �
 step_keeps role k step keeps = λ more.
     ap (λ s. role_now (phased_after_all more s)) (phased_once step k) ∙ ap role_now (first_of (phased_step step) more k.phased)
     ∙ keeps (step_before (phased_step step) more)
-
--- a forged packet ends the link
-forged_role : (c : Control) → role_of (ended_by_forgery c).table.progress ≡ role_of c.table.progress
-forged_role c = by (is_none c.ends)
-  where
-    by : (goes : Bool) → role_of (if goes then ended (record { 0 = mic_failure }) c else c).table.progress ≡ role_of c.table.progress
-    by true = refl
-    by false = refl
-
-forged_over : (c : Control) → is_none (ended_by_forgery c).ends ≡ false
-forged_over c = by (is_none c.ends) refl
-  where
-    by : (goes : Bool) → is_none c.ends ≡ goes → is_none (if goes then ended (record { 0 = mic_failure }) c else c).ends ≡ false
-    by true is = refl
-    by false is = is
 
 pub forged_keeps : (role : Role) (k : Keyed) → KeepsRole role k → KeepsRole role (keyed_forged k)
 forged_keeps role k keeps = λ more.

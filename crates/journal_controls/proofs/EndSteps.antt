@@ -88,7 +88,7 @@ sent_is slot facts = sent_by (is_acked facts.acknowledgement) facts.fixes_contro
 
 -- ---- a central sends
 
-filled : (ctrl : Ctrl) → is_empty (pdu_of_control (Some ctrl)) ≡ false
+pub filled : (ctrl : Ctrl) → is_empty (pdu_of_control (Some ctrl)) ≡ false
 unfolding little_endian
 filled StartEncReq = refl
 filled other = refl

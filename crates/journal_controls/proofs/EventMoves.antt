@@ -33,6 +33,7 @@ use Rattle.journal_ends.specs.run_model.Readers.{PairOpening, fed_in, fed_to_sid
 use Rattle.journal_ends.specs.run_model.Run.{Given, after_call, facts_at, setup_at}
 use Rattle.journal_ends.proofs.SeenEvents.{lines_at, note_hears, unaccepted_by}
 use Rattle.journal_ends.proofs.journal_links.LinkLines.{line_more}
+use Rattle.journal_ends.proofs.run_model.Journals.{note_fed, note_turns}
 use Rattle.journal_ends.proofs.run_model.Parts.{journal_event}
 use Rattle.journal_controls.specs.KeyedLines.{has_next, keyed_by_all, keyed_forged}
 use Rattle.journal_controls.specs.LineSteps.{keyed_in_line, keyed_on, steps_heard, turn_now, withholds}
@@ -80,11 +81,11 @@ named_alike withheld one other slot line named k (Own is) same =
 named_alike withheld one other slot line named k (Others none) same =
     ap (λ lines. moved_by withheld one slot lines k) none ∙ sym (ap (λ lines. moved_by withheld other slot lines k) none)
 
-first_none : (lines more : List Entry) → NoneOpens (lines ++ more) → NoneOpens lines
+pub first_none : (lines more : List Entry) → NoneOpens (lines ++ more) → NoneOpens lines
 first_none [] more none = tt
 first_none (line ∷ lines) more none = (none.0, first_none lines more none.1)
 
-last_none : (lines more : List Entry) → NoneOpens (lines ++ more) → NoneOpens more
+pub last_none : (lines more : List Entry) → NoneOpens (lines ++ more) → NoneOpens more
 last_none [] more none = none
 last_none (line ∷ lines) more none = last_none lines more none.1
 
@@ -124,14 +125,6 @@ line_moving words response number side history event line is deaf unaccepted beg
           ∙ ap Some (named_alike (withholds side front) (drawn_at words side history) response (turn_now front) line named k (named_by side number (link_named line) line) gives);
     }
 
-note_begins : (other : Side) (link_of : ℕ → ℕ) (last : ℕ) (note : Note) → pair_openings_in (entry_of other link_of last note) ≡ []
-note_begins other link_of last (Up packet) = refl
-note_begins other link_of last note = refl
-
-note_feeds : (side other : Side) (link_of : ℕ → ℕ) (last : ℕ) (note : Note) → fed_in side (entry_of other link_of last note) ≡ []
-note_feeds side other link_of last (Up packet) = refl
-note_feeds side other link_of last note = refl
-
 pub note_takes : (other : Side) (link_of : ℕ → ℕ) (last : ℕ) (note : Note) → is_taken (entry_of other link_of last note) ≡ is_taking note
 note_takes other link_of last (Up packet) = refl
 note_takes other link_of last note = refl
@@ -143,8 +136,8 @@ note_moving words response number side history station note quiet gives =
     line_moving words response number side history (Noted station note) _ refl
     (note_hears number side (side_of station) (journal_of history) (links.link_of station) (links.last_of station) note)
     (unaccepted_by side (journal_of history) _ (quiet (links.link_of station) (links.last_of station)))
-    (note_begins (side_of station) (links.link_of station) (links.last_of station) note)
-    (note_feeds side (side_of station) (links.link_of station) (links.last_of station) note)
+    (note_turns (side_of station) (links.link_of station) (links.last_of station) note)
+    (note_fed side (side_of station) (links.link_of station) (links.last_of station) note)
     (λ takes. gives (sym (note_takes (side_of station) (links.link_of station) (links.last_of station) note) ∙ takes))
 
 none_moving : (words : Words) (response : Response) (number : ℕ) (side : Side) (history after : List Event) → journal_of after ≡ journal_of history

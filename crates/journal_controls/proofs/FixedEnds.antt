@@ -48,10 +48,11 @@ use Rattle.journal_ends.proofs.run_laws.Agreed.{step_facts}
 use Rattle.journal_ends.proofs.run_laws.LinkPhases.{IsInPhase}
 use Rattle.journal_ends.proofs.run_laws.TurnPlaces.{Between, IsTurned, Stage, Within, stands_in_run, turned}
 use Rattle.journal_ends.proofs.run_model.Stations.{is_in}
+use Rattle.journal_ends.proofs.link_model.Fixing.{given_control as given_free}
 use Rattle.journal_controls.specs.KeyedLines.{has_next}
 use Rattle.journal_controls.specs.TurnSteps.{first_if, steps_begun}
 use Rattle.journal_controls.proofs.EndSteps.{good_leave}
-use Rattle.journal_controls.proofs.CentralFixed.{IsFree, entered_free, fixed_free, given_free, past_free}
+use Rattle.journal_controls.proofs.CentralFixed.{IsFree, entered_free, fixed_free, past_free}
 use Rattle.journal_controls.proofs.PeripheralFixed.{answer_leaves_none, fixes_next, silence_ends}
 use Rattle.journal_controls.proofs.Refusing.{refused, refused_ended, refused_facts, refused_if_setup, refused_outgoing, refused_sends}
 use Rattle.journal_controls.proofs.Replies.{replies_as}
@@ -131,7 +132,7 @@ so_free (Within (suc phases)) link is goes = is goes
 central_so : (stage : Stage) (link : OpenLink) → link.setup.link.role ≡ Central → IsFixedSo stage link
 central_so stage link role = free_so stage link (past_free link.setup role link.past)
 
-other_role : (X : Type 0) (role : Role) → role ≡ Central → role ≡ Peripheral → X
+pub other_role : (X : Type 0) (role : Role) → role ≡ Central → role ≡ Peripheral → X
 other_role X role is is_too = absurd (let h : Central ≡ Peripheral = sym is ∙ is_too in absurd cc)
 
 -- ---- a host

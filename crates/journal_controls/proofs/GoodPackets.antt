@@ -1,25 +1,21 @@
 -- What an end makes of the octets of a packet: one that is good has a PDU, and one that is forged ends the link.
-use Rattle.std.proofs.Common.{◌≡◌, ℕ, Bool, true, false, Option, Some, None, is_none, List, if◌then◌else◌, refl, sym, ap, ◌∙◌}
+use Rattle.std.proofs.Common.{◌≡◌, ℕ, Bool, true, false, Option, Some, None, is_none, List, if◌then◌else◌, refl, ap, ◌∙◌}
 use Rattle.air_frame.specs.declared.Heard.{Heard}
 use Rattle.air_frame.specs.declared.Heard.TheVariants.{NotOurs, Broken as Faulty, Whole}
 use Rattle.ble_base.specs.declared.verdicts.Verdict.{Verdict}
 use Rattle.ble_base.specs.declared.verdicts.Verdict.TheVariants.{Broken, Forged, Good, Missed}
-use Rattle.journal_ends.specs.controller_model.Facts.{Facts}
-use Rattle.journal_ends.specs.controller_model.Packets.{verdict_doing, verdict_of as verdict_at, verdict_of_link}
-use Rattle.journal_ends.specs.controller_model.declared.doing.Doing.{Doing}
-use Rattle.journal_ends.specs.controller_model.declared.doing.Doing.TheVariants.{CentralListens, PeripheralListens}
-use Rattle.journal_ends.specs.journal_acks.link_calls.Uses.{listens_under}
 use Rattle.journal_ends.specs.link_model.Facts.{Facts as EndFacts, keyed_of}
-use Rattle.journal_ends.specs.link_model.Packets.{good_pdu, heard_of, is_forged, is_forged_in, is_forged_pdu, pdu_read, pdu_read_in, verdict_of, whole_pdu}
+use Rattle.journal_ends.specs.link_model.Packets.{good_pdu, heard_of, is_forged_pdu, pdu_read, pdu_read_in, verdict_of, whole_pdu}
 use Rattle.journal_ends.specs.link_model.Payload.{opens_now}
 use Rattle.journal_ends.specs.link_model.Setup.{Setup}
 use Rattle.journal_ends.specs.link_model.Verdicts.{has_room_for, pdu_by, verdict_by, whole_in}
-use Rattle.journal_ends.specs.open_links.OpenLinks.{Links, OpenLink, facts_in, link_at}
+use Rattle.journal_ends.specs.open_links.OpenLinks.{OpenLink, facts_in}
 use Rattle.journal_ends.specs.run_model.History.{is_good}
-use Rattle.std.proofs.lemmas.Bool.{eqb-true}
 use Rattle.journal_ends.proofs.link_model.KeyedSteps.{forged_none}
+use Rattle.journal_ends.proofs.journal_acks.HandedOn.{forged_is}
 use Rattle.journal_controls.specs.Hearing.{keyed_forged_if, keyed_hearing, keyed_if}
 use Rattle.journal_controls.specs.KeyedLines.{keyed_forged}
+use Rattle.journal_controls.proofs.EndSteps.{unforged}
 
 pub record HasPdu (setup : Setup) (facts : EndFacts) (octets : List ℕ) : Type 0 where
   pub pdu : List ℕ
@@ -56,34 +52,6 @@ good_verdict Forged good = absurd cc
 good_verdict Broken good = absurd cc
 good_verdict Missed good = absurd cc
 
--- it is not forged
-unforged : (setup : Setup) (facts : EndFacts) (octets pdu : List ℕ) → good_pdu setup facts octets ≡ Some pdu → is_forged setup facts octets ≡ false
-unfolding good_pdu is_forged
-unforged setup facts octets pdu is = by (whole_pdu setup facts octets) is
-  where
-    by : (air : Option (List ℕ)) → pdu_read_in facts air ≡ Some pdu → is_forged_in facts air ≡ false
-    by None is = absurd cc
-    by (Some air) is = ap (λ (read : Option (List ℕ)). is_none read) is
-
--- one that is judged so is
-pub forged_is : (setup : Setup) (facts : EndFacts) (octets : List ℕ) → verdict_of setup facts octets ≡ Forged → is_forged setup facts octets ≡ true
-unfolding verdict_of is_forged whole_pdu
-forged_is setup facts octets is = by (heard_of setup facts octets) is
-  where
-    opens : Bool
-    opens = opens_now facts.encryption.end
-
-    fits : (room forged : Bool) (pdu : List ℕ) → is_forged_pdu facts pdu ≡ forged → (if room then (if forged then Forged else Good) else Broken) ≡ Forged
-        → is_forged_in facts (pdu_by room pdu) ≡ true
-    fits true true pdu found is = found
-    fits true false pdu found is = absurd cc
-    fits false forged pdu found is = absurd cc
-
-    by : (heard : Heard) → verdict_by setup.link.max_rx opens (is_forged_pdu facts) heard ≡ Forged → is_forged_in facts (whole_in setup.link.max_rx opens heard) ≡ true
-    by NotOurs is = absurd cc
-    by Faulty is = absurd cc
-    by (Whole pdu) is = fits (has_room_for setup.link.max_rx opens pdu.items) (is_forged_pdu facts pdu.items) pdu.items refl is
-
 -- ---- the end as the packet reaches it
 
 pub good_keyed : (slot : ℕ) (octets pdu : List ℕ) (link : OpenLink) → good_pdu link.setup (facts_in link) octets ≡ Some pdu
@@ -96,18 +64,3 @@ pub forged_keyed : (slot : ℕ) (octets : List ℕ) (link : OpenLink) → verdic
 forged_keyed slot octets link is =
     let forged = forged_is link.setup (facts_in link) octets is in
     λ i. keyed_forged_if (forged i) (keyed_hearing link.setup.link.role slot (forged_none link.setup (facts_in link) octets forged i) (facts_in link))
-
--- ---- a station that listens on a link judges a packet as that link does
-
-doing_link : (links : Links) (doing : Doing) (handle : ℕ) (link : OpenLink) (octets : List ℕ) → listens_under handle doing ≡ true → link_at handle links ≡ Some link
-    → verdict_doing links doing octets ≡ verdict_of link.setup (facts_in link) octets
-doing_link links (CentralListens other) handle link octets on at =
-    (λ i. verdict_doing links (CentralListens (eqb-true other handle on i)) octets) ∙ ap (λ found. verdict_of_link found octets) at
-doing_link links (PeripheralListens other) handle link octets on at =
-    (λ i. verdict_doing links (PeripheralListens (eqb-true other handle on i)) octets) ∙ ap (λ found. verdict_of_link found octets) at
-doing_link links doing handle link octets on at = absurd cc
-
-pub judged_link : (facts : Facts) (handle : ℕ) (link : OpenLink) (octets : List ℕ) → listens_under handle facts.turn.doing ≡ true → link_at handle facts.links ≡ Some link
-    → verdict_at facts octets ≡ verdict_of link.setup (facts_in link) octets
-unfolding verdict_at
-judged_link facts handle link octets on at = doing_link facts.links facts.turn.doing handle link octets on at

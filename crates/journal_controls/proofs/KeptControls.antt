@@ -30,6 +30,7 @@ use Rattle.journal_ends.proofs.KeptSeen.{AreFed as AreSeenFed, AreSeenAt, apart_
 use Rattle.journal_ends.proofs.SeenCalls.{IsSeenAt, held_at, moved as seen_moved, whole as seen_whole}
 use Rattle.journal_ends.proofs.journal_acks.Counting.{facts_event, moved as count_moved}
 use Rattle.journal_ends.proofs.journal_acks.Exchanging.{exchange_at, number_at, number_called, number_quiet, number_sent}
+use Rattle.journal_ends.proofs.journal_acks.HandedOn.{judged_link}
 use Rattle.journal_ends.proofs.journal_acks.KeptCounts.{unsent}
 use Rattle.journal_ends.proofs.journal_acks.KeptLines.{AreLinedAt, lines_kept}
 use Rattle.journal_ends.proofs.journal_acks.Known.{known_of}
@@ -43,13 +44,12 @@ use Rattle.journal_ends.proofs.journal_packets.SoFar.{IsBelongingSoFar}
 use Rattle.journal_ends.proofs.link_model.Hearing.{IsHeardWhole}
 use Rattle.journal_ends.proofs.run_laws.ByCalls.{last_turn}
 use Rattle.journal_ends.proofs.run_laws.DistinctAccess.{AreApart}
-use Rattle.journal_ends.proofs.run_laws.Hearings.{wanted_is}
 use Rattle.journal_ends.proofs.run_laws.LinkPhases.{begins_in}
 use Rattle.journal_ends.proofs.run_laws.OpenSteps.{none_open, open_has}
 use Rattle.journal_ends.proofs.run_laws.TurnPlaces.{Within, at_stage}
 use Rattle.journal_ends.proofs.run_model.Fates.{turns_are}
 use Rattle.journal_ends.proofs.run_model.Fronts.{front_at}
-use Rattle.journal_ends.proofs.run_model.LinkEnds.{AreTaken, IsUnderstood, received_by, received_event}
+use Rattle.journal_ends.proofs.run_model.LinkEnds.{AreTaken, IsUnderstood, received_by, received_event, wanted_is}
 use Rattle.journal_ends.proofs.run_model.Places.{each_called, each_event}
 use Rattle.journal_ends.proofs.run_model.Stations.{among, is_in, not_before}
 use Rattle.journal_ends.proofs.run_model.Walk.{AtBegins, AtEnds, AtFeeds, AtListening, AtPackets, IsKept, NoTurn, Place}
@@ -61,7 +61,7 @@ use Rattle.journal_controls.proofs.ControlledEnds.{AreControlledSo, IsControlled
 use Rattle.journal_controls.proofs.EventMoves.{drawn_at, feed_still, keyed_at, turn_at, turn_still, withholds_at}
 use Rattle.journal_controls.proofs.FixedEnds.{fixed_in}
 use Rattle.journal_controls.proofs.LinkMoves.{MovesTo, begin_moves, end_moves}
-use Rattle.journal_controls.proofs.GoodPackets.{judged_link}
+use Rattle.journal_controls.proofs.NewLinks.{of_turn}
 use Rattle.journal_controls.proofs.PassedControls.{no_octet, passes_own}
 
 -- ---- what is kept
@@ -122,7 +122,7 @@ call_each words given station step history each is =
 
 -- ---- small steps
 
-there_and_back : (station : ℕ) → (station ≡ 0) ⊎ (station ≡ 1) → station_of (side_of station) ≡ station
+pub there_and_back : (station : ℕ) → (station ≡ 0) ⊎ (station ≡ 1) → station_of (side_of station) ≡ station
 there_and_back station (inl is) = ap (λ n. station_of (side_of n)) is ∙ sym is
 there_and_back station (inr is) = ap (λ n. station_of (side_of n)) is ∙ sym is
 
@@ -130,11 +130,30 @@ first_sender : (phases : ℕ) (role : Role) → phases ≡ 0 → ((phases ≡ 0)
 first_sender phases role first (inl central) = central.1
 first_sender phases role first (inr later) = absurd (let same = later.0 in omega (arith, first, same))
 
-turn_is : (history : List Event) (slot : ℕ) → turns_begun history ≡ slot + 1 → turn_at history ≡ slot
+pub turn_is : (history : List Event) (slot : ℕ) → turns_begun history ≡ slot + 1 → turn_at history ≡ slot
 turn_is history slot is = last_turn (length (turns_of (journal_of history))) slot (turns_are history ∙ is)
 
 abbrev NoneReceived : ℕ → Option (List ℕ)
 NoneReceived station = None
+
+-- before a packet, no end has one to take
+pub none_before : (words : Words) (given : Given) → IsOfTwo given → (phases : ℕ) (done left : List ℕ) (station channel : ℕ) (octets : List ℕ) (history : List Event) → given.stations ≡ done ++ station ∷ left
+    → use_at given station history ≡ Sends channel octets → AreSeenAt words given (AtPackets phases done (station ∷ left)) history
+    → (one handle : ℕ) (link : OpenLink) → is_in one given.stations ≡ true → link_at handle (facts_at given one history).links ≡ Some link
+    → listens_under handle (facts_at given one history).turn.doing ≡ true → packet_received one history ≡ None
+none_before words given are_two phases done left station channel octets history are wanted has = λ one handle link in_one at on. by one handle link in_one at on (one == station) refl
+  where
+    by : (one handle : ℕ) (link : OpenLink) → is_in one given.stations ≡ true → link_at handle (facts_at given one history).links ≡ Some link
+        → listens_under handle (facts_at given one history).turn.doing ≡ true → (same : Bool) → (one == station) ≡ same → packet_received one history ≡ None
+    by one handle link in_one at on true same =
+        let place = AtPackets phases done (station ∷ left) in
+        let facts = facts_at given one history in
+        let listens = (phased_at given place history has.holds.hearing.stand one in_one).uses.in_turn.listens in
+        let sends = ap (λ n. use_at given n history) (eqb-true one station same) ∙ wanted in
+        absurd (let h : Sends channel octets ≡ Listens (facts_in link).event.channel =
+        sym sends ∙ sym (wanted_is given one history) ∙ listens_wanted facts handle link facts.turn.doing on listens at in absurd cc)
+    by one handle link in_one at on false differs =
+        has.silent one station in_one (among given.stations done left station are) differs (not_before given.stations done left station (are_distinct given are_two) are)
 
 module _ (words : Words) (heard_whole : IsHeardWhole) (understood : IsUnderstood) (taken : AreTaken) (nth : AreNth) (apart : AreApart) (given : Given) (are_two : IsOfTwo given)
     (six : HaveAddresses given) where
@@ -193,30 +212,11 @@ module _ (words : Words) (heard_whole : IsHeardWhole) (understood : IsUnderstood
 
   -- ---- a packet
 
-  -- before it, no end has one to take
-  none_before : (phases : ℕ) (done left : List ℕ) (station channel : ℕ) (octets : List ℕ) (history : List Event) → given.stations ≡ done ++ station ∷ left
-      → use_at given station history ≡ Sends channel octets → AreSeenAt words given (AtPackets phases done (station ∷ left)) history
-      → (one handle : ℕ) (link : OpenLink) → is_in one given.stations ≡ true → link_at handle (facts_at given one history).links ≡ Some link
-      → listens_under handle (facts_at given one history).turn.doing ≡ true → packet_received one history ≡ None
-  none_before phases done left station channel octets history are wanted has = λ one handle link in_one at on. by one handle link in_one at on (one == station) refl
-    where
-      by : (one handle : ℕ) (link : OpenLink) → is_in one given.stations ≡ true → link_at handle (facts_at given one history).links ≡ Some link
-          → listens_under handle (facts_at given one history).turn.doing ≡ true → (same : Bool) → (one == station) ≡ same → packet_received one history ≡ None
-      by one handle link in_one at on true same =
-          let place = AtPackets phases done (station ∷ left) in
-          let facts = facts_at given one history in
-          let listens = (phased_at given place history has.holds.hearing.stand one in_one).uses.in_turn.listens in
-          let sends = ap (λ n. use_at given n history) (eqb-true one station same) ∙ wanted in
-          absurd (let h : Sends channel octets ≡ Listens (facts_in link).event.channel =
-          sym sends ∙ sym (wanted_is given one history) ∙ listens_wanted facts handle link facts.turn.doing on listens at in absurd cc)
-      by one handle link in_one at on false differs =
-          has.silent one station in_one (among given.stations done left station are) differs (not_before given.stations done left station (are_distinct given are_two) are)
-
   pub packet_whole : (phases : ℕ) (done left : List ℕ) (station channel : ℕ) (octets : List ℕ) (history : List Event) → given.stations ≡ done ++ station ∷ left
       → use_at given station history ≡ Sends channel octets → AreControlledAt words given (AtPackets phases done (station ∷ left)) history → AreControlled words given history
   packet_whole phases done left station channel octets history are wanted has = λ one in_one handle link at.
       whole_at words given history (λ each. packet_received each history) one handle link in_one at
-      (none_before phases done left station channel octets history are wanted has.seen one handle link in_one at) has.control
+      (none_before words given are_two phases done left station channel octets history are wanted has.seen one handle link in_one at) has.control
 
   module _ (phases : ℕ) (done left : List ℕ) (station channel : ℕ) (octets : List ℕ) (fates : List Fate) (history : List Event) (stations_are : given.stations ≡ done ++ station ∷ left)
       (wanted : use_at given station history ≡ Sends channel octets)
@@ -246,7 +246,7 @@ module _ (words : Words) (heard_whole : IsHeardWhole) (understood : IsUnderstood
         in_it = among given.stations done left station stations_are
 
         none : packet_received one history ≡ None
-        none = none_before phases done left station channel octets history stations_are wanted has.seen one handle link in_one at on
+        none = none_before words given are_two phases done left station channel octets history stations_are wanted has.seen one handle link in_one at on
 
         left_of : List ℕ
         left_of = damaged_packet hearing.fate octets
@@ -290,7 +290,7 @@ module _ (words : Words) (heard_whole : IsHeardWhole) (understood : IsUnderstood
         let same = facts_event given one history (Transmitted station channel octets hearings) refl in
         let turns = ap (λ (f : Facts). f.turn) same in
         let is_open = ap (λ (f : Facts). link_at handle f.links) (sym same) ∙ at in
-        let none = none_before phases done left station channel octets history stations_are wanted has.seen one handle link in_one is_open in
+        let none = none_before words given are_two phases done left station channel octets history stations_are wanted has.seen one handle link in_one is_open in
         let received = packet_received one history in
         let received_too = packet_received one after in
         let aired = history ++ Transmitted station channel octets (hearing ∷ []) ∷ [] in
@@ -416,15 +416,17 @@ module _ (words : Words) (heard_whole : IsHeardWhole) (understood : IsUnderstood
             subst (λ b. PhasedBy given history station (if b then at_stage (Within (suc phases)) (turns_begun history) else at_stage (Within phases) (turns_begun history)))
             (not_before given.stations done left station distinct are)
             (phased_at given (AtListening phases done (station ∷ left)) history has.seen.holds.hearing.stand station in_it) in
+            let called = front.at ∙ append_assoc history (Called station step ∷ notes) front.rest in
             let held = ap withheld_by (sym (ap (λ n. view_masks (facts_at given n history).view) (sym (there_and_back station (of_two_stations given are_two station in_it)))
-            ∙ line_masks given are_two (side_of station) history (notes ++ front.rest) (Called station step) (front.at ∙ append_assoc history (Called station step ∷ notes) front.rest)
-            (no_octet received))) in record {
+            ∙ line_masks given are_two (side_of station) history (notes ++ front.rest) (Called station step) called (no_octet received))) in record {
               seen = seen;
               lined = lines.on_hearing phases done left station history are some has.lined;
               control = controlled_call words given station step history (λ one. packet_received one history) (λ one. packet_received one after) gives.kept (apart_from words understood taken nth apart given are_two six station in_it) lined lined_after
                   (passes_own words understood taken given are_two six station history phases place in_it phased lined lined_after seen.known seen.seen held
                   (turn_is history facts.turn.slot (sym phased.uses.in_turn.slot_is)) gives.kept
-                  (λ octets some. given_at words given station step history (ap draws_in_call (ap step_of some)) gives) has.control)
+                  (λ octets some. given_at words given station step history (ap draws_in_call (ap step_of some)) gives)
+                  (of_turn understood taken given are_two six phases (turns_begun history) done left station history (Called station step ∷ (notes ++ front.rest)) are called
+                  has.seen.known.numbered.linked phased (has.seen.holds.so_far.last.each station in_it)) has.control)
                   (λ other is_too differs. received_by given other station step history false differs) has.control;
               each = call_each words given station step history has.each (λ in_one handle link at.
                   (has.control station handle link in_it at).keyed ∙ ap Some (taking_next handle facts received link));

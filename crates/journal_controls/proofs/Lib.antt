@@ -19,6 +19,8 @@ pub mod AtCentral
 pub mod LinkMoves
 pub mod EarlyAnswers
 pub mod OpenedControls
+pub mod OpenedMost
+pub mod NewLinks
 pub mod GoodPackets
 pub mod AskedControls
 pub mod ControlledEnds

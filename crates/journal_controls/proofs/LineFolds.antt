@@ -8,6 +8,7 @@ use Rattle.ble_base.specs.declared.roles.Side.TheVariants.{A, B}
 use Rattle.journal.specs.declared.entries.Entry.{Entry}
 use Rattle.journal.specs.declared.entries.Entry.TheVariants.{Opened, Shut}
 use Rattle.journal_ends.specs.Asked.{Words}
+use Rattle.journal_ends.specs.host_answers.Flows.{most_received_on}
 use Rattle.journal_ends.specs.host_answers.Answered.{accepted_in}
 use Rattle.journal_ends.specs.Answering.{answers_in_line}
 use Rattle.journal_ends.specs.Seen.{Asks, Hears, HearsForged, Says, Seen, asked_in_line, heard_in_line, seen_in_line}
@@ -76,7 +77,7 @@ lines_move words side number front line k seen answers is replies =
 pub quiet_line : (words : Words) (side : Side) (number : ℕ) (front : List Entry) (before : Option Keyed) (line : Entry) → seen_in_line words side number front line ≡ []
     → answers_in_line words side number front line ≡ [] → keyed_in_line words side number front before line ≡ before
 quiet_line words side number front before (Opened other link handle role) none unanswered =
-    opening_apart side other (link == number) (Opened other link handle role) (keyed_begun side (link_numbered number front)) before none
+    opening_apart side other (link == number) (Opened other link handle role) (keyed_begun (most_received_on side front) side (link_numbered number front)) before none
 quiet_line words side number front before (Shut other link reason) none unanswered =
     opening_apart side other (link == number) (Shut other link reason) None before none
 quiet_line words side number front before line none unanswered =
@@ -196,9 +197,9 @@ answered_line words side number front line k answer none is =
 -- ---- the line that opens the link
 
 pub opened_line : (words : Words) (side : Side) (number handle : ℕ) (role : Role) (front : List Entry) (before : Option Keyed) (link : LinkBegun) → link_numbered number front ≡ Some link
-    → keyed_in_line words side number front before (Opened side number handle role) ≡ keyed_begun side (Some link)
+    → keyed_in_line words side number front before (Opened side number handle role) ≡ keyed_begun (most_received_on side front) side (Some link)
 opened_line words side number handle role front before link is =
-    ap (λ b. if b then keyed_begun side (link_numbered number front) else before) (λ i. own_side side i && same_number number i) ∙ ap (keyed_begun side) is
+    ap (λ b. if b then keyed_begun (most_received_on side front) side (link_numbered number front) else before) (λ i. own_side side i && same_number number i) ∙ ap (keyed_begun (most_received_on side front) side) is
   where
     own_side : (one : Side) → is_side one one ≡ true
     own_side A = refl

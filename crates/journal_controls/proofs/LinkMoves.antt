@@ -1,6 +1,6 @@
 -- What a call on a controller does to an end of one of its links: it goes by the lines that the call adds for the link, from
 -- what it was before the call, or as a packet reached it.
-use Rattle.std.proofs.Common.{◌≡◌, ℕ, ◌&&◌, Bool, true, false, Option, Some, None, List, [], ◌∷◌, ◌++◌, fold, map, refl, sym, ap, subst, ◌∙◌, append-nil, append_assoc}
+use Rattle.std.proofs.Common.{◌≡◌, ℕ, Bool, true, false, Option, Some, None, List, [], ◌∷◌, ◌++◌, fold, map, refl, sym, ap, subst, ◌∙◌, append-nil, append_assoc}
 use Rattle.std.specs.Prelude.{IfSome, nat_lt, if◌then◌else◌}
 use Rattle.ble_base.specs.declared.notes.Note.{Note}
 use Rattle.ble_base.specs.declared.notes.Note.TheVariants.{Enter}
@@ -45,6 +45,7 @@ use Rattle.journal_ends.specs.run_model.History.{is_good, is_handed}
 use Rattle.journal_ends.specs.open_links.Data.{complete_in, link_reported}
 use Rattle.journal_ends.specs.open_links.OpenLinks.{Links, OpenLink, facts_in, link_after, link_at}
 use Rattle.journal_ends.specs.open_links.Turns.{enters_in}
+use Rattle.journal_ends.proofs.journal_acks.HandedOn.{forged_is}
 use Rattle.journal_ends.proofs.journal_acks.link_calls.LinkCalls.{turn_begun_under}
 use Rattle.journal_ends.proofs.journal_acks.link_calls.UnderHandles.{ended_under}
 use Rattle.journal_ends.proofs.GrownLinks.{IsRefusal, refusal_is}
@@ -61,7 +62,7 @@ use Rattle.journal_controls.specs.TurnSteps.{first_if, steps_begun}
 use Rattle.journal_controls.proofs.EndMoves.{KeepsRole, NoneRefuses, moved_noted, past_keeps, refuse_both, role_stays}
 use Rattle.journal_controls.proofs.EndSteps.{good_leave, received_is}
 use Rattle.journal_controls.proofs.FixedEnds.{begun_past, grown_facts}
-use Rattle.journal_controls.proofs.GoodPackets.{forged_is, forged_keyed, good_has, good_keyed}
+use Rattle.journal_controls.proofs.GoodPackets.{forged_keyed, good_has, good_keyed}
 use Rattle.journal_controls.proofs.Refusing.{first_some, refused, refused_fold, refused_leave, refused_notes}
 use Rattle.journal_controls.proofs.TakingLines.{answer_where, asked, keyed_answer, moved_more, received_by_lines}
 use Rattle.journal_controls.proofs.TurnMoves.{left_answers, turn_moves}

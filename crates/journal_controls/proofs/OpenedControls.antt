@@ -2,7 +2,6 @@
 use Rattle.std.proofs.Common.{◌≡◌, ℕ, suc, ◌⊎◌, Bool, true, false, Option, Some, None, List, [], ◌∷◌, ◌++◌, map, refl, sym, ap, subst, ◌+◌, ◌∙◌, append-nil, append_assoc, arith}
 use Rattle.std.specs.Prelude.{◌&&◌, ◌-◌, length, slice_get}
 use Rattle.ble_base.specs.Side.{other_side}
-use Rattle.ble_base.specs.Limits.{payload_octets}
 use Rattle.ble_base.specs.declared.addresses.Address.{Address}
 use Rattle.ble_base.specs.declared.notes.Note.{Note}
 use Rattle.ble_base.specs.declared.notes.Note.TheVariants.{Opened as OpenedNote}
@@ -16,12 +15,12 @@ use Rattle.journal_ends.specs.controller_model.Links.{note_opened}
 use Rattle.journal.specs.declared.entries.Entry.{Entry}
 use Rattle.journal.specs.declared.entries.Entry.TheVariants.{Air, Opened}
 use Rattle.journal_ends.specs.Answering.{answers_from, answers_in_line}
+use Rattle.journal_ends.specs.host_answers.Flows.{most_received_on}
 use Rattle.journal_ends.specs.Seen.{Asks, Hears, HearsForged, Says, Seen, asked_in_line, heard_in_line, heard_where, is_heard_on, seen_from, seen_in_line, seen_on}
 use Rattle.journal_ends.specs.journal_links.Begun.{LinkBegun, link_numbered, links_begun, with_number}
 use Rattle.journal_ends.specs.journal_links.Changes.{role_by}
 use Rattle.journal_ends.specs.journal_links.LinkLines.{line_of, link_named, where_named}
 use Rattle.journal_ends.specs.journal_links.Opened.{central_side}
-use Rattle.journal_ends.specs.journal_acks.link_calls.Ranges.{HasRanges}
 use Rattle.journal_ends.specs.journal_packets.Belonging.{is_side}
 use Rattle.journal_ends.specs.link_model.Facts.{first_facts, keyed_of}
 use Rattle.journal_ends.specs.link_model.Step.{Step}
@@ -29,7 +28,7 @@ use Rattle.journal_ends.specs.link_model.Setup.{Setup as EndSetup, first_params}
 use Rattle.journal_ends.specs.link_model.keyed_control.Keyed.{Keyed, first_keyed}
 use Rattle.journal_ends.specs.open_links.OpenLinks.{OpenLink}
 use Rattle.journal_ends.specs.run_model.Due.{Each}
-use Rattle.journal_ends.specs.run_model.History.{Event, TurnBegan, HostFed, Called, Noted, Transmitted, is_good}
+use Rattle.journal_ends.specs.run_model.History.{Event, TurnBegan, HostFed, Called, Noted, Transmitted}
 use Rattle.journal_ends.specs.run_model.Journal.{entries_of, entry_of, journal_of, side_of}
 use Rattle.journal_ends.specs.run_model.LinkEnds.{ConnectInd, HaveAddresses, IsAtEnd}
 use Rattle.journal_ends.specs.run_model.Links.{Links, links_of}
@@ -117,7 +116,7 @@ record IsOpenedIn (words : Words) (side : Side) (number handle : ℕ) (role : Ro
   first : List Entry
   rest : List Entry
   is_at : lines ≡ first ++ Opened side number handle role ∷ rest
-  begins : (link : LinkBegun) → link_numbered number (front ++ first) ≡ Some link → keyed_from words side number front before lines ≡ keyed_begun side (Some link)
+  begins : (link : LinkBegun) → link_numbered number (front ++ first) ≡ Some link → keyed_from words side number front before lines ≡ keyed_begun (most_received_on side (front ++ first)) side (Some link)
 
 opened_in : (words : Words) (side : Side) (number handle : ℕ) (role : Role) (front : List Entry) (before : Option Keyed) (lines : List Entry)
     → seen_from words side number front lines ≡ Says (Opened side number handle role) ∷ [] → answers_from words side number front lines ≡ []
@@ -138,7 +137,9 @@ opened_in words side number handle role front before (line ∷ lines) said unans
           first = line ∷ later.first;
           rest = later.rest;
           is_at = ap (λ xs. line ∷ xs) later.is_at;
-          begins = λ link is. later.begins link (ap (link_numbered number) (append_assoc front (line ∷ []) later.first) ∙ is);
+          begins = λ link is.
+              later.begins link (ap (link_numbered number) (append_assoc front (line ∷ []) later.first) ∙ is)
+              ∙ ap (λ early. keyed_begun (most_received_on side early) side (Some link)) (append_assoc front (line ∷ []) later.first);
         }
     by (one ∷ more) is then_on =
         let whole : one ∷ (more ++ seen_from words side number (front ++ line ∷ []) lines) ≡ Says (Opened side number handle role) ∷ [] =
@@ -155,7 +156,8 @@ opened_in words side number handle role front before (line ∷ lines) said unans
           begins = λ link is_link.
               quiet_lines words side number (front ++ line ∷ []) (keyed_in_line words side number front before line) lines both.second answers.second
               ∙ ap (keyed_in_line words side number front before) same
-              ∙ opened_line words side number handle role front before link (ap (link_numbered number) (sym (append-nil front)) ∙ is_link);
+              ∙ opened_line words side number handle role front before link (ap (link_numbered number) (sym (append-nil front)) ∙ is_link)
+              ∙ ap (λ early. keyed_begun (most_received_on side early) side (Some link)) (sym (append-nil front));
         }
 
 -- ---- the link of the line
@@ -225,10 +227,10 @@ event_in all history before after rest event at is = at ∙ ap (λ xs. xs ++ res
 
 -- the end of a link as it begins
 begun_first : (station : ℕ) (setup : EndSetup) (link : LinkBegun) → link.central ≡ central_side setup.link.role (side_of station) → link.fields ≡ setup.link.fields
-    → link.slot ≡ setup.opened → setup.link.max_rx ≡ payload_octets → keyed_begun (side_of station) (Some link) ≡ Some (keyed_of (first_facts setup))
-begun_first station setup link central fields slot most =
+    → link.slot ≡ setup.opened → keyed_begun setup.link.max_rx (side_of station) (Some link) ≡ Some (keyed_of (first_facts setup))
+begun_first station setup link central fields slot =
     let role = ap (λ s. role_by s (side_of station)) central ∙ role_is setup.link.role (side_of station) in
-    λ i. Some (first_keyed (role i) (sym most i) (first_params (fields i)) (slot i + 2 + (fields i).win_offset))
+    λ i. Some (first_keyed (role i) setup.link.max_rx (first_params (fields i)) (slot i + 2 + (fields i).win_offset))
 
 record HasLink (history : List Event) (number : ℕ) : Type 0 where
   link : LinkBegun
@@ -270,12 +272,14 @@ module _ (words : Words) (understood : IsUnderstood) (taken : AreTaken) (given :
 
   -- an end to which nothing else happened
   pub opened_control : (history rest : List Event) (number station : ℕ) (link : OpenLink) → history_of (run_of given) ≡ history ++ rest → Each IsOfBoth [] history
-      → is_in station given.stations ≡ true → HasNumber history number station link.setup → HasRanges link
+      → is_in station given.stations ≡ true → HasNumber history number station link.setup
       → turn_at history ≡ link.setup.opened
       → seen_at words number (side_of station) history ≡ Says (line_of (side_of station) number (note_opened link.setup.link)) ∷ []
+      → ((first later : List Entry) → journal_of history ≡ first ++ line_of (side_of station) number (note_opened link.setup.link) ∷ later
+      → link.setup.link.max_rx ≡ most_received_on (side_of station) first)
       → keyed_at words number (side_of station) history ≡ Some (keyed_of (first_facts link.setup))
   unfolding seen_on keyed_on
-  opened_control history rest number station link at two in_it has ranges turn said =
+  opened_control history rest number station link at two in_it has turn said most =
       let side = side_of station in
       let setup = link.setup in
       let of = link_is history number station setup two has (of_two_stations given are_two station in_it) in
@@ -285,4 +289,5 @@ module _ (words : Words) (understood : IsUnderstood) (taken : AreTaken) (given :
       let line = Opened side number setup.link.handle setup.link.role in
       let both : Some opening.link ≡ Some of.link =
       sym (number_stays number opened.first (line ∷ opened.rest) opening.link opening.early) ∙ ap (link_numbered number) (sym opened.is_at) ∙ of.is_link in
-      opened.begins opening.link opening.early ∙ ap (keyed_begun side) both ∙ begun_first station setup of.link of.central of.fields of.slot ranges.max_rx
+      opened.begins opening.link opening.early ∙ ap (keyed_begun (most_received_on side opened.first) side) both
+      ∙ ap (λ n. keyed_begun n side (Some of.link)) (sym (most opened.first opened.rest opened.is_at)) ∙ begun_first station setup of.link of.central of.fields of.slot

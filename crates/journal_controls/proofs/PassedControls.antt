@@ -1,6 +1,5 @@
 -- A phase passes at a station: what its ends are then by the journal.
-use Rattle.std.proofs.Common.{◌≡◌, ℕ, ◌⊎◌, inl, inr, Bool, true, false, Option, Some, None, List, [], ◌∷◌, refl, sym, ap, subst, ◌∙◌}
-use Rattle.std.specs.Prelude.{All}
+use Rattle.std.proofs.Common.{◌≡◌, ℕ, Bool, true, false, Option, Some, None, List, [], ◌∷◌, ◌++◌, map, refl, sym, ap, subst, ◌∙◌, append_assoc}
 use Rattle.journal_ends.proofs.controller_model.Always.{IsInTurn}
 use Rattle.std.proofs.lemmas.Bool.{eqb-true}
 use Rattle.ble_base.specs.declared.roles.Role.TheVariants.{Central, Peripheral}
@@ -23,20 +22,18 @@ use Rattle.journal_ends.specs.link_model.Packets.{good_pdu, is_forged, verdict_o
 use Rattle.journal_ends.specs.link_model.Step.{WordsGiven}
 use Rattle.journal_ends.specs.open_links.OpenLinks.{OpenLink, facts_in, link_at}
 use Rattle.journal_ends.specs.run_model.Feeding.{is_octet}
-use Rattle.journal_ends.specs.run_model.History.{Event, packet_received, turns_begun}
+use Rattle.journal_ends.specs.run_model.History.{Event, Called, Noted, packet_received, turns_begun}
 use Rattle.journal_ends.specs.run_model.Journal.{side_of}
 use Rattle.journal_ends.specs.run_model.LinkEnds.{HaveAddresses}
 use Rattle.journal_ends.specs.run_model.Run.{Given, after_call, facts_at, setup_at, step_of}
 use Rattle.journal_ends.proofs.EndsKnown.{AreLined}
 use Rattle.journal_ends.proofs.WordedLinks.{worded_as}
-use Rattle.journal_ends.proofs.SeenCalls.{AreSeenSo, held_at, seen_in_link, whole as seen_whole}
-use Rattle.journal_ends.proofs.journal_acks.Exchanging.{number_at, number_called}
+use Rattle.journal_ends.proofs.SeenCalls.{AreSeenSo, seen_in_link, whole as seen_whole}
+use Rattle.journal_ends.proofs.journal_acks.Exchanging.{number_at}
+use Rattle.journal_ends.proofs.journal_acks.PassedLinks.{passed_or_new}
 use Rattle.journal_ends.proofs.journal_acks.Standing.{PhasedBy}
 use Rattle.journal_ends.proofs.journal_acks.TwoStations.{IsOfTwo}
-use Rattle.journal_ends.proofs.journal_acks.link_calls.CallNotes.{OpensNone}
-use Rattle.journal_ends.proofs.journal_acks.link_calls.InRange.{ranges_in}
-use Rattle.journal_ends.proofs.journal_acks.link_calls.LinkCalls.{IsOpenedNow, passes_under, phase_quiet}
-use Rattle.journal_ends.proofs.journal_links.OfTwo.{are_distinct}
+use Rattle.journal_ends.proofs.journal_acks.link_calls.LinkCalls.{off_listens}
 use Rattle.journal_ends.proofs.journal_packets.SoFar.{IsBelongingSoFar}
 use Rattle.journal_ends.proofs.run_laws.Agreed.{step_facts}
 use Rattle.journal_ends.proofs.run_laws.LinkPhases.{HasRole, IsInPhase}
@@ -53,14 +50,16 @@ use Rattle.journal_controls.proofs.EndMoves.{KeepsRole, forged_keeps, hearing_ke
 use Rattle.journal_controls.proofs.EventMoves.{call_moving, drawn_at, turn_answers, turn_at, withholds_at}
 use Rattle.journal_controls.proofs.FixedEnds.{sends_replying}
 use Rattle.journal_controls.proofs.LinkMoves.{MovesTo, redrawn, same_moves, taken_as, worded_moves}
+use Rattle.journal_controls.proofs.NewLinks.{IsOfTurn, Left, New}
 use Rattle.journal_controls.proofs.OpenedControls.{opened_control}
+use Rattle.journal_controls.proofs.OpenedMost.{opened_most}
 
 pub no_octet : (received : Option (List ℕ)) → is_octet (step_of received) ≡ false
 no_octet None = refl
 no_octet (Some octets) = refl
 
 -- an end to which nothing happened yet
-first_said : (number station : ℕ) (link : OpenLink) → link.past ≡ []
+pub first_said : (number station : ℕ) (link : OpenLink) → link.past ≡ []
     → seen_in_link number (side_of station) link ≡ Says (line_of (side_of station) number (note_opened link.setup.link)) ∷ []
 unfolding seen_of
 first_said number station link none = ap (λ past. seen_of (side_of station) number link.setup past) none
@@ -108,6 +107,9 @@ module _ (words : Words) (understood : IsUnderstood) (taken : AreTaken) (given :
     (kept : AreKept words)
     (gives : (octets : List ℕ) → packet_received station history ≡ Some octets
     → drawn_at words (side_of station) history ≡ words_next (setup_at given station) (facts_at given station history))
+    (of_turn : (handle : ℕ) (link : OpenLink) → link_at handle (facts_at given station (after_call given station (step_of (packet_received station history)) history)).links ≡ Some link
+    → link.setup.opened ≡ (facts_at given station history).turn.slot
+    → IsOfTurn given station handle history (after_call given station (step_of (packet_received station history)) history) link)
     (are : AreControlledSo words given history (λ one. packet_received one history)) where
   abbrev received : Option (List ℕ)
   received = packet_received station history
@@ -133,27 +135,40 @@ module _ (words : Words) (understood : IsUnderstood) (taken : AreTaken) (given :
       (call_moving words given (number_at station 0 history) (side_of station) station (step_of received) history kept
       (turn_answers given (side_of station) station (step_of received) history (no_octet received))).turns ∙ slot_is
 
-  fresh : (handle : ℕ) (link : OpenLink) → link_at handle (facts_at given station next).links ≡ Some link → link.past ≡ [] → link.setup.opened ≡ facts.turn.slot
-      → IsNow handle link
-  fresh handle link at none opened =
-      let number = number_at station handle next in
-      let turn = (facts_at given station next).turn in
-      let front = front_at given place next known.front in
-      let said = seen_whole words (packet_received station next) handle turn link number (side_of station) next (λ on. none_next) (seen station handle link in_it at)
-      ∙ first_said number station link none in
-      from_whole words (packet_received station next) handle turn link number (side_of station) next (λ on. none_next)
-      (opened_control words understood taken given are_two six next front.rest number station link front.at known.asked.sent in_it (known.numbered.numbered station handle link at)
-      (ranges_in given next front.rest station handle link (are_distinct given are_two) in_it front.at at) (turn_stays ∙ sym opened) said
-      ∙ ap Some (first_is link none))
-
-  passed : (handle : ℕ) (link : OpenLink) → link_at handle (facts_at given station next).links ≡ Some link → number_at station handle next ≡ number_at station handle history
-      → HasPassed (setup_at given station) facts (has_room (setup_at given station) facts) received handle (facts_after (setup_at given station) facts (step_of received)).turn.doing link → IsNow handle link
-  passed handle link at number (IsNew end made opened off) = fresh handle link at (ap (λ (l : OpenLink). l.past) made) (ap (λ (l : OpenLink). l.setup.opened) made ∙ opened)
-  passed handle link at number (Stays was none nothing listened) =
+  -- nothing happened to it
+  stays : (handle : ℕ) (link : OpenLink) → link_at handle (facts_at given station next).links ≡ Some link → number_at station handle next ≡ number_at station handle history
+      → link_at handle facts.links ≡ Some link → (listens_under handle facts.turn.doing ≡ true → received ≡ None) → IsNow handle link
+  stays handle link at number was nothing =
       let own = number_at station handle history in
       moved_own words given station (step_of received) history in_it lined lined_after handle link at (packet_received station next) none_next number link was kept (phase_turn received) (keyed_of (facts_in link))
       (same_moves (side_of station) own (withholds_at (side_of station) history) (drawn_at words (side_of station) history) (turn_at history) link)
       (whole words received handle facts.turn link own (side_of station) history nothing (are station handle link in_it was))
+
+  fresh : (handle : ℕ) (link : OpenLink) → link_at handle (facts_at given station next).links ≡ Some link → link.past ≡ [] → link.setup.opened ≡ facts.turn.slot
+      → IsNow handle link
+  fresh handle link at none opened = by (of_turn handle link at opened)
+    where
+      by : IsOfTurn given station handle history next link → IsNow handle link
+      by (Left was off number) =
+          stays handle link at number was (λ on. absurd (let h : true ≡ false = sym on ∙ off_listens handle facts.turn.doing off in absurd cc))
+      by (New most lines) =
+          let number = number_at station handle next in
+          let turn = (facts_at given station next).turn in
+          let front = front_at given place next known.front in
+          let notes = map (Noted station) (notes_after (setup_at given station) facts (step_of received)) in
+          let said = seen_whole words (packet_received station next) handle turn link number (side_of station) next (λ on. none_next) (seen station handle link in_it at)
+          ∙ first_said number station link none in
+          from_whole words (packet_received station next) handle turn link number (side_of station) next (λ on. none_next)
+          (opened_control words understood taken given are_two six next front.rest number station link front.at known.asked.sent in_it (known.numbered.numbered station handle link at)
+          (turn_stays ∙ sym opened) said
+          (λ first later is. most ∙ opened_most given are_two station (step_of received) history (notes ++ front.rest) in_it (phase_turn received)
+          (front.at ∙ append_assoc history (Called station (step_of received) ∷ notes) front.rest) number link.setup.link.handle link.setup.link.role first later lines is)
+          ∙ ap Some (first_is link none))
+
+  passed : (handle : ℕ) (link : OpenLink) → link_at handle (facts_at given station next).links ≡ Some link → number_at station handle next ≡ number_at station handle history
+      → HasPassed (setup_at given station) facts (has_room (setup_at given station) facts) received handle (facts_after (setup_at given station) facts (step_of received)).turn.doing link → IsNow handle link
+  passed handle link at number (IsNew end made opened off) = fresh handle link at (ap (λ (l : OpenLink). l.past) made) (ap (λ (l : OpenLink). l.setup.opened) made ∙ opened)
+  passed handle link at number (Stays was none nothing listened) = stays handle link at number was nothing
   passed handle link at number (Takes base octets was some on same) =
       let own = number_at station handle history in
       let side = side_of station in
@@ -178,14 +193,6 @@ module _ (words : Words) (understood : IsUnderstood) (taken : AreTaken) (given :
       (before.keyed ∙ (λ i. Some (keyed_taking (on i) (some i) facts.turn.slot base)))
 
   pub passes_own : (handle : ℕ) (link : OpenLink) → link_at handle (facts_at given station next).links ≡ Some link → IsNow handle link
-  passes_own handle link at = by (phase_quiet (setup_at given station) facts received handle)
-    where
-      by : All (OpensNone handle) (notes_after (setup_at given station) (facts_at given station history) (step_of (packet_received station history)))
-          ⊎ ((one : OpenLink) → link_at handle (facts_after (setup_at given station) (facts_at given station history) (step_of (packet_received station history))).links ≡ Some one
-          → IsOpenedNow (facts_at given station history).turn.slot one) → IsNow handle link
-      by (inl quiet) =
-          passed handle link at (number_called given station (step_of received) history handle quiet)
-          (passes_under (setup_at given station) facts received handle link phased.uses.in_turn.listens (held_at words given station (step_of received) history in_it lined lined_after handle link at))
-      by (inr new) =
-          let now = new link (held_at words given station (step_of received) history in_it lined lined_after handle link at) in
-          fresh handle link at now.past now.opened
+  passes_own handle link at =
+      passed_or_new given station history phased.uses.in_turn.listens (IsNow handle link) handle link at (passed handle link at)
+      (λ new. fresh handle link at new.past new.opened)

@@ -19,8 +19,9 @@ use Rattle.journal_ends.specs.link_model.Setup.{Setup}
 use Rattle.journal_ends.specs.link_model.Step.{PacketReceived, PacketSent, PduFixed}
 use Rattle.journal_ends.specs.link_model.Verdicts.{pdu_of}
 use Rattle.journal_ends.specs.link_model.control_model.Control.{Control, ended}
+use Rattle.journal_ends.proofs.link_model.Fixing.{acked_control as acked_free}
 use Rattle.journal_controls.specs.KeyedLines.{has_next}
-use Rattle.journal_controls.proofs.CentralFixed.{IsFree, acked_free, data_free, facts_sent_free, forged_free, gone_acked, sent_free, taking_free}
+use Rattle.journal_controls.proofs.CentralFixed.{IsFree, data_free, facts_sent_free, forged_free, gone_acked, sent_free, taking_free}
 use Rattle.journal_controls.proofs.EndSteps.{heard_leave}
 
 -- ---- as it fixes its PDU
@@ -32,7 +33,7 @@ fixes_next setup facts free =
 
 -- ---- as it hears and answers
 
-taken_acked : (takes : Bool) (pdu : Pdu) (slot : ℕ) (facts : Facts) → is_acked (procedures_take_if takes pdu slot facts).acknowledgement ≡ is_acked facts.acknowledgement
+pub taken_acked : (takes : Bool) (pdu : Pdu) (slot : ℕ) (facts : Facts) → is_acked (procedures_take_if takes pdu slot facts).acknowledgement ≡ is_acked facts.acknowledgement
 taken_acked true pdu slot facts = refl
 taken_acked false pdu slot facts = refl
 
@@ -43,7 +44,7 @@ sent_outgoing slot facts leaves is none =
     ap (λ b. let gone = control_gone_if b slot facts in
     data_sent_as (payload_made gone.encryption.end gone.outgoing.fixed) (is_acked gone.acknowledgement) gone.outgoing) (is ∙ none)
 
-taken_data : (takes : Bool) (facts : Facts) → is_acked (data_taken_if takes facts).acknowledgement ≡ is_acked facts.acknowledgement
+pub taken_data : (takes : Bool) (facts : Facts) → is_acked (data_taken_if takes facts).acknowledgement ≡ is_acked facts.acknowledgement
 taken_data true facts = refl
 taken_data false facts = refl
 

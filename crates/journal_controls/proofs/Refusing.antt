@@ -1,22 +1,22 @@
 -- What an end makes of its answer to a request that is withheld from its host.
-use Rattle.std.proofs.Common.{◌≡◌, ℕ, ◌&&◌, not, Bool, true, false, Option, Some, None, List, ◌∷◌, fold, is_none, refl, sym, ap, ◌∙◌}
+use Rattle.std.proofs.Common.{◌≡◌, ℕ, not, Bool, true, false, Option, Some, None, List, ◌∷◌, fold, is_none, refl, sym, ap, ◌∙◌}
 use Rattle.std.specs.Prelude.{IfSome, ◌||◌}
 use Rattle.journal_ends.specs.link_model.Acknowledgement.{is_acked}
 use Rattle.journal_ends.specs.link_model.Data.{Data, is_control}
 use Rattle.journal_ends.specs.link_model.End.{facts_after, notes_from}
 use Rattle.journal_ends.specs.link_model.Facts.{Facts}
-use Rattle.journal_ends.specs.link_model.Hosts.{ends_without_key, leaving_from_if}
+use Rattle.journal_ends.specs.link_model.Hosts.{ends_without_key}
 use Rattle.journal_ends.specs.link_model.Payload.{payload_made}
 use Rattle.journal_ends.specs.link_model.Receiving.{has_ended}
 use Rattle.journal_ends.specs.link_model.Sending.{data_sent_as, takes_leave}
 use Rattle.journal_ends.specs.link_model.Setup.{Setup}
 use Rattle.journal_ends.specs.link_model.Step.{Step, KeyAnswered, PacketSent, RequestAnswered}
-use Rattle.journal_ends.specs.link_model.declared.state.Leaving.{Leaving}
 use Rattle.journal_ends.specs.journal_acks.link_calls.Phases.{refused_if}
 use Rattle.journal_ends.specs.open_links.OpenLinks.{OpenLink, facts_in}
 use Rattle.journal_ends.proofs.GrownLinks.{IsRefusal}
 use Rattle.journal_ends.proofs.run_laws.Agreed.{step_facts}
 use Rattle.journal_ends.proofs.HostedLinks.{host_ends}
+use Rattle.journal_ends.proofs.link_model.Ending.{key_stays}
 use Rattle.journal_controls.proofs.PeripheralFixed.{sent_outgoing}
 
 -- an end after that, if it answers
@@ -37,10 +37,6 @@ refused_if_setup (Some step) link = refl
 pub refused_facts : (refusal : Option Step) (link : OpenLink) → facts_in (refused_if refusal link) ≡ refused link.setup (facts_in link) refusal
 refused_facts None link = refl
 refused_facts (Some step) link = step_facts link step
-
-leaving_still : (leaves : Bool) (slot : ℕ) (leaving : Leaving) → (leaving_from_if leaves slot leaving).acknowledged ≡ leaving.acknowledged
-leaving_still true slot leaving = refl
-leaving_still false slot leaving = refl
 
 apart_payload : (one other : List ℕ) (is_new : Bool) (outgoing : Data) → (data_sent_as one is_new outgoing).fixed ≡ (data_sent_as other is_new outgoing).fixed
 apart_payload one other true outgoing = refl
@@ -71,7 +67,7 @@ module _ (setup : Setup) (facts : Facts) where
   refused_ended None is = refl
   refused_ended (Some (RequestAnswered answer)) is = ap (λ ends. not (is_none ends) || facts.leaving.acknowledged) (host_ends setup facts (RequestAnswered answer) tt)
   refused_ended (Some (KeyAnswered key slot)) is =
-      λ i. not (is_none (host_ends setup facts (KeyAnswered key slot) tt i)) || leaving_still (ends_without_key key facts) slot facts.leaving i
+      λ i. not (is_none (host_ends setup facts (KeyAnswered key slot) tt i)) || key_stays (ends_without_key key facts) slot facts.leaving i
   refused_ended (Some step) is = absurd is
 
   -- whether it then sends a control PDU that left the queue before

@@ -1,5 +1,5 @@
 -- An end in a turn goes by the lines that the end says in it.
-use Rattle.std.proofs.Common.{◌≡◌, ℕ, Bool, true, false, Some, List, [], fold, if◌then◌else◌, refl, sym, ap, ◌∙◌}
+use Rattle.std.proofs.Common.{◌≡◌, ℕ, Bool, true, false, Some, List, [], fold, refl, sym, ap, ◌∙◌}
 use Rattle.ble_base.specs.declared.roles.Role.TheVariants.{Central, Peripheral}
 use Rattle.ble_base.specs.declared.roles.Side.{Side}
 use Rattle.data_pdu.specs.Header.{header_in}
@@ -8,12 +8,12 @@ use Rattle.journal_ends.specs.link_model.Acknowledgement.{Pdu}
 use Rattle.journal_ends.specs.link_model.Data.{is_control}
 use Rattle.journal_ends.specs.link_model.End.{facts_after, facts_of, notes_after, notes_from}
 use Rattle.journal_ends.specs.link_model.Facts.{Facts, keyed_of}
-use Rattle.journal_ends.specs.link_model.Fixing.{fixed_anew}
 use Rattle.journal_ends.specs.link_model.Packets.{good_pdu}
 use Rattle.journal_ends.specs.link_model.Sending.{takes_leave}
 use Rattle.journal_ends.specs.link_model.Setup.{Setup}
 use Rattle.journal_ends.specs.link_model.Step.{Step, EventEntered, PacketReceived, PacketSent, PduFixed}
 use Rattle.journal_ends.specs.link_model.keyed_control.declared.material.Response.{Response}
+use Rattle.journal_ends.proofs.link_model.KeyedSteps.{fixed}
 use Rattle.journal_controls.specs.KeyedLines.{has_next, keyed_by_all}
 use Rattle.journal_controls.specs.LineSteps.{steps_heard}
 use Rattle.journal_controls.specs.OneEnd.{IsToldOf, steps_noted}
@@ -22,10 +22,6 @@ use Rattle.journal_controls.proofs.CentralFixed.{IsFree, past_free, step_free}
 use Rattle.journal_controls.proofs.EndMoves.{AreByLines, by_none, by_then}
 use Rattle.journal_controls.proofs.EndSteps.{central_sends_free, entry_moves, good_leave, left_sends, packet_moves}
 use Rattle.journal_controls.proofs.NotedSteps.{joined, noted_both}
-
-fixing_keeps : (stays : Bool) (facts : Facts) → keyed_of (if stays then facts else fixed_anew facts) ≡ keyed_of facts
-fixing_keeps true facts = refl
-fixing_keeps false facts = refl
 
 module _ (side : Side) (number : ℕ) (response : Response) (slot : ℕ) (setup : Setup) where
   -- ---- as a turn begins
@@ -44,7 +40,7 @@ module _ (side : Side) (number : ℕ) (response : Response) (slot : ℕ) (setup 
       → AreByLines side number response slot setup facts (first_if fixes PduFixed (first_if sends (PacketSent slot) []))
   fixes_by false sends facts free central = sends_by sends facts free central
   fixes_by true sends facts free central =
-      by_then side number response slot setup facts PduFixed (first_if sends (PacketSent slot) []) (fixing_keeps (is_control facts.outgoing.fixed) facts)
+      by_then side number response slot setup facts PduFixed (first_if sends (PacketSent slot) []) (fixed (is_control facts.outgoing.fixed) facts)
       (sends_by sends (facts_after setup facts PduFixed) (λ role. step_free setup role facts PduFixed (free role)) central)
 
   begins_by : (enters fixes sends : Bool) (facts : Facts) → (setup.link.role ≡ Central → IsFree facts) → (sends ≡ true → setup.link.role ≡ Central)

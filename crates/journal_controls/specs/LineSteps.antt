@@ -1,13 +1,13 @@
 -- The procedures, the parameters, the phase and the keys of an end of a link, from the lines of a journal alone (Core 5.2,
 -- volume 6 part B, sections 4.5.9, 5.1 and 5.5).
-use Rattle.std.specs.Prelude.{ℕ, ◌+◌, ◌-◌, ◌==◌, ◌&&◌, nat_lt, not, Bool, true, false, List, [], ◌∷◌, ◌++◌, length, Option, Some, None, if◌then◌else◌}
+use Rattle.std.specs.Prelude.{ℕ, ◌+◌, ◌-◌, ◌==◌, ◌&&◌, nat_lt, not, Bool, false, List, [], ◌∷◌, ◌++◌, length, Option, Some, None, if◌then◌else◌}
 use Rattle.std.specs.List.{flat_map}
 use Rattle.std.specs.Option.{option_map}
 use Rattle.ble_base.specs.declared.channel_map.ChannelMap.{ChannelMap}
 use Rattle.ble_base.specs.declared.roles.Role.{Role}
 use Rattle.ble_base.specs.declared.roles.Role.TheVariants.{Central, Peripheral}
 use Rattle.ble_base.specs.declared.roles.Side.{Side}
-use Rattle.journal_ends.specs.controller_model.Heard.{most_received}
+use Rattle.journal_ends.specs.host_answers.Flows.{most_received_on}
 use Rattle.host_masks.specs.Masks.{masks_of}
 use Rattle.journal.specs.declared.entries.Entry.{Entry}
 use Rattle.journal.specs.declared.entries.Entry.TheVariants.{Enter, Opened, Sent, Shut, Took}
@@ -122,18 +122,18 @@ steps_in_line words side number front line k =
 abbrev pub anchor_begun : LinkBegun → ℕ
 anchor_begun link = link.slot + 2 + link.fields.win_offset
 
--- as the link begins
-abbrev pub keyed_begun : Side → Option LinkBegun → Option Keyed
-keyed_begun side None = None
-keyed_begun side (Some link) =
-    Some (first_keyed (role_on link side) most_received (first_params link.fields) (anchor_begun link))
+-- as the link begins, where the end receives at most this number of octets
+abbrev pub keyed_begun : (most : ℕ) → Side → Option LinkBegun → Option Keyed
+keyed_begun most side None = None
+keyed_begun most side (Some link) =
+    Some (first_keyed (role_on link side) most (first_params link.fields) (anchor_begun link))
 
 abbrev pub moved_in_line : Words → Side → ℕ → List Entry → Entry → Keyed → Keyed
 moved_in_line words side number front line k = keyed_by_all (steps_in_line words side number front line k) k
 
 abbrev pub keyed_in_line : Words → Side → ℕ → List Entry → Option Keyed → Entry → Option Keyed
 keyed_in_line words side number front before (Opened other link handle role) =
-    if is_side other side && link == number then keyed_begun side (link_numbered number front) else before
+    if is_side other side && link == number then keyed_begun (most_received_on side front) side (link_numbered number front) else before
 keyed_in_line words side number front before (Shut other link reason) =
     if is_side other side && link == number then None else before
 keyed_in_line words side number front before line = option_map (moved_in_line words side number front line) before

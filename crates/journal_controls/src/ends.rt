@@ -4,7 +4,6 @@ ghost use Rattle.std.specs.Prelude.{◌≡◌, ◌+◌, ℕ, Bool, List, [], Opt
 ghost use Rattle.ble_base.specs.declared.roles.Role.{Role};
 ghost use Rattle.ble_base.specs.declared.roles.Side.{Side};
 ghost use Rattle.ble_base.specs.declared.verdicts.Verdict.TheVariants.{Forged};
-ghost use Rattle.journal_ends.specs.controller_model.Heard.{most_received};
 ghost use Rattle.data_pdu.specs.Header.{header_in};
 ghost use Rattle.journal_ends.specs.journal_acks.Carried.{SentLine, pdu_carried};
 ghost use Rattle.journal_ends.specs.journal_acks.Exchange.{Exchanged};
@@ -102,11 +101,11 @@ pub fn counts_tell_of_an_end_that_hears()
 {}
 
 /// The control part of an end, its phase and its keys begin as those of its link do by the journal,
-/// where the link has the fields and the turn of its CONNECT_IND, and the end has the role of its side and receives as
-/// much as any end (Core 5.2, volume 6 part B, sections 2.3.3.1, 4.5.3 and 4.5.10).
+/// where the link has the fields and the turn of its CONNECT_IND, and the end has the role of its
+/// side (Core 5.2, volume 6 part B, sections 2.3.3.1, 4.5.3 and 4.5.10).
 pub fn an_end_begins_with_the_control_part_of_its_link()
     ensures { (side : Side) (link : LinkBegun) (setup : Setup)
         → link.fields ≡ setup.link.fields → link.slot ≡ setup.opened
-        → role_on link side ≡ setup.link.role → setup.link.max_rx ≡ most_received
-        → keyed_begun side (Some link) ≡ Some (keyed_of (first_facts setup)) }
+        → role_on link side ≡ setup.link.role
+        → keyed_begun setup.link.max_rx side (Some link) ≡ Some (keyed_of (first_facts setup)) }
 {}

@@ -5,7 +5,6 @@ use Rattle.ble_base.specs.declared.notes.Note.{Note}
 use Rattle.ble_base.specs.declared.notes.Note.TheVariants.{Took as TookNote}
 use Rattle.ble_base.specs.declared.roles.Role.TheVariants.{Peripheral}
 use Rattle.ble_base.specs.declared.roles.Side.{Side}
-use Rattle.ble_base.specs.declared.roles.Side.TheVariants.{A, B}
 use Rattle.data_pdu.specs.Reading.{ctrl_of}
 use Rattle.data_pdu.specs.declared.ctrl.Ctrl.TheVariants.{TerminateInd}
 use Rattle.data_pdu.specs.declared.ctrl.CtrlRead.TheVariants.{Known}
@@ -16,7 +15,6 @@ use Rattle.journal_collisions.specs.journal_endings.controller_model.Heard.{has_
 use Rattle.journal_collisions.specs.journal_endings.controller_model.Links.{note_opened}
 use Rattle.journal_collisions.specs.journal_endings.controller_model.Since.{notes_opened_on}
 use Rattle.journal_collisions.specs.journal_links.Begun.{LinkBegun, link_numbered}
-use Rattle.journal_collisions.specs.journal_links.Changes.{role_by}
 use Rattle.journal_collisions.specs.journal_links.LinkLines.{lines_of}
 use Rattle.journal_collisions.specs.journal_data.Followed.{Follows, Mixed}
 use Rattle.journal_collisions.specs.journal_data.link_model.End.{facts_of, notes_of}
@@ -29,7 +27,7 @@ use Rattle.journal_collisions.specs.journal_data.run_model.NoteLines.{IsLineInCa
 use Rattle.journal_collisions.specs.journal_data.run_model.Run.{Given, facts_at, history_of, run_of, setup_at}
 use Rattle.journal_collisions.specs.journal_data.open_links.OpenLinks.{facts_in}
 use Rattle.journal_collisions.specs.link_pairs.Ends.{is_lasting}
-use Rattle.journal_collisions.proofs.RefusedLines.{is_control, line_here}
+use Rattle.journal_collisions.proofs.RefusedLines.{far_peripheral, is_control, line_here}
 use Rattle.journal_collisions.proofs.journal_endings.journal_indications.InTime.{role_of_end}
 use Rattle.journal_collisions.proofs.journal_endings.journal_indications.LineEnds.{IsEndOfLine}
 use Rattle.journal_collisions.proofs.journal_endings.journal_indications.Receptions.{IsReception}
@@ -54,10 +52,6 @@ AreOverAfterTermination = (setup : Setup) (past : List Step) (start later : List
     → is_lasting (facts_of setup past) ≡ false
 
 -- ---- in each run
-
-far_peripheral : (central : Side) → role_by central (other_side central) ≡ Peripheral
-far_peripheral A = refl
-far_peripheral B = refl
 
 module _ (whole_heard : IsHeardWhole) (understood : IsUnderstood) (taken : AreTaken) (nth : AreNth) (apart : AreApart) (given : Given)
     (are_pair : IsOfTwo given) (six : HaveAddresses given) (mixed : Mixed) (follows : Follows given mixed) (known : AreKnownInRuns) (over : AreOverAfterTermination) where

@@ -42,7 +42,7 @@ use Rattle.journal_collisions.proofs.journal_endings.controller_model.UnderNotes
 use Rattle.journal_collisions.proofs.journal_endings.link_calls.run_laws.TwoStations.{are_two}
 use Rattle.journal_collisions.proofs.journal_endings.journal_indications.FarEnds.{far_before}
 use Rattle.journal_collisions.proofs.journal_endings.journal_indications.LineEnds.{IsEndOfLine, end_of_line, in_it}
-use Rattle.journal_collisions.proofs.journal_endings.journal_indications.Receptions.{IsReception, listened, reception_of}
+use Rattle.journal_collisions.proofs.journal_endings.journal_indications.Receptions.{IsReception, reception_of}
 use Rattle.journal_collisions.specs.journal_data.Followed.{Follows, Mixed}
 use Rattle.journal_collisions.proofs.journal_endings.journal_indications.journal_data.Followed.{AreEndsOf, hear_fewer, hear_in_call, is_of_two}
 use Rattle.journal_collisions.proofs.journal_endings.journal_indications.journal_data.KeptData.{other_in}
@@ -68,6 +68,7 @@ use Rattle.journal_collisions.proofs.journal_endings.journal_indications.journal
 use Rattle.journal_collisions.proofs.journal_endings.journal_indications.journal_data.run_model.Places.{each_at}
 use Rattle.journal_collisions.proofs.journal_endings.journal_indications.journal_data.run_model.Stations.{is_in}
 use Rattle.journal_collisions.proofs.run_collisions.OfPairs.{good_taken, hear_before, sent_to_central, sent_to_peripheral}
+use Rattle.journal_collisions.proofs.journal_endings.run_pairs.FarPackets.{listens_is as listened}
 use Rattle.journal_crossing.specs.Crossing.{IsKnownControl}
 
 -- ---- each run

@@ -1,5 +1,5 @@
 -- Both open ends of a link that is followed are in agreement.
-use Rattle.std.proofs.Common.{◌≡◌, ℕ, true, Some, List, [], ◌++◌, refl, ◌∙◌}
+use Rattle.std.proofs.Common.{◌≡◌, ℕ, true, Some, List, [], ◌++◌, refl}
 use Rattle.ble_base.specs.declared.roles.Role.{Role}
 use Rattle.ble_base.specs.declared.roles.Role.TheVariants.{Central, Peripheral}
 use Rattle.journal_acks.specs.link_model.OneLink.{AreInAgreement}

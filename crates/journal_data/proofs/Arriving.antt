@@ -1,10 +1,9 @@
 -- What the lines of both sides say of one link, from what its ends hold.
-use Rattle.std.proofs.Common.{◌≡◌, ℕ, zero, suc, ◌+◌, ◌-◌, ◌≤◌, ◌==◌, ◌&&◌, ◌||◌, not, nat_lt, Bool, true, false, List, [], ◌∷◌, ◌++◌, cond, length, take, drop, refl, sym, ap, subst, ◌∙◌, arith, if◌then◌else◌}
+use Rattle.std.proofs.Common.{◌≡◌, ℕ, zero, suc, ◌+◌, ◌≤◌, ◌==◌, ◌&&◌, ◌||◌, not, Bool, true, false, List, [], ◌∷◌, ◌++◌, cond, length, take, drop, refl, sym, ap, subst, ◌∙◌, arith}
 use Rattle.std.specs.List.{flat_map}
 use Rattle.std.proofs.Math.Seq.{take-append_seam}
 use Rattle.std.proofs.Math.Bool.{and-false}
 use Rattle.std.proofs.lemmas.Bool.{eqb-true}
-use Rattle.std.proofs.lemmas.Bool.Decides.{nat_tests}
 use Rattle.std.proofs.lemmas.List.Concat.{flat_map-append}
 use Rattle.std.proofs.lemmas.List.{length-append, length-drop, length-take, take-append-drop, take-append-le}
 use Rattle.std.proofs.lemmas.List.Elements.{filter-append}
@@ -18,24 +17,9 @@ use Rattle.journal_acks.specs.link_model.Delivery.{IsInOrder}
 use Rattle.journal_acks.specs.link_model.Data.{acked_data}
 use Rattle.journal_acks.specs.link_model.Facts.{Facts as EndFacts}
 use Rattle.journal_acks.specs.link_model.OneLink.{AreInAgreement}
-use Rattle.journal_acks.proofs.link_model.Taking.{delivered}
+use Rattle.journal_acks.proofs.link_model.Taking.{delivered, more_whole, take_less}
 use Rattle.journal_data.specs.Lines.{Lines, PduLine, accepted_on, credited_on, data_on, empties_on, pdus_on, received_on}
 use Rattle.journal_data.specs.Delivered.{ArrivesInOrder}
-
--- more octets have no fewer whole packets in them
-pub more_whole : (packets : List HostData) (few many : ℕ) → few ≤ many → whole_packets packets few ≤ whole_packets packets many
-more_whole [] few many less = omega arith
-more_whole (packet ∷ packets) few many less =
-    by_tests (nat_lt few (length packet.body)) (nat_lt many (length packet.body)) refl refl
-    (more_whole packets (few - length packet.body) (many - length packet.body) (omega arith))
-  where
-    by_tests : (short none : Bool) → nat_lt few (length packet.body) ≡ short → nat_lt many (length packet.body) ≡ none
-        → whole_packets packets (few - length packet.body) ≤ whole_packets packets (many - length packet.body)
-        → (if short then 0 else 1 + whole_packets packets (few - length packet.body))
-        ≤ (if none then 0 else 1 + whole_packets packets (many - length packet.body))
-    by_tests true none e f later = omega arith
-    by_tests false true e f later = absurd (grind (arith, nat_tests))
-    by_tests false false e f later = omega arith
 
 -- ---- lines of PDUs
 
@@ -59,7 +43,7 @@ lines_data link number [] = refl
 lines_data link number (pdu ∷ pdus) = ap (λ rest. data_in pdu ++ rest) (lines_data link (number + 1) pdus)
 
 -- an empty PDU has no data
-no_data : (llid : ℕ) (reserved none : Bool) → (llid == 0) ≡ reserved → (reserved || none) ≡ true
+pub no_data : (llid : ℕ) (reserved none : Bool) → (llid == 0) ≡ reserved → (reserved || none) ≡ true
     → (((llid == 1) || (llid == 2)) && not none) ≡ false
 no_data llid true none reserved is = ap (λ n. ((n == 1) || (n == 2)) && not none) (eqb-true llid 0 reserved)
 no_data llid false true free is = and-false ((llid == 1) || (llid == 2))
@@ -111,12 +95,6 @@ first_ahead link ack to none =
     record { pdus = omega (arith, no_pdus); octets = omega (arith, no_octets) }
 
 -- ---- both ends are open
-
-pub take_less : {A : Type 0} (few many : ℕ) (xs : List A) → few ≤ many → take few (take many xs) ≡ take few xs
-take_less zero many xs less = refl
-take_less (suc few) zero xs less = absurd (omega arith)
-take_less (suc few) (suc many) [] less = refl
-take_less (suc few) (suc many) (x ∷ xs) less = ap (λ rest. x ∷ rest) (take_less few many xs (omega arith))
 
 first_data : (count : ℕ) (pdus : List Pdu) → length (data_of (take count pdus)) ≤ length (data_of pdus)
 first_data count pdus =

@@ -13,7 +13,7 @@ use Rattle.ble_base.specs.declared.notes.Note.{Note}
 use Rattle.ble_base.specs.declared.notes.Note.TheVariants.{Up, Sent, Took}
 use Rattle.host_view.specs.Noted.{acl_handle, is_acl_data, two_octets}
 use Rattle.journal_acks.specs.controller_model.Notes.{is_event}
-use Rattle.journal_acks.specs.controller_model.Since.{data_up, starts_message}
+use Rattle.journal_acks.specs.controller_model.Since.{data_up, is_data_on, starts_message}
 use Rattle.journal_acks.specs.run_model.Journal.{entry_of}
 use Rattle.journal_acks.specs.Exchange.{is_number}
 use Rattle.journal_data.specs.HostLines.{OpenUnder, link_under}
@@ -33,6 +33,18 @@ abbrev pub took_line : ℕ → ℕ → Note → List PduLine
 took_line handle link (Took other number llid body) = line_if (other == handle) link number llid body.items
 took_line handle link note = []
 
+-- a packet of data that the host receives
+abbrev pub received_line : ℕ → List ℕ → Received
+received_line link octets = record { link = link; octets = marked_octets (starts_message octets) (drop 5 octets) }
+
+abbrev pub up_line : ℕ → ℕ → Note → List Received
+up_line handle link (Up packet) = cond (is_data_on handle packet.items) (received_line link packet.items ∷ []) []
+up_line handle link note = []
+
+-- those of a link
+abbrev pub received_at : ℕ → List Received → List Received
+received_at link received = filter (λ (one : Received). one.link == link) received
+
 abbrev pub count_if : Bool → List ℕ → ℕ
 count_if completed octets = cond completed (two_octets 6 octets) 0
 
@@ -47,7 +59,7 @@ count_up handle note = 0
 pub record IsBook (handle link : ℕ) (lines : Lines) (since : List Note) : Type 0 where
   pub sent : pdus_on link lines.sent ≡ flat_map (sent_line handle link) since
   pub taken : pdus_on link lines.taken ≡ flat_map (took_line handle link) since
-  pub received : received_on link lines ≡ flat_map (data_up handle) since
+  pub received : received_at link lines.received ≡ flat_map (up_line handle link) since
   pub credited : credited_on link lines ≡ sum_by (count_up handle) since
 
 -- ---- a note more
@@ -106,17 +118,33 @@ octets_more link received more =
     ∙ flat_map-append (λ (one : Received). one.octets) (filter (λ (one : Received). one.link == link) received)
     (filter (λ (one : Received). one.link == link) more)
 
+pub data_by : (acl one : Bool) (link : ℕ) (under : Option ℕ) (octets : List ℕ) → (acl ≡ true → is_number under link ≡ one)
+    → received_at link (cond acl (data_received under octets) []) ≡ cond (acl && one) (received_line link octets ∷ []) []
+data_by false one link under octets is = refl
+data_by true one link None octets is = ap (λ (b : Bool). cond b (received_line link octets ∷ []) []) (is refl)
+data_by true one link (Some other) octets is = by (other == link) refl ∙ ap (λ (b : Bool). cond b (received_line link octets ∷ []) []) (is refl)
+  where
+    by : (same : Bool) → (other == link) ≡ same → cond same (received_line other octets ∷ []) [] ≡ cond same (received_line link octets ∷ []) []
+    by true is = ap (λ n. received_line n octets ∷ []) (eqb-true other link is)
+    by false is = refl
+
 one_received : (same : Bool) (one : Received) → flat_map (λ (r : Received). r.octets) (cond same (one ∷ []) []) ≡ cond same one.octets []
 one_received true one = append-nil one.octets
 one_received false one = refl
 
-pub data_by : (acl one : Bool) (link : ℕ) (under : Option ℕ) (octets : List ℕ) → (acl ≡ true → is_number under link ≡ one)
-    → octets_on link (cond acl (data_received under octets) []) ≡ cond (acl && one) (marked_octets (starts_message octets) (drop 5 octets)) []
-data_by false one link under octets is = refl
-data_by true one link None octets is = ap (λ (b : Bool). cond b (marked_octets (starts_message octets) (drop 5 octets)) []) (is refl)
-data_by true one link (Some other) octets is =
-    one_received (other == link) (record { link = other; octets = marked_octets (starts_message octets) (drop 5 octets) })
-    ∙ ap (λ (b : Bool). cond b (marked_octets (starts_message octets) (drop 5 octets)) []) (is refl)
+-- its octets
+data_noted : (handle link : ℕ) (since : List Note) → flat_map (λ (one : Received). one.octets) (flat_map (up_line handle link) since) ≡ flat_map (data_up handle) since
+data_noted handle link [] = refl
+data_noted handle link (note ∷ since) =
+    flat_map-append (λ (one : Received). one.octets) (up_line handle link note) (flat_map (up_line handle link) since)
+    ∙ (λ i. by note i ++ data_noted handle link since i)
+  where
+    by : (note : Note) → flat_map (λ (one : Received). one.octets) (up_line handle link note) ≡ data_up handle note
+    by (Up packet) = one_received (is_data_on handle packet.items) (received_line link packet.items)
+    by note = refl
+
+pub data_booked : (handle link : ℕ) (lines : Lines) (since : List Note) → IsBook handle link lines since → received_on link lines ≡ flat_map (data_up handle) since
+data_booked handle link lines since book = ap (flat_map (λ (one : Received). one.octets)) book.received ∙ data_noted handle link since
 
 -- complete packets of a handle
 abbrev pub counts_on : ℕ → List Credited → ℕ
@@ -147,8 +175,8 @@ up_booked handle link lines since side link_of last packet fits book =
       sent = kept_same (sent_line handle link) (pdus_on link lines.sent) since (Up packet) refl book.sent;
       taken = kept_same (took_line handle link) (pdus_on link lines.taken) since (Up packet) refl book.taken;
       received =
-          octets_more link lines.received (received_in lines.links octets)
-          ∙ added (data_up handle) (received_on link lines) since (Up packet) (octets_on link (received_in lines.links octets)) book.received
+          filter-append (λ (one : Received). one.link == link) lines.received (received_in lines.links octets)
+          ∙ added (up_line handle link) (received_at link lines.received) since (Up packet) (received_at link (received_in lines.links octets)) book.received
           (data_by (is_acl_data octets) (acl_handle octets == handle) link (link_under (acl_handle octets) lines.links) octets fits.data_of);
       credited =
           let parts = counts_more link lines.credited (credited_in lines.links octets) in
@@ -162,11 +190,11 @@ up_booked handle link lines since side link_of last packet fits book =
 -- a note that says nothing of data
 silent_booked : (handle link : ℕ) (lines after : Lines) (since : List Note) (note : Note) → after.sent ≡ lines.sent → after.taken ≡ lines.taken
     → after.received ≡ lines.received → after.credited ≡ lines.credited → sent_line handle link note ≡ [] → took_line handle link note ≡ []
-    → data_up handle note ≡ [] → count_up handle note ≡ 0 → IsBook handle link lines since → IsBook handle link after (since ++ note ∷ [])
+    → up_line handle link note ≡ [] → count_up handle note ≡ 0 → IsBook handle link lines since → IsBook handle link after (since ++ note ∷ [])
 silent_booked handle link lines after since note s t r c no_sent no_took no_data no_count book = record {
   sent = ap (pdus_on link) s ∙ kept_same (sent_line handle link) (pdus_on link lines.sent) since note no_sent book.sent;
   taken = ap (pdus_on link) t ∙ kept_same (took_line handle link) (pdus_on link lines.taken) since note no_took book.taken;
-  received = ap (octets_on link) r ∙ kept_same (data_up handle) (received_on link lines) since note no_data book.received;
+  received = ap (received_at link) r ∙ kept_same (up_line handle link) (received_at link lines.received) since note no_data book.received;
   credited = ap (counts_on link) c ∙ counted_same (count_up handle) (credited_on link lines) since note no_count book.credited;
 }
 
@@ -179,7 +207,7 @@ note_booked handle link lines since side link_of last (Sent other number llid bo
       sent = pdu_more link (link_of other) number llid lines.sent body.items (other == handle) fits
           ∙ added (sent_line handle link) (pdus_on link lines.sent) since note (line_if (other == handle) link number llid body.items) book.sent refl;
       taken = kept_same (took_line handle link) (pdus_on link lines.taken) since note refl book.taken;
-      received = kept_same (data_up handle) (received_on link lines) since note refl book.received;
+      received = kept_same (up_line handle link) (received_at link lines.received) since note refl book.received;
       credited = counted_same (count_up handle) (credited_on link lines) since note refl book.credited;
     }
 note_booked handle link lines since side link_of last (Took other number llid body) fits book =
@@ -187,7 +215,7 @@ note_booked handle link lines since side link_of last (Took other number llid bo
       sent = kept_same (sent_line handle link) (pdus_on link lines.sent) since note refl book.sent;
       taken = pdu_more link (link_of other) number llid lines.taken body.items (other == handle) fits
           ∙ added (took_line handle link) (pdus_on link lines.taken) since note (line_if (other == handle) link number llid body.items) book.taken refl;
-      received = kept_same (data_up handle) (received_on link lines) since note refl book.received;
+      received = kept_same (up_line handle link) (received_at link lines.received) since note refl book.received;
       credited = counted_same (count_up handle) (credited_on link lines) since note refl book.credited;
     }
 note_booked handle link lines since side link_of last note fits book =

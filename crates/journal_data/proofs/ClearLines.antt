@@ -1,6 +1,6 @@
 -- Where a side has no line of a link, its lines say nothing of it; and which note of a call says that a link is opened.
 use Rattle.std.proofs.Common.{◌≡◌, ℕ, ◌+◌, ◌==◌, ◌&&◌, Bool, true, false, Option, Some, None, List, [], ◌∷◌, ◌++◌, map, cond, refl, sym, ap, ◌∙◌, append-nil, arith}
-use Rattle.std.specs.Prelude.{drop, filter, fold, not}
+use Rattle.std.specs.Prelude.{filter, fold, not}
 use Rattle.std.specs.List.{AllByRecursion}
 use Rattle.std.proofs.Math.Bool.{and-false}
 use Rattle.std.proofs.lemmas.List.Elements.{filter-append}
@@ -9,22 +9,20 @@ use Rattle.ble_base.specs.declared.notes.Note.{Note}
 use Rattle.ble_base.specs.declared.notes.Note.TheVariants.{Opened as OpenedNote}
 use Rattle.ble_base.specs.declared.roles.Role.{Role}
 use Rattle.ble_base.specs.declared.roles.Side.{Side}
-use Rattle.acl_banks.specs.Packets.{marked_octets}
 use Rattle.h4_frames.specs.declared.packet.HostPacket.{HostPacket}
 use Rattle.h4_frames.specs.declared.packet.HostPacket.TheVariants.{Command, Acl}
 use Rattle.host_view.specs.Noted.{acl_handle, is_acl_data, two_octets}
 use Rattle.journal.specs.declared.entries.Entry.{Entry}
 use Rattle.journal.specs.declared.entries.Entry.TheVariants.{Air, Fed, Up, Opened, Shut, Sent, Took}
 use Rattle.journal_acks.specs.controller_model.Notes.{is_event, is_opening}
-use Rattle.journal_acks.specs.controller_model.Since.{starts_message}
 use Rattle.journal_acks.proofs.run_model.OpenedNotes.{is_opened}
 use Rattle.journal_acks.specs.journal_links.LinkLines.{link_named, where_named, lines_of as link_lines}
 use Rattle.journal_acks.specs.journal_packets.Belonging.{is_side}
 use Rattle.journal_acks.specs.Exchange.{is_number}
 use Rattle.journal_acks.proofs.EntryNotes.{unnamed}
 use Rattle.journal_data.specs.HostLines.{OpenUnder, Submitted, buffers_of, is_dropped, is_reset, kept_of, kept_one, link_under, packets_framed}
-use Rattle.journal_data.specs.Lines.{Lines, PduLine, buffers_taken, credited_in, credited_on, is_of_side, line_after, lines_after, lines_of, no_lines, pdus_on, received_in, received_on, submitted_on}
-use Rattle.journal_data.proofs.Booked.{counts_more, credit_by, counts_on, data_by, octets_more, octets_on}
+use Rattle.journal_data.specs.Lines.{Lines, PduLine, Received, buffers_taken, credited_in, credited_on, is_of_side, line_after, lines_after, lines_of, no_lines, pdus_on, received_in, submitted_on}
+use Rattle.journal_data.proofs.Booked.{counts_more, credit_by, counts_on, data_by, received_at, received_line}
 use Rattle.journal_data.proofs.HostPackets.{on_link, on_link-append}
 use Rattle.journal_data.proofs.NotedLines.{IsUnused}
 use Rattle.journal_data.proofs.Openness.{AreNot, IsNotedAs, stays, shuts, opens_first}
@@ -101,11 +99,11 @@ module _ (number : ℕ) where
   apart side other link line none own = apart_by (is_side other side) (link == number) (unnamed side other (link == number) line none) own
 
   up_clear : (lines : Lines) (octets : List ℕ) → IsClearSo lines
-      → (received_on number lines ++ octets_on number (received_in lines.links octets) ≡ []) × (credited_on number lines + counts_on number (credited_in lines.links octets) ≡ 0)
+      → (received_at number lines.received ++ received_at number (received_in lines.links octets) ≡ []) × (credited_on number lines + counts_on number (credited_in lines.links octets) ≡ 0)
   up_clear lines octets so = (
     (λ i. so.clear.unused.received i
         ++ (data_by (is_acl_data octets) false number (link_under (acl_handle octets) lines.links) octets (λ acl. none_under (acl_handle octets) lines.links so.none)
-        ∙ ap (λ (b : Bool). cond b (marked_octets (starts_message octets) (drop 5 octets)) []) (and-false (is_acl_data octets))) i),
+        ∙ ap (λ (b : Bool). cond b (received_line number octets ∷ []) []) (and-false (is_acl_data octets))) i),
     (let before = so.clear.unused.credited in
         let more : counts_on number (credited_in lines.links octets) ≡ 0 =
         credit_by (is_event 0x13 octets) false number (link_under (two_octets 4 octets) lines.links) octets (λ event. none_under (two_octets 4 octets) lines.links so.none)
@@ -128,7 +126,7 @@ module _ (number : ℕ) where
           unused = record {
             sent = so.clear.unused.sent;
             taken = so.clear.unused.taken;
-            received = octets_more number lines.received (received_in lines.links octets) ∙ up.0;
+            received = filter-append (λ (one : Received). one.link == number) lines.received (received_in lines.links octets) ∙ up.0;
             credited = counts_more number lines.credited (credited_in lines.links octets) ∙ up.1;
           };
           submitted = so.clear.submitted;

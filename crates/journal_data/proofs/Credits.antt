@@ -1,21 +1,22 @@
 -- In a run, where hosts send only between turns, what a host is credited is what was reported and its packets of no octet.
 use Rattle.std.proofs.Common.{◌≡◌, ℕ, suc, ◌+◌, ◌<◌, ◌≤◌, Bool, true, false, Option, Some, None, List, [], ◌∷◌, ◌++◌, map, refl, ap, sym, subst, ◌∙◌, arith}
-use Rattle.std.specs.Prelude.{fold, nat_lt, if◌then◌else◌}
+use Rattle.std.specs.Prelude.{filter, fold, nat_lt, if◌then◌else◌}
 use Rattle.std.specs.Option.{option_map}
 use Rattle.std.specs.List.{sum_by, AllByRecursion}
 use Rattle.std.proofs.Math.Nat.{mod-eq_of_lt}
 use Rattle.std.proofs.lemmas.Bool.{eq-eqb}
 use Rattle.std.proofs.lemmas.List.Sums.{sum_by-append, sum_by-cons}
+use Rattle.acl_banks.specs.declared.pieces.Piece.{Piece}
 use Rattle.ble_base.specs.declared.notes.Note.{Note}
 use Rattle.ble_base.specs.declared.notes.Note.TheVariants.{Up}
 use Rattle.hci_evt.specs.Event.{written}
 use Rattle.hci_evt.specs.declared.event.Event.TheVariants.{CompletedPackets}
+use Rattle.host_view.specs.Flow.{left_of}
 use Rattle.host_view.specs.Noted.{two_octets}
 use Rattle.wire_fields.specs.Field.{little_endian}
-use Rattle.journal_acks.specs.link_model.Data.{Data, data_acked_if, data_given}
 use Rattle.journal_acks.specs.link_model.End.{facts_after as end_after, facts_of as end_facts, notes_after as end_notes}
 use Rattle.journal_acks.specs.link_model.Receiving.{received_notes}
-use Rattle.journal_acks.specs.link_model.Sending.{data_sent_as, sent_notes}
+use Rattle.journal_acks.specs.link_model.Sending.{sent_notes}
 use Rattle.journal_acks.specs.link_model.Facts.{Facts as EndFacts}
 use Rattle.journal_acks.specs.link_model.Packets.{good_pdu}
 use Rattle.journal_acks.specs.link_model.Setup.{Setup as EndSetup}
@@ -25,15 +26,16 @@ use Rattle.journal_acks.specs.open_links.Data.{complete_in, completed_from, link
 use Rattle.journal_acks.specs.open_links.OpenLinks.{OpenLink, facts_in, link_after, link_at}
 use Rattle.journal_acks.proofs.open_links.UnderHandles.{map_at}
 use Rattle.journal_acks.specs.controller_model.Between.{is_between_turns}
-use Rattle.journal_acks.specs.controller_model.Data.{event_completed, note_received, notes_handed}
+use Rattle.journal_acks.specs.controller_model.Data.{event_completed, note_received, notes_handed, notes_pieces, pieces_handed}
 use Rattle.journal_acks.specs.controller_model.Events.{notes_of_events}
 use Rattle.journal_acks.specs.controller_model.Facts.{Setup}
 use Rattle.journal_acks.specs.controller_model.Side.{facts_of, notes_after, notes_of}
-use Rattle.journal_acks.specs.controller_model.Since.{count_since, empties_of, is_completed_on, note_completed, note_since, since_opened}
+use Rattle.journal_acks.specs.controller_model.Since.{count_since, empties_of, is_completed_on, is_piece_on, note_completed, note_since, since_opened}
 use Rattle.journal_acks.specs.controller_model.Step.{Step, HostOctet, TurnBegins, PacketHeard, NothingHeard, TurnEnds}
 use Rattle.journal_acks.proofs.controller_model.BookEnds.{handing_book, reporting_book}
-use Rattle.journal_acks.proofs.controller_model.Books.{Fact, IsBookAfter, IsKeptInBook, IsSilent, and_then}
+use Rattle.journal_acks.proofs.controller_model.Books.{Fact, IsBook, IsBookAfter, IsKeptInBook, IsSilent, and_then}
 use Rattle.journal_acks.proofs.controller_model.BooksAlways.{book_of}
+use Rattle.journal_acks.proofs.controller_model.Handing.{handed_are, handed_first}
 use Rattle.journal_acks.proofs.controller_model.OtherNotes.{event_handle_is, two_octets_hold}
 use Rattle.journal_acks.proofs.controller_model.PiecesBelow.{all_pieces}
 use Rattle.journal_acks.specs.run_model.Feeding.{HasNoted}
@@ -45,6 +47,7 @@ use Rattle.journal_data.proofs.Booked.{count_if, count_up}
 use Rattle.journal_data.proofs.FewComplete.{HadFew, IsFedBetween, IsFew, MayFeed, between_more, fed_more, few_always, had_front, had_last, had_reported}
 use Rattle.journal_data.proofs.DataSteps.{IsKeptByEnd, IsOwnStep, end_keeps}
 use Rattle.journal_acks.proofs.controller_model.EndNotes.{sent_each, received_each}
+use Rattle.journal_acks.proofs.controller_model.ReportBooks.{acked_same, given_same, sent_as_same}
 
 -- ---- the count of a note
 
@@ -86,25 +89,13 @@ none_took handle setup slot room found facts =
 
 -- ---- what an end counts as reported
 
-reported_given : (handle : ℕ) (start : Bool) (octets : List ℕ) (outgoing : Data) → (data_given handle start octets outgoing).reported ≡ outgoing.reported
-reported_given handle start [] outgoing = refl
-reported_given handle start (octet ∷ octets) outgoing = refl
-
-reported_sent : (payload : List ℕ) (is_new : Bool) (outgoing : Data) → (data_sent_as payload is_new outgoing).reported ≡ outgoing.reported
-reported_sent payload true outgoing = refl
-reported_sent payload false outgoing = refl
-
-reported_acked : (acked : Bool) (outgoing : Data) → (data_acked_if acked outgoing).reported ≡ outgoing.reported
-reported_acked true outgoing = refl
-reported_acked false outgoing = refl
-
 reported_kept : (reported : ℕ) → IsKeptByEnd (λ outgoing. outgoing.reported ≡ reported)
 reported_kept reported = record {
   sending = record {
     fixed = λ limit pdu more outgoing same. same;
-    sent = λ payload is_new outgoing same. reported_sent payload is_new outgoing ∙ same;
+    sent = λ payload is_new outgoing same. sent_as_same payload is_new outgoing ∙ same;
   };
-  acked = λ acked outgoing same. reported_acked acked outgoing ∙ same;
+  acked = λ acked outgoing same. acked_same acked outgoing ∙ same;
 }
 
 reported_own : (setup : EndSetup) (facts : EndFacts) (step : EndStep) → IsOwnStep step
@@ -114,7 +105,7 @@ reported_own setup facts step own =
 
 reported_silent : (setup : EndSetup) (facts : EndFacts) (step : EndStep) → IsSilent step
     → (end_after setup facts step).outgoing.reported ≡ facts.outgoing.reported
-reported_silent setup facts (DataGiven start body) is = reported_given setup.link.handle start body facts.outgoing
+reported_silent setup facts (DataGiven start body) is = given_same setup.link.handle start body facts.outgoing
 reported_silent setup facts (ProcedureAsked ask) is = reported_own setup facts (ProcedureAsked ask) tt
 reported_silent setup facts (RequestAnswered answer) is = refl
 reported_silent setup facts (KeyAnswered key slot) is = refl
@@ -220,19 +211,25 @@ credited_handed setup past handle link few_links few fed is =
     let kept = counted_kept many handle most few_links few in
     let since = since_opened handle (notes_of setup past) in
     let count = empties_of setup handle past in
-    let pieces = map note_received facts.received in
+    let first = pieces_handed facts in
+    let waits = filter (is_piece_on handle) in
+    let left = waits (left_of facts.view facts.received) in
+    let pieces = notes_pieces facts in
     let reports = notes_of_events facts.view (map event_completed (completed_from 0 facts.links)) in
     let reported = link_at handle (links_reported facts.links) in
     let whole = all_pieces setup past in
-    let handed : IsBookAfter many handle fact (link_at handle facts.links) [] since count pieces =
-    subst (λ (place : Option OpenLink). IsBookAfter many handle fact place [] since count pieces) (sym is)
-    (handing_book many handle fact kept (Some link) facts.received since count whole.below (book_of handle fact setup kept past link is)) in
-    let after : IsBookAfter many handle fact reported [] since count (pieces ++ reports) =
-    and_then many handle fact kept reported [] since count pieces reports
-    (reporting_book many handle fact kept facts.view 0 facts.links (fold (note_since handle) since pieces) (fold (count_since handle) count pieces)
+    let handed : IsBookAfter many handle fact (link_at handle facts.links) left since count pieces =
+    subst (λ (place : Option OpenLink). IsBookAfter many handle fact place left since count pieces) (sym is)
+    (handing_book many handle fact kept (Some link) first (left_of facts.view facts.received) since count
+    (handed_are (λ (piece : ℕ × Piece). piece.0 < many) facts.view facts.received whole.below)
+    (subst (λ (received : List (ℕ × Piece)). IsBook many handle fact (Some link) (waits received) since count)
+    (sym (handed_first facts.view facts.received)) (book_of handle fact setup kept past link is))) in
+    let after : IsBookAfter many handle fact reported left since count (pieces ++ reports) =
+    and_then many handle fact kept reported left since count pieces reports
+    (reporting_book many handle fact kept facts.view 0 facts.links left (fold (note_since handle) since pieces) (fold (count_since handle) count pieces)
     (omega (arith, whole.own.many)) handed) in
     let place : reported ≡ Some (link_reported link) = map_at (option_map link_reported) 0 handle facts.links refl ∙ ap (option_map link_reported) is in
-    (subst (λ (place : Option OpenLink). IsBookAfter many handle fact place [] since count (pieces ++ reports)) place after).1
+    (subst (λ (place : Option OpenLink). IsBookAfter many handle fact place left since count (pieces ++ reports)) place after).1
     (had_then (nat_lt 0 (complete_in link)) (open_has (IsFew most) 0 handle facts.links link (few_always setup most past (omega arith) fed) is).1)
   where
     had_then : (some : Bool) → HadFew setup.host_buffers link.setup link.past

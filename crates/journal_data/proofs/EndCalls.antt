@@ -1,9 +1,10 @@
 -- As a turn ends, it stays so that the data of both sides arrives in order, also on the links that end then.
-use Rattle.std.proofs.Common.{◌≡◌, ℕ, ◌≤◌, ◌==◌, true, Option, Some, None, List, [], length, refl, sym, ap, subst, ◌∙◌, if◌then◌else◌, arith}
+use Rattle.std.proofs.Common.{◌≡◌, ℕ, ◌≤◌, ◌==◌, true, Option, Some, None, List, length, refl, sym, ap, subst, ◌∙◌, if◌then◌else◌, arith}
 use Rattle.std.specs.Prelude.{◌≢◌}
 use Rattle.std.specs.Option.{option_map}
 use Rattle.std.proofs.lemmas.Bool.{eqb-true, false_from_ne_true}
 use Rattle.ack_bit.specs.Nonempty.{nonempty}
+use Rattle.host_view.specs.Flow.{left_of}
 use Rattle.journal_acks.specs.link_model.Acknowledgement.{Acknowledgement}
 use Rattle.journal_acks.specs.link_model.Data.{is_empty}
 use Rattle.journal_acks.specs.link_model.OneLink.{AreInAgreement}
@@ -103,10 +104,14 @@ module _ (given : Given) (few : (station : ℕ) → (setup_at given station).lin
     few = made.few;
   }
 
-  -- ---- the links that were open, as the host has received and reported all
+  -- ---- the links that were open, as the host has received what it can and all is reported
 
   abbrev end_then : ℕ → OpenLink → End
-  end_then handle link = record { link = number_at station handle history; facts = facts_in (link_reported link); waiting = [] }
+  end_then handle link = record {
+    link = number_at station handle history;
+    facts = facts_in (link_reported link);
+    waiting = data_waiting handle (left_of facts.view facts.received);
+  }
 
   abbrev ends_then : ℕ → Option End
   ends_then handle = option_map (end_then handle) (link_at handle facts.links)

@@ -1,14 +1,16 @@
--- What the lines of a station say of the links that are open before a turn ends, once it has ended: the host has received all
--- that was taken on each of them, and is credited for what is complete, also where the link ends then.
+-- What the lines of a station say of the links that are open before a turn ends, once it has ended: the host has received
+-- what was taken on each of them, but for what is left, and is credited for what is complete, also where the link ends then.
 use Rattle.std.proofs.Common.{◌≡◌, ℕ, ◌+◌, ◌≤◌, ◌==◌, Bool, true, false, nat_lt, Option, Some, List, [], ◌∷◌, ◌++◌, cond, map, refl, ap, sym, subst, ◌∙◌, append-nil, append_assoc, arith, if◌then◌else◌}
 use Rattle.std.specs.Prelude.{flat_map, fold, is_some}
 use Rattle.std.specs.List.{AllByRecursion, filter, sum_by}
 use Rattle.std.proofs.lemmas.Grind.{flat_map-append}
 use Rattle.std.proofs.lemmas.List.Elements.{All-contains, All-from_recursion, filter-append}
 use Rattle.std.proofs.lemmas.List.Sums.{fold-append}
+use Rattle.acl_banks.specs.Packets.{Marked}
 use Rattle.ble_base.specs.declared.notes.Note.{Note}
 use Rattle.ble_base.specs.declared.notes.Note.TheVariants.{Opened, Up}
 use Rattle.ack_bit.specs.Nonempty.{nonempty}
+use Rattle.host_view.specs.Flow.{left_of}
 use Rattle.journal_acks.specs.link_model.Acknowledgement.{Acknowledgement}
 use Rattle.journal_acks.specs.link_model.Data.{data_of, is_empty}
 use Rattle.journal_acks.specs.link_model.Facts.{Facts as EndFacts}
@@ -20,7 +22,7 @@ use Rattle.journal_acks.specs.controller_model.Facts.{Facts, Setup}
 use Rattle.journal_acks.specs.controller_model.Links.{notes_leaving}
 use Rattle.journal_acks.specs.controller_model.Notes.{is_opening}
 use Rattle.journal_acks.specs.controller_model.Side.{notes_of}
-use Rattle.journal_acks.specs.controller_model.Since.{count_since, data_up, empties_of, is_data_note, is_sent_on, is_took_on, note_since, since_opened}
+use Rattle.journal_acks.specs.controller_model.Since.{count_since, data_up, data_waiting, empties_of, is_data_note, is_sent_on, is_took_on, note_since, since_opened}
 use Rattle.journal_acks.specs.controller_model.Step.{TurnEnds}
 use Rattle.journal_acks.proofs.controller_model.DataBooks.{data_is_handed}
 use Rattle.journal_acks.proofs.controller_model.NoteBooks.{sent_notes_are, took_notes_are}
@@ -33,9 +35,9 @@ use Rattle.journal_acks.proofs.run_laws.Agreed.{ack_of, ack_reported, step_facts
 use Rattle.journal_acks.proofs.Counting.{HaveOwnNumbers}
 use Rattle.journal_acks.proofs.Exchanging.{map_both, number_at}
 use Rattle.journal_data.specs.HostLines.{has_octets}
-use Rattle.journal_data.specs.Lines.{Lines, empties_on, received_on, submitted_on}
+use Rattle.journal_data.specs.Lines.{Lines, empties_on, submitted_on}
 use Rattle.journal_data.proofs.Arriving.{IsEndBooked, pdu_lines}
-use Rattle.journal_data.proofs.Booked.{IsBook, count_up}
+use Rattle.journal_data.proofs.Booked.{IsBook, count_up, data_booked}
 use Rattle.journal_data.proofs.Credits.{credited_handed}
 use Rattle.journal_data.proofs.EachLine.{call_lines, lines_at, numbers_at}
 use Rattle.journal_data.proofs.Ends.{IsWell}
@@ -205,6 +207,10 @@ module _ (given : Given) (station : ℕ) (history : List Event) (few : (setup_at
     abbrev since : List Note
     since = since_opened handle (noted_by station history)
 
+    -- what the host does not receive yet
+    abbrev left : List Marked
+    left = data_waiting handle (left_of facts.view facts.received)
+
     abbrev since_past : List Note
     since_past = since_opened handle (notes_of setup (past_of station history))
 
@@ -256,7 +262,7 @@ module _ (given : Given) (station : ℕ) (history : List Event) (few : (setup_at
           ap (λ all. empties_on number (record (lines_at station history) { submitted = all })) submits_then
           ∙ well.submitted.empties_are handle link at
 
-      pub booked_within : IsEndBooked number lines_then (facts_in reported) []
+      pub booked_within : IsEndBooked number lines_then (facts_in reported) left
       booked_within =
           let ack = ack_of link in
           let same = sym (reported_ack link) in
@@ -269,7 +275,8 @@ module _ (given : Given) (station : ℕ) (history : List Event) (few : (setup_at
                 ∙ noted_took handle number (since ++ handed) (nonempty is_empty ack.accepted)
                 (kind_same (is_took_on handle) (λ octets. refl) ∙ took_notes_are setup (past_of station history) handle link at)
                 ∙ ap (λ (a : Acknowledgement). pdu_lines number 1 (nonempty is_empty a.accepted)) same;
-            received = append-nil (received_on number lines_then) ∙ book.received ∙ flat_map-append (data_up handle) since handed
+            received = ap (λ octets. octets ++ left) (data_booked handle number lines_then (since ++ handed) book ∙ flat_map-append (data_up handle) since handed)
+                ∙ append_assoc (flat_map (data_up handle) since) (flat_map (data_up handle) handed) left
                 ∙ (λ i. flat_map (data_up handle) (noted i) ++ handed_data many handle few facts (all_pieces setup (past_of station history)).below i)
                 ∙ data_is_handed setup (past_of station history) handle link few at ∙ ap (λ (a : Acknowledgement). data_of a.accepted) same;
             credited = book.credited ∙ credits ∙ ap (λ n. (facts_in reported).outgoing.reported + n) (sym empties);
@@ -277,5 +284,5 @@ module _ (given : Given) (station : ℕ) (history : List Event) (few : (setup_at
                 ∙ well.submitted.data_is handle link at ∙ sym (reported_given link);
           }
 
-    pub booked_then : IsEndBooked number (lines_at station then_on) (facts_in reported) []
+    pub booked_then : IsEndBooked number (lines_at station then_on) (facts_in reported) left
     booked_then = booked_within leaving [] (sym (append-nil leaving))

@@ -2,7 +2,7 @@
 use Rattle.std.proofs.Common.{◌≡◌, ℕ, ◌≤◌, Option, Some, None, List, [], length, refl, sym, ap, ◌∙◌, append-nil, arith}
 use Rattle.std.specs.Option.{option_map}
 use Rattle.std.specs.Prelude.{not}
-use Rattle.std.specs.List.{filter}
+use Rattle.std.specs.List.{filter, flat_map}
 use Rattle.acl_banks.specs.History.{HostData}
 use Rattle.journal_data.specs.HostLines.{has_octets}
 use Rattle.journal_acks.proofs.link_model.Counts.{past_counted}
@@ -13,7 +13,7 @@ use Rattle.journal_acks.specs.run_model.Feeding.{HasNoted}
 use Rattle.journal_acks.specs.run_model.History.{Event}
 use Rattle.journal_acks.specs.run_model.Run.{Given, facts_at, setup_at}
 use Rattle.journal_acks.proofs.Exchanging.{number_at}
-use Rattle.journal_data.specs.Lines.{Lines, empties_on, submitted_on}
+use Rattle.journal_data.specs.Lines.{Lines, Received, empties_on, submitted_on}
 use Rattle.journal_data.proofs.Credits.{AreFew, credited}
 use Rattle.journal_data.proofs.EachLine.{lines_at}
 use Rattle.journal_data.proofs.Middle.{IsFed}
@@ -81,7 +81,7 @@ same_fed link before after same submitted =
     record {
       sent = same.sent;
       taken = same.taken;
-      received = same.received;
+      received = ap (flat_map (λ (one : Received). one.octets)) same.received;
       credited = omega (arith, credits, empties);
       submitted = record { more = []; is = submitted ∙ sym (append-nil (submitted_on link before)) };
     }

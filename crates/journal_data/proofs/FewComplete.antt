@@ -5,7 +5,7 @@ use Rattle.std.specs.Prelude.{IfSome, ◌&&◌, fold, is_some, nat_lt, ⊤}
 use Rattle.std.specs.List.{find}
 use Rattle.std.proofs.lemmas.List.Sums.{fold-append, sum_by-cons}
 use Rattle.acl_banks.specs.Packets.{DataPacket, packet_after_acked, packet_after_went, with_first, without_first}
-use Rattle.journal_acks.specs.link_model.Data.{Data, data_acked_if, data_completed, data_given, is_completed, is_data, is_out, is_unsent}
+use Rattle.journal_acks.specs.link_model.Data.{Data, data_acked_if, data_completed, is_completed, is_data, is_out, is_unsent}
 use Rattle.journal_acks.specs.link_model.Sending.{data_sent_as}
 use Rattle.journal_acks.specs.link_model.End.{facts_after as end_after, facts_of as end_facts}
 use Rattle.journal_acks.specs.link_model.Facts.{Facts as EndFacts, first_facts as first_end}
@@ -20,6 +20,7 @@ use Rattle.journal_acks.specs.open_links.Data.{buffers_in, buffers_taken, comple
 use Rattle.journal_acks.specs.open_links.OpenLinks.{Links, OpenLink, facts_in, link_after, link_at, link_from, link_served, new_link, with_change}
 use Rattle.journal_acks.specs.open_links.Turns.{entered_if, links_without, staying_by, enters_in}
 use Rattle.journal_acks.proofs.open_links.Handles.{here, later}
+use Rattle.journal_acks.proofs.open_links.Within.{given_complete}
 use Rattle.journal_acks.specs.controller_model.declared.doing.Doing.{Doing}
 use Rattle.journal_acks.specs.controller_model.declared.doing.Doing.TheVariants.{Advertises, CentralSends, PeripheralListens, PeripheralSends}
 use Rattle.journal_acks.specs.controller_model.Between.{between_after, is_between_turns}
@@ -100,10 +101,6 @@ load_kept most = record {
   };
   acked = λ acked outgoing few. let less = acked_load acked outgoing in omega (arith, less, few);
 }
-
-pub given_complete : (handle : ℕ) (start : Bool) (body : List ℕ) (outgoing : Data) → (data_given handle start body outgoing).complete ≡ outgoing.complete
-given_complete handle start [] outgoing = refl
-given_complete handle start (octet ∷ octets) outgoing = refl
 
 -- ---- its past
 
@@ -268,7 +265,7 @@ module _ (most : ℕ) where
       central_listens = λ handle doing. each;
       sent = λ channel link doing. opens_few link facts each;
       responds = λ channel on doing is_on. each;
-      taken = λ channel octets pdu on fields handle is_on hears takes free. opens_few (link_taken on.params.own pdu fields handle) facts each;
+      taken = λ channel octets pdu on fields handle is_on hears takes free. opens_few (link_taken facts.view on.params.own pdu fields handle) facts each;
       scanned = λ channel octets pdu on doing is_on hears.
           sends facts.turn.slot (asks_if (true && does_ask (scan_answer on.params facts.view.accepted on.recent pdu)) channel pdu) facts.links each;
       answered = λ channel octets pdu on doing is_on hears.

@@ -35,7 +35,7 @@ use Rattle.hci_cmd.specs.declared.command.Command.TheVariants.{Reset}
 use Rattle.hci_cmd.specs.declared.command.CmdRead.{CmdRead}
 use Rattle.hci_cmd.specs.declared.command.CmdRead.TheVariants.{Known, UnknownOpcode, BadLength}
 use Rattle.hci_cmd.specs.Command.{command_of, layout_of, layouts}
-use Rattle.host_view.specs.Unbuilt.{status_of}
+use Rattle.host_view.specs.Status.{status_of}
 use Rattle.journal_acks.specs.controller_model.Commands.{facts_asking, facts_commanded, facts_known, is_asking, links_after, moment_of}
 use Rattle.journal_acks.specs.controller_model.Data.{facts_offered, offer_of}
 use Rattle.journal_acks.specs.controller_model.Facts.{Setup, Facts}
@@ -43,7 +43,7 @@ use Rattle.journal_acks.specs.controller_model.Host.{commands_accepted_by, comma
 use Rattle.journal_acks.specs.controller_model.Side.{facts_after, facts_fed, facts_of, first_result, result_of}
 use Rattle.journal_acks.specs.controller_model.Step.{Step, HostOctet}
 use Rattle.journal_acks.proofs.link_calls.UnderHandles.{map_under}
-use Rattle.journal_acks.proofs.controller_model.Feds.{frames_more}
+use Rattle.journal_acks.proofs.controller_model.Feds.{first_entry, frames_more}
 use Rattle.journal_acks.proofs.controller_model.Resets.{resets}
 use Rattle.journal_acks.specs.controller_model.Since.{count_fed}
 use Rattle.journal_data.specs.HostLines.{OpenUnder, Submitted, buffers_of, has_octets, is_dropped, is_reset, kept_of, kept_one, link_under, packet_in, packets_framed}
@@ -146,11 +146,6 @@ fed_body : (after : Rest) (octet : ℕ) → HasBody (fed_of after octet)
 fed_body (Begun []) octet = begun_body (is_indicator octet)
 fed_body (Begun (indicator ∷ octets)) octet = packet_body (indicator == 1) (octets ++ octet ∷ [])
 fed_body (Passed octets) octet = reset_body (octets ++ octet ∷ [])
-
-first_entry : (place : ℕ) (fed : Fed) → first_result (frame_entry place fed) ≡ fed
-first_entry place More = refl
-first_entry place (Packet packet) = refl
-first_entry place LostSync = refl
 
 result_is : (before : List ℕ) (octet : ℕ) → result_of before octet ≡ fed_of (rest before) octet
 unfolding result_of

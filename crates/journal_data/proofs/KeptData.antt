@@ -1,6 +1,6 @@
 -- Each step of a run of a pair keeps what is known of the lines of each side.
 use Rattle.std.proofs.Common.{◌≡◌, ℕ, ◌-◌, ◌==◌, ◌⊎◌, inl, inr, Bool, true, false, Option, Some, None, List, [], ◌∷◌, ◌++◌, refl, sym, ap, subst, ◌∙◌, append-nil, append_assoc}
-use Rattle.std.specs.Prelude.{map, take, if◌then◌else◌}
+use Rattle.std.specs.Prelude.{map, take}
 use Rattle.std.proofs.lemmas.Bool.{eqb-true}
 use Rattle.ble_base.specs.declared.notes.Note.TheVariants.{Opened}
 use Rattle.journal_acks.proofs.link_model.Hearing.{IsHeardWhole}
@@ -104,9 +104,6 @@ begin_goes_on slot on is = absurd cc
 
 module _ (whole : IsHeardWhole) (given : Given) (Q : Place → List Event → Type 0) (known : AreKnown given Q) (are_two : IsOfTwo given) (few_links : HaveFewLinks given)
     (six : HaveAddresses given) (distinct : AreDistinct given.stations) (eight : (station : ℕ) → (setup_at given station).host_buffers ≡ 8) where
-  abbrev P : Place → List Event → Type 0
-  P place history = IsDataAt given Q place history
-
   abbrev C : Place → List Event → Type 0
   C place history = AreCountedAt given Q place history
 

@@ -61,7 +61,7 @@ phase_least setup facts = record {
   central_listens = λ handle doing. tt;
   sent = λ channel link doing. opening_passes IsLeastNext link facts tt;
   responds = λ channel on doing is_on. tt;
-  taken = λ channel octets pdu on fields handle is_on hears takes free. opening_passes IsLeastNext (link_taken on.params.own pdu fields handle) facts tt;
+  taken = λ channel octets pdu on fields handle is_on hears takes free. opening_passes IsLeastNext (link_taken facts.view on.params.own pdu fields handle) facts tt;
   scanned = λ channel octets pdu on doing is_on hears.
       asks_least (true && does_ask (scan_answer on.params facts.view.accepted on.recent pdu)) channel pdu (with_scanner (scanner_after on facts.view.accepted pdu) facts);
   answered = λ channel octets pdu on doing is_on hears.
@@ -127,7 +127,7 @@ phase_opens setup facts least = let nothing = quiet_least facts.links [] tt in r
   sent = λ channel link doing. opened_least link facts (subst (IsNewLeast facts.links) doing least);
   responds = λ channel on doing is_on. nothing;
   taken = λ channel octets pdu on fields handle is_on hears takes free.
-      opened_least (link_taken on.params.own pdu fields handle) facts (subst (IsFreeHandle 0 facts.links) free (free_is 0 facts.links));
+      opened_least (link_taken facts.view on.params.own pdu fields handle) facts (subst (IsFreeHandle 0 facts.links) free (free_is 0 facts.links));
   scanned = λ channel octets pdu on doing is_on hears.
       passed_least facts (scanner_heard (Some on) true channel pdu facts)
       (answered_quiet facts.view (scan_answer on.params facts.view.accepted on.recent pdu) pdu);

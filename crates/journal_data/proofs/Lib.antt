@@ -7,7 +7,7 @@ pub mod Booked
 pub mod Arriving
 pub mod NotedPdus
 pub mod Middle
-mod HostPackets
+pub mod HostPackets
 pub mod Submitting
 mod Feeds
 pub mod DataSteps

@@ -7,10 +7,11 @@ use Rattle.std.proofs.lemmas.List.Elements.{filter-append}
 use Rattle.std.proofs.lemmas.List.{length-append}
 use Rattle.acl_banks.specs.History.{HostData, octets_of, whole_packets}
 use Rattle.journal_acks.specs.link_model.Data.{data_in}
+use Rattle.journal_acks.proofs.link_model.Taking.{more_whole, take_less}
 use Rattle.journal_data.specs.HostLines.{has_octets}
 use Rattle.journal_data.specs.Lines.{Lines, PduLine, accepted_on, credited_on, data_on, empties_on, pdus_on, received_on, submitted_on}
 use Rattle.journal_data.specs.Delivered.{ArrivesInOrder}
-use Rattle.journal_data.proofs.Arriving.{Grows, grown_take, more_whole, octets_grow, take_less}
+use Rattle.journal_data.proofs.Arriving.{Grows, grown_take, octets_grow}
 
 -- ---- growth
 

@@ -72,7 +72,7 @@ module _ (handle : ℕ) where
     central_listens = λ under doing linked. linked;
     sent = λ channel link doing. opening_stays facts link;
     responds = λ channel on doing is_on linked. linked;
-    taken = λ channel octets pdu on fields under is_on hears takes free. opening_stays facts (link_taken on.params.own pdu fields under);
+    taken = λ channel octets pdu on fields under is_on hears takes free. opening_stays facts (link_taken facts.view on.params.own pdu fields under);
     scanned = λ channel octets pdu on doing is_on hears. same_stays facts (scanner_heard (Some on) true channel pdu facts) refl;
     answered = λ channel octets pdu on doing is_on hears. same_stays facts (scanner_heard (Some on) false channel pdu facts) refl;
     connects = λ channel octets pdu on access under doing is_on hears answers next free in_range linked. linked;

@@ -1,14 +1,13 @@
 -- What the notes of a station add to its lines: each open link has what was noted under its handle since it was opened, and
 -- of any other link the lines say what they said before.
 use Rattle.std.proofs.Common.{length, if◌then◌else◌, ◌≡◌, ℕ, suc, ◌+◌, ◌<◌, ◌==◌, Bool, true, false, Option, Some, None, List, [], ◌∷◌, ◌++◌, map, cond, refl, ap, sym, subst, ◌∙◌, append-nil, append_assoc, arith}
-use Rattle.std.specs.Prelude.{◌&&◌, ◌||◌, drop, fold, is_some, ⊤}
+use Rattle.std.specs.Prelude.{◌&&◌, ◌||◌, fold, is_some, ⊤}
 use Rattle.std.specs.List.{AllByRecursion}
 use Rattle.std.proofs.Math.Bool.{and-false}
 use Rattle.std.proofs.lemmas.Bool.{eq-eqb, eqb-true, false_from_ne_true, or_left, or_right, and_from}
 use Rattle.std.proofs.lemmas.List.Elements.{filter-append}
 use Rattle.std.proofs.lemmas.List.Sums.{fold-append}
 use Rattle.arrayvec.specs.ArrayVec.{ArrayVec}
-use Rattle.acl_banks.specs.Packets.{Marked, marked_octets}
 use Rattle.ble_base.specs.declared.addresses.Address.{Address}
 use Rattle.ble_base.specs.declared.roles.Role.{Role}
 use Rattle.ble_base.specs.declared.roles.Side.{Side}
@@ -17,7 +16,7 @@ use Rattle.ble_base.specs.declared.notes.Note.TheVariants.{Up, Opened, Shut, Sen
 use Rattle.host_view.specs.Noted.{acl_handle, is_acl_data, two_octets}
 use Rattle.journal_acks.specs.open_links.OpenLinks.{Links as OpenLinks, OpenLink, link_from}
 use Rattle.journal_acks.specs.controller_model.Notes.{is_event, is_opening}
-use Rattle.journal_acks.specs.controller_model.Since.{is_data_note, note_since, since_opened, starts_message}
+use Rattle.journal_acks.specs.controller_model.Since.{is_data_note, note_since, since_opened}
 use Rattle.journal_acks.specs.run_model.History.{Event, Noted, noted_by}
 use Rattle.journal_acks.specs.run_model.Journal.{entry_of, side_of}
 use Rattle.journal_acks.specs.run_model.Links.{Links, links_after, links_of}
@@ -27,8 +26,8 @@ use Rattle.journal_acks.proofs.journal_links.LineNotes.{note_added}
 use Rattle.journal_acks.specs.Exchange.{is_number}
 use Rattle.journal_acks.proofs.Exchanging.{number_at}
 use Rattle.journal_data.specs.HostLines.{link_under}
-use Rattle.journal_data.specs.Lines.{Lines, PduLine, credited_in, credited_on, line_after, pdus_on, received_in, received_on}
-use Rattle.journal_data.proofs.Booked.{FitsLink, IsBook, counts_on, credit_by, data_by, note_booked, counts_more, octets_more}
+use Rattle.journal_data.specs.Lines.{Lines, PduLine, Received, credited_in, credited_on, line_after, pdus_on, received_in}
+use Rattle.journal_data.proofs.Booked.{FitsLink, IsBook, counts_on, credit_by, data_by, note_booked, counts_more, received_at, received_line}
 use Rattle.journal_data.proofs.EachLine.{lines_at, note_lines, numbers_at}
 use Rattle.journal_data.proofs.HeldLinks.{HoldsLinks, holds_same, opened_holds, shut_holds, under_is}
 use Rattle.journal_data.proofs.Openness.{AreNot, note_open}
@@ -39,14 +38,14 @@ use Rattle.journal_data.proofs.Openness.{AreNot, note_open}
 pub record IsUnused (link : ℕ) (lines : Lines) : Type 0 where
   pub sent : pdus_on link lines.sent ≡ []
   pub taken : pdus_on link lines.taken ≡ []
-  pub received : received_on link lines ≡ []
+  pub received : received_at link lines.received ≡ []
   pub credited : credited_on link lines ≡ 0
 
 -- what the lines say of a link stays
 pub record IsSameOn (link : ℕ) (before after : Lines) : Type 0 where
   pub sent : pdus_on link after.sent ≡ pdus_on link before.sent
   pub taken : pdus_on link after.taken ≡ pdus_on link before.taken
-  pub received : received_on link after ≡ received_on link before
+  pub received : received_at link after.received ≡ received_at link before.received
   pub credited : credited_on link after ≡ credited_on link before
 
 pub same_itself : (link : ℕ) (lines : Lines) → IsSameOn link lines lines
@@ -202,12 +201,12 @@ module _ (many : ℕ) (number : ℕ → ℕ) (lines : Lines) (opened : ℕ → B
         sent = refl;
         taken = refl;
         received =
-            octets_more other lines.received (received_in lines.links octets)
-            ∙ ap (λ (all : List Marked). received_on other lines ++ all)
+            filter-append (λ (one : Received). one.link == other) lines.received (received_in lines.links octets)
+            ∙ ap (λ (all : List Received). received_at other lines.received ++ all)
             (data_by (is_acl_data octets) false other (link_under (acl_handle octets) lines.links) octets
             (λ acl. none_under other (acl_handle octets) (apart (acl_handle octets) (received_data packet acl)))
-            ∙ ap (λ (b : Bool). cond b (marked_octets (starts_message octets) (drop 5 octets)) []) (and-false (is_acl_data octets)))
-            ∙ append-nil (received_on other lines);
+            ∙ ap (λ (b : Bool). cond b (received_line other octets ∷ []) []) (and-false (is_acl_data octets)))
+            ∙ append-nil (received_at other lines.received);
         credited = omega (arith, parts, counts);
       }
   same_note other side last (Opened handle role own peer) apart none = absurd cc

@@ -2,22 +2,17 @@
 use Rattle.std.proofs.Common.{◌≡◌, ℕ, ◌+◌, ◌≤◌, ◌<◌, Bool, true, false, List, [], ◌∷◌, ◌++◌, fold, refl, sym, ap, ◌∙◌, arith}
 use Rattle.std.specs.Prelude.{◌&&◌, if◌then◌else◌}
 use Rattle.std.proofs.lemmas.List.Sums.{fold-append}
-use Rattle.ble_base.specs.declared.notes.Note.{Note}
-use Rattle.ble_base.specs.declared.notes.Note.TheVariants.{Opened}
 use Rattle.journal_acks.specs.link_model.Setup.{Setup as EndSetup}
 use Rattle.journal_acks.specs.run_model.History.{Event, TurnBegan, HostFed, Called, Noted, Transmitted}
 use Rattle.journal_acks.specs.run_model.LinkEnds.{ConnectInd, HasConnectInd}
-use Rattle.journal_acks.specs.run_model.Links.{Links, begins_link, first_links, is_connect_ind, links_after, links_noted, links_of, with_link}
+use Rattle.journal_acks.specs.run_model.Links.{Links, begins_link, first_links, is_connect_ind, links_after, links_of, with_link}
 use Rattle.journal_acks.specs.run_model.Numbers.{HasNumber}
+use Rattle.journal_acks.proofs.journal_links.LinkLines.{noted_count}
 
 -- ---- the number of links grows
 
-noted_grows : (links : Links) (station : ℕ) (note : Note) → links.begun ≤ (links_noted station note links).begun
-noted_grows links station (Opened handle role own peer) = omega arith
-noted_grows links station note = omega arith
-
 event_grows : (links : Links) (event : Event) → links.begun ≤ (links_after links event).begun
-event_grows links (Noted station note) = noted_grows links station note
+event_grows links (Noted station note) = noted_count links station note
 event_grows links (TurnBegan slot radios) = omega arith
 event_grows links (HostFed station octets) = omega arith
 event_grows links (Called station step) = omega arith

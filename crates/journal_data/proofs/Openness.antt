@@ -24,7 +24,7 @@ use Rattle.wire_fields.specs.Field.{little_endian}
 use Rattle.host_view.specs.Links.{was_encrypted}
 use Rattle.host_view.specs.Noted.{is_acl_data}
 use Rattle.host_view.specs.View.{View}
-use Rattle.host_view.specs.Unbuilt.{status_of}
+use Rattle.host_view.specs.Status.{status_of}
 use Rattle.adv_pdu.specs.declared.pdu.AdvPdu.{AdvPdu}
 use Rattle.journal_acks.specs.link_model.declared.setup.LinkSetup.{LinkSetup}
 use Rattle.journal_acks.specs.link_model.Packets.{good_pdu}
@@ -47,7 +47,7 @@ use Rattle.journal_acks.specs.controller_model.Step.{Step, HostOctet, TurnBegins
 use Rattle.journal_acks.specs.controller_model.Facts.{Setup, Facts}
 use Rattle.journal_acks.specs.controller_model.Answers.{AreOneAnswer, HasNoAnswer, IsAnswerTo, answer_to}
 use Rattle.journal_acks.specs.controller_model.Commands.{events_caused, facts_commanded, facts_known, is_asking, links_after, moment_of, notes_before, notes_commanded, notes_known}
-use Rattle.journal_acks.specs.controller_model.Data.{event_completed, facts_offered, note_received, notes_offered, offer_of, facts_handed, notes_handed}
+use Rattle.journal_acks.specs.controller_model.Data.{event_completed, facts_offered, note_received, notes_offered, offer_of, facts_handed, notes_handed, notes_pieces, pieces_handed}
 use Rattle.journal_acks.specs.controller_model.Events.{notes_of_events, passes}
 use Rattle.journal_acks.specs.controller_model.Heard.{events_received, events_reported, facts_with_words, has_room, link_heard, link_taken, notes_taken, opens as opening, report_event, report_events, scanner_heard}
 use Rattle.journal_acks.specs.controller_model.Links.{connection_complete, connection_failed, ends_for, events_opened, facts_ending, note_shut, notes_ended}
@@ -666,7 +666,7 @@ phase_as setup facts own = let nothing = stays tt tt (λ handle. refl) in record
   responds = λ channel on doing is_on. nothing;
   taken = λ channel octets pdu on fields handle is_on hears takes free.
       let new = free_is_new facts.links handle free in
-      opened_as (link_taken on.params.own pdu fields handle) facts new.0 new.1;
+      opened_as (link_taken facts.view on.params.own pdu fields handle) facts new.0 new.1;
   scanned = λ channel octets pdu on doing is_on hears.
       passed_as facts (scanner_heard (Some on) true channel pdu facts)
       (answered_quiet facts.view (scan_answer on.params facts.view.accepted on.recent pdu) pdu) refl;
@@ -689,18 +689,19 @@ words_open setup handle facts = changed_opens (link_after (WordsGiven _ _)) hand
 pub handed_not : (kind : Note → Bool) → ((octets : List ℕ) → kind (Up (record { items = octets })) ≡ false) → (facts : Facts) → AreNot kind (notes_handed facts)
 handed_not kind up facts =
     let events = map event_completed (completed_from 0 facts.links) in
-    both_not kind (map note_received facts.received) (notes_of_events facts.view events) (pieces_not kind up facts.received) (events_not kind up facts.view events)
+    both_not kind (notes_pieces facts) (notes_of_events facts.view events) (pieces_not kind up (pieces_handed facts)) (events_not kind up facts.view events)
 
 -- and the links that end then
 pub leaving_not : (kind : Note → Bool) → ((octets : List ℕ) → kind (Up (record { items = octets })) ≡ false)
     → ((handle reason : ℕ) → kind (note_shut handle reason) ≡ false) → (facts : Facts) → AreNot kind (notes_leaving (facts_handed facts))
 leaving_not kind up shut facts =
-    ends_not kind facts.view (λ one. shut one.handle one.reason.0)
-    (λ handle reason. events_not kind up facts.view (DisconnectionComplete 0 handle reason ∷ [])) (ends_for ending_in (facts_handed facts))
+    ends_not kind (facts_handed facts).view (λ one. shut one.handle one.reason.0)
+    (λ handle reason. events_not kind up (facts_handed facts).view (DisconnectionComplete 0 handle reason ∷ [])) (ends_for ending_in (facts_handed facts))
 
 pub leaving_reports : (facts : Facts) → AreNot is_report (notes_leaving (facts_handed facts))
 leaving_reports facts =
-    ends_not is_report facts.view (λ one. refl) (λ handle reason. none_report _ (ended_event facts.view handle reason)) (ends_for ending_in (facts_handed facts))
+    ends_not is_report (facts_handed facts).view (λ one. refl)
+    (λ handle reason. none_report _ (ended_event (facts_handed facts).view handle reason)) (ends_for ending_in (facts_handed facts))
 
 ended_as : (facts : Facts) (setup : Setup)
     → IsNotedAs (is_open facts.links) (is_open (facts_after setup facts TurnEnds).links) (notes_after setup facts TurnEnds)
@@ -715,9 +716,9 @@ ended_as facts setup =
     ∙ ap (λ (linked : Bool). fold (note_open handle) linked leaving)
     (open_still handle (is_open facts.links handle) handed (handed_not is_opening (λ octets. refl) facts) none
     ∙ sym (same_open facts.links reported (mapped_opens link_reported facts.links) handle))
-    ∙ ends_open facts.view ending_in 0 handle reported
+    ∙ ends_open (facts_handed facts).view ending_in 0 handle reported
     ∙ sym (ap (λ (held : Facts). is_open held.links handle) (leaving_is (facts_handed facts))))
-    (λ handle. once_before handle handed leaving (none_of handle handed none) (ends_once handle facts.view ending_in 0 reported))
+    (λ handle. once_before handle handed leaving (none_of handle handed none) (ends_once handle (facts_handed facts).view ending_in 0 reported))
 
 pub step_noted : (setup : Setup) (facts : Facts) (step : Step) → HaveOwnHandles setup facts
     → IsNotedAs (is_open facts.links) (is_open (facts_after setup facts step).links) (notes_after setup facts step)
@@ -768,7 +769,7 @@ phase_reports setup facts = record {
   central_listens = λ handle doing. tt;
   sent = λ channel link doing. opened_reports link facts;
   responds = λ channel on doing is_on. tt;
-  taken = λ channel octets pdu on fields handle is_on hears takes free. opened_reports (link_taken on.params.own pdu fields handle) facts;
+  taken = λ channel octets pdu on fields handle is_on hears takes free. opened_reports (link_taken facts.view on.params.own pdu fields handle) facts;
   scanned = λ channel octets pdu on doing is_on hears.
       passed_reports (scanner_heard (Some on) true channel pdu facts)
       (answered_quiet facts.view (scan_answer on.params facts.view.accepted on.recent pdu) pdu);

@@ -38,6 +38,7 @@ use Rattle.journal_acks.specs.controller_model.Heard.{has_room, link_taken, piec
 use Rattle.journal_acks.specs.controller_model.Side.{facts_of}
 use Rattle.journal_acks.specs.controller_model.Step.{Step}
 use Rattle.journal_acks.proofs.controller_model.Always.{IsKept, always, opening_passes, received_shut}
+use Rattle.journal_acks.proofs.controller_model.Handing.{left_are}
 use Rattle.journal_acks.proofs.controller_model.OtherNotes.{two_octets_hold}
 use Rattle.journal_acks.specs.controller_model.Links.{ends_for}
 
@@ -162,7 +163,7 @@ short_kept setup = record {
       fixes = λ doing facts are. are;
       does = λ doing facts may are. are;
     };
-    reports = λ facts are. tt;
+    reports = λ facts are. left_are (λ (piece : ℕ × Piece). length piece.1.body.items ≤ 255) facts.view facts.received are;
     passes = λ facts are. record {
       rests = are;
       awaits_request = λ channel doing. are;
@@ -172,7 +173,7 @@ short_kept setup = record {
           opening_passes IsShort link facts (past_short (link_at link.handle facts.links) link.handle facts.received are);
       responds = λ channel on doing is_on. are;
       taken = λ channel octets pdu on fields handle is_on hears takes free.
-          opening_passes IsShort (link_taken on.params.own pdu fields handle) facts
+          opening_passes IsShort (link_taken facts.view on.params.own pdu fields handle) facts
           (past_short (link_at handle facts.links) handle facts.received are);
       scanned = λ channel octets pdu on doing is_on hears. are;
       answered = λ channel octets pdu on doing is_on hears. are;

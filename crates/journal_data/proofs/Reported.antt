@@ -1,6 +1,6 @@
 -- What a controller reports of data and of complete packets, in any step: the length of an ACL packet is that of its data,
 -- and a Number Of Completed Packets event is of one handle.
-use Rattle.std.proofs.Common.{◌≡◌, ℕ, ◌==◌, Bool, true, false, List, [], ◌∷◌, ◌++◌, refl, sym, ◌∙◌, length, ◌+◌}
+use Rattle.std.proofs.Common.{◌≡◌, ℕ, ◌≤◌, ◌==◌, Bool, true, false, List, [], ◌∷◌, ◌++◌, refl, sym, ◌∙◌, length, ◌+◌}
 use Rattle.std.specs.Prelude.{filter, map, ⊤}
 use Rattle.std.specs.List.{AllByRecursion}
 use Rattle.std.proofs.lemmas.Bool.{or_parts}
@@ -20,7 +20,7 @@ use Rattle.hci_evt.specs.Event.{mask_bit_of, written}
 use Rattle.hci_evt.specs.declared.event.Event.{Event}
 use Rattle.hci_evt.specs.declared.event.Event.TheVariants.{BufferOverflow, CompletedPackets, HardwareError}
 use Rattle.host_view.specs.Noted.{is_acl_data, two_octets}
-use Rattle.host_view.specs.Unbuilt.{status_of}
+use Rattle.host_view.specs.Status.{status_of}
 use Rattle.host_view.specs.View.{View}
 use Rattle.journal_acks.specs.open_links.Data.{completed_from}
 use Rattle.journal_acks.specs.open_links.declared.offers.Offer.{Offer}
@@ -31,7 +31,7 @@ use Rattle.journal_acks.specs.controller_model.Answers.{answer_to}
 use Rattle.journal_acks.specs.controller_model.Commands.{events_caused, notes_commanded, notes_known}
 use Rattle.journal_acks.specs.controller_model.link_commands.LinksCommanded.{events_commanded_on}
 use Rattle.journal_acks.proofs.controller_model.Asked.{noted_asking, notes_at_once}
-use Rattle.journal_acks.specs.controller_model.Data.{notes_offered, offer_of, event_completed, note_received, facts_handed, notes_handed}
+use Rattle.journal_acks.specs.controller_model.Data.{notes_offered, offer_of, event_completed, note_received, facts_handed, notes_handed, notes_pieces, pieces_handed}
 use Rattle.journal_acks.specs.controller_model.Events.{notes_of_events, passes}
 use Rattle.journal_acks.specs.controller_model.Facts.{Facts, Setup}
 use Rattle.journal_acks.specs.controller_model.Links.{note_shut, notes_reset, notes_leaving}
@@ -41,6 +41,7 @@ use Rattle.journal_acks.specs.controller_model.Heard.{facts_with_words}
 use Rattle.journal_acks.specs.controller_model.Step.{Step, HostOctet, TurnBegins, PacketHeard, NothingHeard, TurnEnds}
 use Rattle.journal_acks.proofs.controller_model.Phases.{heard_is, unheard_is}
 use Rattle.journal_acks.proofs.controller_model.Always.{IsInTurn}
+use Rattle.journal_acks.proofs.controller_model.Handing.{handed_are}
 use Rattle.journal_acks.proofs.controller_model.Handles.{own_handles}
 use Rattle.journal_acks.proofs.controller_model.TurnNotes.{EachNote, turn_noted}
 use Rattle.journal_data.specs.Held.{IsOfOneHandle}
@@ -183,6 +184,7 @@ step_lengths setup past TurnEnds =
     let facts = facts_of setup past in
     let events = map event_completed (completed_from 0 facts.links) in
     all_append HasItsLength (notes_handed facts) (notes_leaving (facts_handed facts))
-    (all_append HasItsLength (map note_received facts.received) (notes_of_events facts.view events)
-    (of_pieces facts.received (all_short setup past)) (of_events HasItsLength event_length (λ handle. tt) facts.view events))
+    (all_append HasItsLength (notes_pieces facts) (notes_of_events facts.view events)
+    (of_pieces (pieces_handed facts)
+    (handed_are (λ (piece : ℕ × Piece). length piece.1.body.items ≤ 255) facts.view facts.received (all_short setup past))) (of_events HasItsLength event_length (λ handle. tt) facts.view events))
     (no_length (notes_leaving (facts_handed facts)) (leaving_reports facts))

@@ -260,7 +260,7 @@ each_goes under setup facts = let same = stays_same (link_at under facts.links) 
   central_listens = λ handle doing. inl same;
   sent = λ channel link doing. opens_goes under link facts;
   responds = λ channel on doing is_on. inl same;
-  taken = λ channel octets pdu on fields handle is_on hears takes free. opens_goes under (link_taken on.params.own pdu fields handle) facts;
+  taken = λ channel octets pdu on fields handle is_on hears takes free. opens_goes under (link_taken facts.view on.params.own pdu fields handle) facts;
   scanned = λ channel octets pdu on doing is_on hears.
       inl (sends_on under (link_at under facts.links) (asks_if (true && does_ask (scan_answer on.params facts.view.accepted on.recent pdu)) channel pdu)
       (with_scanner (scanner_after on facts.view.accepted pdu) facts) same);

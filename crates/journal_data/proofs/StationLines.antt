@@ -37,7 +37,7 @@ use Rattle.journal_acks.proofs.TwoStations.{side_same}
 use Rattle.journal_acks.proofs.link_calls.UnderHandles.{octet_under}
 use Rattle.journal_data.specs.HostLines.{OpenUnder}
 use Rattle.journal_data.specs.Lines.{Lines, line_after, lines_of, pdus_on}
-use Rattle.journal_data.proofs.Booked.{IsBook, counts_on, octets_on}
+use Rattle.journal_data.proofs.Booked.{IsBook, counts_on, received_at}
 use Rattle.journal_data.proofs.EachLine.{event_lines, call_lines, lines_at, note_lines, numbers_at, air_lines, turn_lines}
 use Rattle.journal_data.proofs.HeldLinks.{HoldsLinks, holds_none}
 use Rattle.journal_data.proofs.Openness.{AreNot, IsNotedAs, stays, shuts, opens_first, is_open, is_shutting, note_open, open_still, past_noted, all_of, same_open}
@@ -363,7 +363,7 @@ pub says_same : (link : ℕ) (before after : Lines) → SaysSame before after �
 says_same link before after same = record {
   sent = ap (pdus_on link) same.sent;
   taken = ap (pdus_on link) same.taken;
-  received = ap (octets_on link) same.received;
+  received = ap (received_at link) same.received;
   credited = ap (counts_on link) same.credited;
 }
 

@@ -320,7 +320,7 @@ turn_fed given station step history turn is =
 
 -- ---- the buffers that are taken
 
-abbrev given_data : DataPacket → HostData
+abbrev pub given_data : DataPacket → HostData
 given_data packet = record { start = packet.start; body = packet.body }
 
 -- each packet that an end was given is reported, complete, or waits

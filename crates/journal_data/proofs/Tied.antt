@@ -14,7 +14,7 @@ use Rattle.journal_acks.specs.run_model.Run.{Given, facts_at, setup_at}
 use Rattle.journal_acks.proofs.Exchanging.{number_at}
 use Rattle.journal_data.specs.Lines.{data_on, empties_on}
 use Rattle.journal_data.proofs.Arriving.{IsEndBooked}
-use Rattle.journal_data.proofs.Booked.{IsBook, count_up}
+use Rattle.journal_data.proofs.Booked.{IsBook, count_up, data_booked}
 use Rattle.journal_data.proofs.EachLine.{lines_at}
 use Rattle.journal_data.proofs.NotedPdus.{noted_sent, noted_took}
 
@@ -41,7 +41,7 @@ tied given station handle history link few noted at book credited submitted empt
           (ap (filter (is_sent_on handle)) same ∙ sent_notes_are setup past handle link at);
       taken = book.taken ∙ noted_took handle number (since_at station handle history) (nonempty is_empty ack.accepted)
           (ap (filter (is_took_on handle)) same ∙ took_notes_are setup past handle link at);
-      received = ap (λ octets. octets ++ data_waiting handle (facts_at given station history).received) (book.received ∙ ap (flat_map (data_up handle)) same)
+      received = ap (λ octets. octets ++ data_waiting handle (facts_at given station history).received) (data_booked handle number (lines_at station history) (since_at station handle history) book ∙ ap (flat_map (data_up handle)) same)
           ∙ data_is_handed setup past handle link few at;
       credited = book.credited ∙ credited ∙ ap (λ n. (facts_in link).outgoing.reported + n) (sym empties);
       submitted = submitted;

@@ -54,4 +54,4 @@ others_no_data most handle few (note ∷ notes) are = (by note are.0, others_no_
 -- what is noted of them is of no data
 pub leaving_no_data : (handle : ℕ) (facts : Facts) → AreNot (is_data_note handle) (notes_leaving (facts_handed facts))
 leaving_no_data handle facts =
-    others_no_data 0 handle (omega arith) (notes_leaving (facts_handed facts)) (ends_other 0 handle facts.view (ends_for ending_in (facts_handed facts)))
+    others_no_data 0 handle (omega arith) (notes_leaving (facts_handed facts)) (ends_other 0 handle (facts_handed facts).view (ends_for ending_in (facts_handed facts)))

@@ -16,6 +16,7 @@ use Rattle.journal_controls.specs.link_model.Data.{is_control}
 use Rattle.journal_controls.specs.link_model.Step.{Step}
 use Rattle.journal_controls.specs.link_model.keyed_control.Keyed.{Keyed}
 use Rattle.journal_controls.specs.run_model.Readers.{of_side}
+use Rattle.journal_controls.specs.host_answers.Flows.{most_received_on}
 use Rattle.journal_controls.specs.LineSteps.{is_more_acked, keyed_begun, keyed_in_line, keyed_on, turn_now}
 use Rattle.journal_controls.specs.LinesDue.{due_from, due_hearing, due_saying, due_seen, due_with, lines_due}
 use Rattle.journal_controls.proofs.journal_ends.SeenLists.{AreAsks, line_are_asks}
@@ -54,7 +55,7 @@ named_due words B B false number front line due k begun none is = absurd cc
 shut_leaves : (words : Words) (side : Side) (number : ℕ) (front : List Entry) (line : Entry) (due : List Entry) (k : Keyed) → keyed_in_line words side number front (Some k) line ≡ None
     → due_with words side number front line due (Some k) ≡ []
 shut_leaves words side number front (Opened other link handle role) due k is =
-    named_due words side other (link == number) number front (Opened other link handle role) due k (keyed_begun side (link_numbered number front)) refl is
+    named_due words side other (link == number) number front (Opened other link handle role) due k (keyed_begun (most_received_on side front) side (link_numbered number front)) refl is
 shut_leaves words side number front (Shut other link reason) due k is =
     named_due words side other (link == number) number front (Shut other link reason) due k None refl is
 shut_leaves words side number front line due k is = absurd cc

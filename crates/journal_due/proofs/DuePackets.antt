@@ -1,5 +1,5 @@
 -- What is due to each side after a packet on the air.
-use Rattle.std.proofs.Common.{◌≡◌, ℕ, zero, suc, ◌-◌, ◌==◌, ◌&&◌, Bool, true, false, Option, Some, None, List, [], ◌∷◌, ◌++◌, refl, sym, ap, subst, ◌∙◌, append-nil}
+use Rattle.std.proofs.Common.{◌≡◌, ℕ, zero, suc, ◌==◌, ◌&&◌, Bool, true, false, Option, Some, None, List, [], ◌∷◌, ◌++◌, refl, sym, ap, subst, ◌∙◌, append-nil}
 use Rattle.std.specs.Prelude.{if◌then◌else◌}
 use Rattle.std.proofs.lemmas.Bool.{and_right, eqb-true}
 use Rattle.ble_base.specs.Side.{other_side}
@@ -44,8 +44,8 @@ use Rattle.journal_controls.proofs.journal_ends.SeenPackets.{handed_is, hears_th
 use Rattle.journal_controls.proofs.journal_packets.AccessOrder.{AreNth}
 use Rattle.journal_controls.proofs.journal_packets.SoFar.{IsBelongingSoFar}
 use Rattle.journal_controls.proofs.journal_acks.run_laws.DistinctAccess.{AreApart}
-use Rattle.journal_controls.proofs.journal_acks.run_laws.Hearings.{wanted_is}
 use Rattle.journal_controls.proofs.journal_acks.run_laws.TurnPlaces.{Within, at_stage}
+use Rattle.journal_controls.proofs.run_model.LinkEnds.{wanted_is}
 use Rattle.journal_controls.proofs.run_model.Parts.{journal_event}
 use Rattle.journal_controls.proofs.run_model.Stations.{among, is_in}
 use Rattle.journal_controls.proofs.run_model.Walk.{AtPackets, Place}

@@ -56,7 +56,7 @@ unheard_plain other facts = nothing
 
 under_plain : (free : Option ℕ) (own : Address) (pdu : AdvPdu) (fields : ConnectFields) (facts : Facts) → IsPlainOutcome (taken_under free own pdu fields facts)
 under_plain None own pdu fields facts = nothing
-under_plain (Some handle) own pdu fields facts = opens_plain (link_taken own pdu fields handle) facts
+under_plain (Some handle) own pdu fields facts = opens_plain (link_taken facts.view own pdu fields handle) facts
 
 if_plain : (new : Bool) (own : Address) (pdu : AdvPdu) (fields : ConnectFields) (facts : Facts) → IsPlainOutcome (taken_if new own pdu fields facts)
 if_plain false own pdu fields facts = nothing

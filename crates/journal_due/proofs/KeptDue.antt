@@ -41,6 +41,7 @@ use Rattle.journal_controls.specs.run_model.Readers.{turns_of}
 use Rattle.journal_controls.specs.run_model.Run.{Given, after_call, after_feed, after_octets, facts_at, hearings_of, history_of, octets_left, run_of, setup_at, step_of, unseen_in, use_at}
 use Rattle.journal_controls.proofs.journal_acks.Counting.{facts_event}
 use Rattle.journal_controls.proofs.journal_acks.Exchanging.{number_at, number_other}
+use Rattle.journal_controls.proofs.journal_acks.HandedOn.{forged_is}
 use Rattle.journal_controls.proofs.journal_acks.KeptLines.{AreLinedAt, lines_kept}
 use Rattle.journal_controls.proofs.journal_acks.Known.{known_of}
 use Rattle.journal_controls.proofs.journal_acks.Standing.{PhasedBy, listens_wanted, phased_at}
@@ -48,7 +49,7 @@ use Rattle.journal_controls.proofs.journal_acks.TwoStations.{IsOfTwo, other_apar
 use Rattle.journal_controls.proofs.journal_acks.link_calls.CallNotes.{IsOfFeeds, IsOfStarts, begin_noted, doing_noted, end_noted, events_noted, octet_noted}
 use Rattle.journal_controls.proofs.journal_acks.run_laws.ByCalls.{last_turn}
 use Rattle.journal_controls.proofs.journal_acks.run_laws.DistinctAccess.{AreApart}
-use Rattle.journal_controls.proofs.journal_acks.run_laws.Hearings.{other_facts, wanted_is}
+use Rattle.journal_controls.proofs.journal_acks.run_laws.Hearings.{other_facts}
 use Rattle.journal_controls.proofs.journal_acks.run_laws.InAgreement.{differs_back}
 use Rattle.journal_controls.proofs.journal_acks.run_laws.TurnPlaces.{Within, at_stage}
 use Rattle.journal_controls.proofs.journal_acks.run_laws.TurnSteps.{IsListening}
@@ -60,14 +61,13 @@ use Rattle.journal_controls.proofs.journal_packets.SoFar.{IsBelongingSoFar}
 use Rattle.journal_controls.proofs.link_model.Hearing.{IsHeardWhole}
 use Rattle.journal_controls.proofs.run_model.Fates.{turns_are}
 use Rattle.journal_controls.proofs.run_model.Fronts.{front_at}
-use Rattle.journal_controls.proofs.run_model.LinkEnds.{AreTaken, IsUnderstood, received_by}
+use Rattle.journal_controls.proofs.run_model.LinkEnds.{AreTaken, IsUnderstood, received_by, wanted_is}
 use Rattle.journal_controls.proofs.run_model.Places.{each_called, each_event}
 use Rattle.journal_controls.proofs.run_model.Stations.{among, is_in, not_before}
 use Rattle.journal_controls.proofs.run_model.Walk.{AtBegins, AtEnds, AtFeeds, AtListening, AtPackets, IsKept, NoTurn, Place}
 use Rattle.journal_due.specs.EachLine.{IsDueOn}
 use Rattle.journal_due.specs.ProcedureLines.{RestsAt}
 use Rattle.journal_controls.proofs.journal_ends.WordedLinks.{facts_on, heard_on, worded_as, worded_at, worded_good, worded_none, worded_verdict}
-use Rattle.journal_controls.proofs.GoodPackets.{forged_is}
 use Rattle.journal_controls.proofs.LinkMoves.{hearing_still}
 use Rattle.journal_controls.proofs.link_model.Forging.{forged_reply}
 use Rattle.journal_controls.proofs.link_model.KeyedSteps.{forged_none}

@@ -16,12 +16,11 @@ use Rattle.controller_model.specs.Side.{facts_after}
 use Rattle.controller_model.specs.Step.{HostOctet, NothingHeard, PacketHeard, Step, TurnBegins, TurnEnds}
 use Rattle.controller_model.specs.declared.doing.Doing.{Doing}
 use Rattle.controller_model.proofs.Asked.{IsAskedStep}
-use Rattle.controller_model.proofs.Accepted.{not_not, table_accepts}
+use Rattle.controller_model.proofs.Accepted.{not_not}
 use Rattle.hci_cmd.specs.declared.command.Command.{Command}
 use Rattle.hci_cmd.specs.declared.command.Command.TheVariants.{Disconnect, LeReadRemoteFeatures, LeSetChannels, ReadRemoteVersion}
 use Rattle.host_view.specs.Links.{link_has, link_in}
-use Rattle.host_view.specs.Status.{is_reason}
-use Rattle.host_view.specs.Unbuilt.{status_of}
+use Rattle.host_view.specs.Status.{is_reason, status_of}
 use Rattle.host_view.specs.View.{View}
 use Rattle.link_calls.specs.Hosts.{GetsData, HasHeardHost, IsAsked, Unchanged}
 use Rattle.link_calls.specs.Phases.{HasPassed, IsNew, Stays, Takes, base_receiving, link_worded, refusal_at, refused_if}
@@ -137,7 +136,7 @@ reason_given view handle reason accepted =
     let link = link_in view.links handle in
     host_reason reason
     (not_not (is_reason reason)
-    (third_passes (is_none link) (link_has link (λ l. l.disconnecting)) (not (is_reason reason)) (table_accepts _ _ accepted)))
+    (third_passes (is_none link) (link_has link (λ l. l.disconnecting)) (not (is_reason reason)) accepted))
 
 step_asks : (view : View) (command : Command) (moment : Moment) (role : Role) (peer : PeerFacts) (step : EndStep) → status_of view command ≡ 0
     → host_step_of command moment role peer ≡ Some step → AsksReason step
@@ -221,7 +220,7 @@ forged_kept true facts kept = record { reasons = forged_gives true facts kept.re
     by true = inr refl
     by false = kept.ends
 
-refusal_off : (step : EndStep) → IsRefusal step → is_receiving step ≡ false
+pub refusal_off : (step : EndStep) → IsRefusal step → is_receiving step ≡ false
 refusal_off (RequestAnswered answer) is = refl
 refusal_off (KeyAnswered key slot) is = refl
 refusal_off step is = absurd is

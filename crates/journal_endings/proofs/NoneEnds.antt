@@ -60,7 +60,7 @@ reason_is_other code is =
 
 -- ---- why a link is shut
 
-unanswered_code : (h : Held) (slot : ℕ) (code : ErrCode) → timeout_of slot h ≡ Some code → code.0 ≡ ll_response_timeout
+pub unanswered_code : (h : Held) (slot : ℕ) (code : ErrCode) → timeout_of slot h ≡ Some code → code.0 ≡ ll_response_timeout
 unanswered_code h slot code is = by _ _ is
   where
     by : (goes over : Bool) → (if goes then (if over then Some (record { 0 = ll_response_timeout }) else None) else None) ≡ Some code → code.0 ≡ ll_response_timeout

@@ -42,7 +42,6 @@ use Rattle.link_calls.proofs.run_model.Stations.{is_in}
 use Rattle.link_runs.proofs.link_pairs.HasSent.{has_sent}
 use Rattle.link_runs.specs.Open.{GoOnUnlessLate, HasHeardForged}
 use Rattle.link_runs.specs.link_pairs.Sound.{EndsForInstant}
-use Rattle.journal_indications.proofs.Receptions.{listened}
 use Rattle.journal_indications.proofs.journal_data.Followed.{AreEndsOf, IsFollowed, is_of_two}
 use Rattle.journal_indications.proofs.journal_data.KeptData.{other_in}
 use Rattle.journal_indications.proofs.journal_data.Mine.{HasFarEnd}
@@ -54,6 +53,7 @@ use Rattle.journal_indications.proofs.journal_data.journal_acks.TwoStations.{IsO
 use Rattle.journal_indications.proofs.journal_data.journal_links.OfTwo.{are_distinct}
 use Rattle.journal_indications.specs.journal_data.run_pairs.InTurns.{HasSentNow, HearEachInTurn, HearNoMixed}
 use Rattle.journal_indications.proofs.journal_data.run_pairs.FarEnds.{hear_in_turn, hears_in_turn}
+use Rattle.journal_indications.proofs.journal_data.run_pairs.FarPackets.{listens_is as listened}
 use Rattle.journal_endings.proofs.CallsKeep.{EndsByRules, IsKept, IsSound}
 use Rattle.journal_endings.proofs.EndReasons.{CarriesReason, NewCarries}
 
@@ -129,7 +129,7 @@ ReadUnmixed given =
     → AreEnds before central peripheral → HearEachInTurn given before central peripheral → HearNoMixed given before central peripheral
     → IsOpen given before central → IsOpen given before peripheral → ReadEachOtherAsSent given before central peripheral
 
-one_link : (one other : OpenLink) → Some one ≡ Some other → one ≡ other
+pub one_link : (one other : OpenLink) → Some one ≡ Some other → one ≡ other
 one_link one other same = cc
 
 abbrev with_body : ℕ → List ℕ → Pdu

@@ -16,3 +16,4 @@ pub use journal_indications::{
     no_procedure_ends_a_link_but_a_late_one, packets_of_a_link_are_read_as_sent,
     what_hosts_ask_may_come,
 };
+pub use link_runs::a_sealed_packet_is_opened;

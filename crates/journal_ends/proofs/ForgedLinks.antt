@@ -1,5 +1,5 @@
 -- The link on which a packet is heard that was changed on its way.
-use Rattle.std.proofs.Common.{◌≡◌, ℕ, ◌+◌, ◌≤◌, ◌&&◌, Bool, true, false, Option, Some, None, List, [], ◌∷◌, refl, sym, ◌∙◌, arith}
+use Rattle.std.proofs.Common.{◌≡◌, ℕ, ◌+◌, ◌≤◌, Bool, true, false, Some, List, [], ◌∷◌, refl, arith}
 use Rattle.std.specs.Prelude.{if◌then◌else◌}
 use Rattle.ble_base.specs.declared.roles.Side.{Side}
 use Rattle.ble_base.specs.declared.roles.Side.TheVariants.{A, B}
@@ -7,6 +7,7 @@ use Rattle.journal.specs.declared.entries.Entry.{Entry}
 use Rattle.journal_acks.specs.journal_links.Begun.{LinkBegun, links_begun}
 use Rattle.journal_acks.specs.journal_packets.Belonging.{central_of, first_number, fits, is_side, link_of_packet}
 use Rattle.journal_acks.specs.run_model.Journal.{mark_of}
+use Rattle.journal_acks.proofs.link_calls.RadioUses.{first_of_both}
 use Rattle.radio_replay.specs.Damage.{damaged_packet}
 use Rattle.radio_replay.specs.declared.fates.Fate.{Fate}
 use Rattle.radio_replay.specs.declared.fates.Fate.TheVariants.{Pass, Lost, Damage}
@@ -27,10 +28,6 @@ same_side A B c is is_too = absurd cc
 same_side B A c is is_too = absurd cc
 same_side A A B is is_too = absurd cc
 same_side B B A is is_too = absurd cc
-
-first_true : (a b : Bool) → (a && b) ≡ true → a ≡ true
-first_true true b is = refl
-first_true false b is = absurd cc
 
 later_number : (central : Side) (octets : List ℕ) (number found : ℕ) (links : List LinkBegun) → first_number central octets number links ≡ Some found → number ≤ found
 later_number central octets number found [] is = absurd cc
@@ -55,7 +52,7 @@ one_central one other octets number found (link ∷ links) is is_too =
         → (first_number one octets (number + 1) links ≡ Some found → first_number other octets (number + 1) links ≡ Some found → one ≡ other)
         → (if here then Some number else first_number one octets (number + 1) links) ≡ Some found
         → (if there then Some number else first_number other octets (number + 1) links) ≡ Some found → one ≡ other
-    by true true here there rest is is_too = same_side link.central one other (first_true _ _ here) (first_true _ _ there)
+    by true true here there rest is is_too = same_side link.central one other (first_of_both _ _ here) (first_of_both _ _ there)
     by true false here there rest is is_too = (let same : number ≡ found = cc in late other same is_too)
     by false true here there rest is is_too = (let same : number ≡ found = cc in late one same is)
     by false false here there rest is is_too = rest is is_too

@@ -5,7 +5,7 @@ use Rattle.journal_acks.specs.controller_model.Side.{notes_after}
 use Rattle.journal_acks.specs.controller_model.Step.{Step as Call, HostOctet}
 use Rattle.journal_acks.specs.run_model.History.{Event, Called, HostFed, Noted}
 use Rattle.journal_acks.specs.run_model.Journal.{journal_of, side_of}
-use Rattle.journal_acks.specs.run_model.Run.{Given, after_call, after_feed, after_octets, facts_at, history_of, run_of, setup_at}
+use Rattle.journal_acks.specs.run_model.Run.{Given, after_call, after_feed, after_octets, facts_at, setup_at}
 use Rattle.journal_acks.proofs.journal_packets.SoFar.{IsBelongingSoFar}
 use Rattle.journal_acks.proofs.run_model.Fronts.{front_at}
 use Rattle.journal_acks.proofs.run_model.Walk.{IsKept, Place}

@@ -1,5 +1,5 @@
 -- The link under a handle, after an octet of the host: what it was asked by the command that the octet completes.
-use Rattle.std.proofs.Common.{◌≡◌, ℕ, ◌+◌, ◌==◌, ◌&&◌, Bool, true, false, Option, Some, None, List, [], ◌∷◌, ◌++◌, cond, if◌then◌else◌, refl, sym, ap, subst, ◌∙◌, append-nil, eqb-true}
+use Rattle.std.proofs.Common.{◌≡◌, ℕ, ◌==◌, ◌&&◌, Bool, true, false, Option, Some, None, List, [], ◌∷◌, ◌++◌, cond, if◌then◌else◌, refl, sym, ap, subst, ◌∙◌, append-nil}
 use Rattle.std.specs.Prelude.{flat_map, is_none, is_some, ⊤}
 use Rattle.ble_base.specs.declared.roles.Role.{Role}
 use Rattle.ble_base.specs.declared.roles.Role.TheVariants.{Central, Peripheral}
@@ -13,7 +13,7 @@ use Rattle.hci_cmd.specs.declared.command.CmdRead.{CmdRead}
 use Rattle.hci_cmd.specs.declared.command.CmdRead.TheVariants.{Known, UnknownOpcode, BadLength}
 use Rattle.hci_cmd.specs.Command.{command_of}
 use Rattle.host_view.specs.OnLinks.{asks_links}
-use Rattle.host_view.specs.Unbuilt.{status_of}
+use Rattle.host_view.specs.Status.{status_of}
 use Rattle.host_view.specs.View.{View}
 use Rattle.journal_acks.specs.controller_model.Commands.{facts_asking, facts_commanded, facts_known, links_after, moment_of}
 use Rattle.journal_acks.specs.controller_model.Data.{facts_offered, offer_of}
@@ -23,7 +23,7 @@ use Rattle.journal_acks.specs.controller_model.Side.{facts_after, facts_fed, res
 use Rattle.journal_acks.specs.controller_model.Step.{HostOctet}
 use Rattle.journal_acks.specs.controller_model.link_commands.declared.moments.Moment.{Moment}
 use Rattle.journal_acks.specs.controller_model.link_commands.Commands.{ask_unless, host_step_of, is_about, map_by, step_if_about, step_on}
-use Rattle.journal_acks.specs.controller_model.link_commands.LinksCommanded.{link_after_if, links_commanded, links_commanded_from, place_commanded}
+use Rattle.journal_acks.specs.controller_model.link_commands.LinksCommanded.{link_after_if, links_commanded, place_commanded}
 use Rattle.host_answers.specs.Calls.{answered_after, answered_commands}
 use Rattle.journal_acks.specs.link_model.End.{facts_after as end_after, notes_from}
 use Rattle.journal_acks.specs.link_model.Facts.{Facts as EndFacts, keyed_of}
@@ -40,13 +40,14 @@ use Rattle.journal_acks.specs.link_model.procedures.Going.{host_answer_step, is_
 use Rattle.journal_acks.specs.link_model.procedures.Table.{TableFacts}
 use Rattle.journal_acks.specs.link_model.procedure_values.declared.asks.Ask.{Ask}
 use Rattle.journal_acks.specs.link_model.procedure_values.declared.asks.Ask.TheVariants.{Features, Version}
-use Rattle.journal_acks.specs.open_links.OpenLinks.{Links, OpenLink, facts_in, link_after, link_at, link_from, without_links}
+use Rattle.journal_acks.specs.open_links.OpenLinks.{Links, OpenLink, facts_in, link_after, link_at, without_links}
 use Rattle.journal_acks.specs.open_links.declared.offers.Offer.{Offer}
 use Rattle.journal_acks.specs.open_links.declared.offers.Offer.TheVariants.{NoLink, Empty, Overflow, Kept}
 use Rattle.journal_acks.specs.link_calls.Turns.{change_if}
 use Rattle.journal_acks.proofs.link_calls.UnderHandles.{WasOpen, change_under, map_under}
 use Rattle.journal_acks.proofs.link_model.Pasts.{grows}
 use Rattle.journal_acks.proofs.link_model.Views.{Owed, Owing, Same, key_view}
+use Rattle.journal_acks.proofs.controller_model.Asked.{IsAskedStep, asked_from}
 use Rattle.journal_ends.specs.Answering.{answers_if, answers_in_step}
 use Rattle.journal_ends.specs.Seen.{Seen, asked_if, asked_in_step, seen_in_steps}
 
@@ -65,17 +66,9 @@ asked_of handle moment link command = asked_if (step_of handle moment link comma
 abbrev pub answers_of : ℕ → Moment → OpenLink → Command → List Step
 answers_of handle moment link command = answers_if (step_of handle moment link command)
 
--- a step that a host asks
-abbrev pub IsHostStep : Step → Type 0
-IsHostStep (ProcedureAsked ask) = ⊤
-IsHostStep (RequestAnswered answer) = ⊤
-IsHostStep (KeyAnswered key slot) = ⊤
-IsHostStep (Disconnected reason slot) = ⊤
-IsHostStep step = ⊥
-
 abbrev pub IfHostStep : Option Step → Type 0
 IfHostStep None = ⊤
-IfHostStep (Some step) = IsHostStep step
+IfHostStep (Some step) = IsAskedStep step
 
 -- the control part of an end after what it is asked
 abbrev pub control_asked : OpenLink → Option Step → Control
@@ -150,7 +143,7 @@ same_asked links handle moment commands after none at = record {
 
 -- ---- the steps of hosts
 
-host_seen : (side : Side) (number : ℕ) (setup : EndSetup) (facts : EndFacts) (step : Step) → IsHostStep step
+host_seen : (side : Side) (number : ℕ) (setup : EndSetup) (facts : EndFacts) (step : Step) → IsAskedStep step
     → seen_in_steps side number setup facts (step ∷ []) ≡ asked_in_step step
 host_seen side number setup facts (ProcedureAsked ask) by_host = refl
 host_seen side number setup facts (RequestAnswered answer) by_host = refl
@@ -158,7 +151,7 @@ host_seen side number setup facts (KeyAnswered key slot) by_host = refl
 host_seen side number setup facts (Disconnected reason slot) by_host = refl
 host_seen side number setup facts other by_host = absurd by_host
 
-host_notes : (setup : EndSetup) (facts : EndFacts) (step : Step) → IsHostStep step → notes_from setup facts (step ∷ []) ≡ []
+host_notes : (setup : EndSetup) (facts : EndFacts) (step : Step) → IsAskedStep step → notes_from setup facts (step ∷ []) ≡ []
 host_notes setup facts (ProcedureAsked ask) by_host = refl
 host_notes setup facts (RequestAnswered answer) by_host = refl
 host_notes setup facts (KeyAnswered key slot) by_host = refl
@@ -176,7 +169,7 @@ table_ends : (may : Bool) (table : TableFacts) (c : Control) → (table_if may t
 table_ends true table c = refl
 table_ends false table c = refl
 
-pub host_ends : (setup : EndSetup) (facts : EndFacts) (step : Step) → IsHostStep step → (end_after setup facts step).control.ends ≡ facts.control.ends
+pub host_ends : (setup : EndSetup) (facts : EndFacts) (step : Step) → IsAskedStep step → (end_after setup facts step).control.ends ≡ facts.control.ends
 host_ends setup facts (ProcedureAsked ask) by_host = by (is_to_come ask facts)
   where
     by : (known : Bool) → (asked_unless known ask facts).control.ends ≡ facts.control.ends
@@ -244,25 +237,6 @@ command_leaves Reset handle links after at = none_left handle links after at
 command_leaves other handle links after at = at
 
 -- ---- the link under a handle, after a command that asks
-
-asked_from : (command : Command) (moment : Moment) (first handle : ℕ) (links : Links)
-    → link_from first handle (links_commanded_from first command moment links)
-    ≡ place_commanded (is_about handle command) command moment (link_from first handle links)
-asked_from command moment first handle [] = none (is_about handle command)
-  where
-    none : (about : Bool) → None ≡ place_commanded about command moment None
-    none true = refl
-    none false = refl
-asked_from command moment first handle (place ∷ links) = by (first == handle) refl (asked_from command moment (first + 1) handle links)
-  where
-    by : (same : Bool) → (first == handle) ≡ same
-        → link_from (first + 1) handle (links_commanded_from (first + 1) command moment links)
-        ≡ place_commanded (is_about handle command) command moment (link_from (first + 1) handle links)
-        → (if same then place_commanded (is_about first command) command moment place
-        else link_from (first + 1) handle (links_commanded_from (first + 1) command moment links))
-        ≡ place_commanded (is_about handle command) command moment (if same then place else link_from (first + 1) handle links)
-    by true is rest = ap (λ (h : ℕ). place_commanded (is_about h command) command moment place) (eqb-true first handle is)
-    by false is rest = rest
 
 module _ (command : Command) (moment : Moment) (handle : ℕ) (links : Links) (after : OpenLink) where
   abbrev step_for : OpenLink → Option Step

@@ -1,5 +1,5 @@
 -- Each step of a run of two stations keeps that what is seen of each open end by the journal is what happened to it.
-use Rattle.std.proofs.Common.{◌≡◌, ℕ, zero, suc, ◌-◌, ◌<◌, ◌==◌, inl, inr, Bool, true, false, Option, Some, None, List, [], ◌∷◌, ◌++◌, replicate, refl, sym, ap, subst, ◌∙◌, append-nil, append_assoc, arith}
+use Rattle.std.proofs.Common.{◌≡◌, ℕ, zero, suc, ◌-◌, ◌<◌, ◌==◌, Bool, true, false, Option, Some, None, List, [], ◌∷◌, ◌++◌, replicate, refl, sym, ap, subst, ◌∙◌, append-nil, append_assoc, arith}
 use Rattle.std.specs.Prelude.{fold, map, take, if◌then◌else◌}
 use Rattle.std.proofs.lemmas.Bool.{eqb-true}
 use Rattle.std.proofs.lemmas.List.Sums.{fold-append}
@@ -7,6 +7,7 @@ use Rattle.journal_acks.specs.controller_model.Facts.{Facts, Listens, Sends}
 use Rattle.journal_acks.specs.controller_model.Since.{notes_opened_on}
 use Rattle.journal_acks.specs.controller_model.Side.{facts_of, notes_after}
 use Rattle.journal_acks.specs.controller_model.Step.{Step as Call, HostOctet, TurnBegins, TurnEnds}
+use Rattle.journal_acks.proofs.KeptCounts.{IsSilent}
 use Rattle.journal_acks.proofs.controller_model.Handles.{own_handles}
 use Rattle.journal_acks.specs.controller_model.declared.doing.Doing.{Doing}
 use Rattle.journal_acks.specs.controller_model.declared.doing.Doing.TheVariants.{Advertises, CentralListens, PeripheralListens}
@@ -33,7 +34,6 @@ use Rattle.journal_acks.proofs.journal_packets.SentLinks.{IsOfTwo as IsOfBoth}
 use Rattle.journal_acks.proofs.journal_packets.SoFar.{IsBelongingSoFar, belonging_first}
 use Rattle.journal_acks.proofs.run_laws.ByCalls.{Holds, all_facts, first_hears, holds_kept}
 use Rattle.journal_acks.proofs.run_laws.DistinctAccess.{AreApart}
-use Rattle.journal_acks.proofs.run_laws.Hearings.{wanted_is}
 use Rattle.journal_acks.proofs.run_laws.InAgreement.{AreStations, OpenedBefore, differs_back, first_station, stations_kept}
 use Rattle.journal_acks.proofs.run_laws.LinkPasses.{is_on_link}
 use Rattle.journal_acks.proofs.run_laws.OpenSteps.{none_open, open_has}
@@ -42,7 +42,7 @@ use Rattle.journal_acks.proofs.run_laws.TurnPlaces.{Between, Within, at_stage, e
 use Rattle.journal_acks.proofs.run_model.Calls.{past_own, turns_called, turns_same}
 use Rattle.journal_acks.proofs.run_model.Fates.{turns_are}
 use Rattle.journal_acks.proofs.run_model.Fronts.{front_at}
-use Rattle.journal_acks.proofs.run_model.LinkEnds.{AreTaken, IsUnderstood, received_by, received_event, received_own}
+use Rattle.journal_acks.proofs.run_model.LinkEnds.{AreTaken, IsUnderstood, received_by, received_event, received_own, wanted_is}
 use Rattle.journal_acks.proofs.run_model.Notes.{NotedBefore, run_noted}
 use Rattle.journal_acks.proofs.run_model.Numbers.{numbered_at}
 use Rattle.journal_acks.proofs.run_model.Places.{each_at, each_called, each_event}
@@ -94,13 +94,6 @@ SeenBefore words given before (Called station step) = IsSeenBefore words given b
 SeenBefore words given before (HostFed station octets) = Unit {0}
 SeenBefore words given before (Noted station note) = Unit {0}
 SeenBefore words given before (Transmitted station channel octets hearings) = AreSeen words given before
-
--- nothing is heard of a station that did not transmit yet
-abbrev IsSilent : Given → Place → List Event → Type 0
-IsSilent given (AtPackets phases done left) history =
-    (other sender : ℕ) → is_in other given.stations ≡ true → is_in sender given.stations ≡ true → (other == sender) ≡ false → is_in sender done ≡ false
-    → packet_received other history ≡ None
-IsSilent given place history = Unit {0}
 
 pub record AreSeenAt (words : Words) (given : Given) (place : Place) (history : List Event) : Type 0 where
   pub known : IsBelongingSoFar given place history
@@ -199,7 +192,7 @@ octet_next given station octet octets history rest is =
     }
 
 -- a station stands before its turn after an octet too
-fold_then : {A B : Type 0} (f : B → A → B) (start mid last : B) (past : List A) (x : A) → fold f start past ≡ mid → f mid x ≡ last
+pub fold_then : {A B : Type 0} (f : B → A → B) (start mid last : B) (past : List A) (x : A) → fold f start past ≡ mid → f mid x ≡ last
     → fold f start (past ++ x ∷ []) ≡ last
 fold_then f start mid last past x is then_is = fold-append f start past (x ∷ []) ∙ ap (λ one. f one x) is ∙ then_is
 

@@ -1,6 +1,5 @@
 -- What is seen of each open end by the journal, after each call on a controller of a run.
-use Rattle.std.proofs.Common.{◌≡◌, ℕ, ◌+◌, ◌≤◌, ◌==◌, ◌⊎◌, inl, inr, Bool, true, false, Option, Some, None, List, [], ◌∷◌, ◌++◌, length, map, refl, sym, ap, subst, ◌∙◌, append-nil, arith}
-use Rattle.std.specs.Prelude.{All}
+use Rattle.std.proofs.Common.{◌≡◌, ℕ, ◌+◌, ◌≤◌, ◌==◌, Bool, true, false, Option, Some, None, List, [], ◌∷◌, ◌++◌, length, map, refl, sym, ap, subst, ◌∙◌, append-nil, arith}
 use Rattle.std.proofs.lemmas.Bool.{eqb-true}
 use Rattle.std.proofs.lemmas.List.{append_cancel_left}
 use Rattle.ble_base.specs.declared.roles.Side.{Side}
@@ -10,6 +9,7 @@ use Rattle.journal_acks.specs.controller_model.Side.{facts_after, notes_after}
 use Rattle.journal_acks.specs.controller_model.Since.{notes_opened_on}
 use Rattle.journal_acks.specs.controller_model.Step.{Step as Call}
 use Rattle.journal_acks.specs.controller_model.declared.doing.Turn.{Turn}
+use Rattle.journal_acks.proofs.PassedLinks.{passed_or_new}
 use Rattle.journal_acks.proofs.controller_model.Always.{IsInTurn}
 use Rattle.host_answers.proofs.LineAnswers.{far_quiet, turn_quiet}
 use Rattle.journal_acks.specs.journal_links.LinkLines.{line_of}
@@ -27,10 +27,8 @@ use Rattle.journal_acks.proofs.run_model.Fates.{turns_are}
 use Rattle.journal_acks.proofs.run_model.LinkEnds.{received_by}
 use Rattle.journal_acks.proofs.run_model.Stations.{is_in}
 use Rattle.journal_acks.proofs.Counting.{IsBegun, facts_event}
-use Rattle.journal_acks.proofs.link_calls.CallNotes.{OpensNone}
-use Rattle.journal_acks.proofs.Exchanging.{number_at, number_called, number_other}
+use Rattle.journal_acks.proofs.Exchanging.{number_at, number_other}
 use Rattle.journal_acks.specs.link_calls.Phases.{HasPassed, IsNew, Stays, Takes, link_worded}
-use Rattle.journal_acks.proofs.link_calls.LinkCalls.{IsOpenedNow, passes_under, phase_quiet}
 use Rattle.journal_acks.specs.link_calls.Uses.{listens_under, sends_under}
 use Rattle.journal_acks.proofs.Standing.{PhasedBy}
 use Rattle.journal_ends.specs.Asked.{Words}
@@ -300,13 +298,6 @@ module _ (words : Words) (given : Given) (station : ℕ) (history : List Event) 
       (seen station handle base in_it was ∙ (λ i. seen_in_link (number_at station handle history) (side_of station) base ++ to_hear (on i) (some i) facts.turn.slot base))
 
   pub passes_own : (handle : ℕ) (link : OpenLink) → link_at handle (facts_at given station next).links ≡ Some link → IsSeenNow handle link
-  passes_own handle link at = by (phase_quiet (setup_at given station) facts taken handle)
-    where
-      by : All (OpensNone handle) (notes_after (setup_at given station) (facts_at given station history) (step_of (packet_received station history)))
-          ⊎ ((one : OpenLink) → link_at handle (facts_after (setup_at given station) (facts_at given station history) (step_of (packet_received station history))).links ≡ Some one
-          → IsOpenedNow (facts_at given station history).turn.slot one) → IsSeenNow handle link
-      by (inl quiet) =
-          passed handle link at (number_called given station (step_of taken) history handle quiet)
-          (passes_under (setup_at given station) facts taken handle link phased.uses.in_turn.listens (held_at words given station (step_of taken) history in_it lined lined_after handle link at))
-      by (inr new) =
-          let now = new link (held_at words given station (step_of taken) history in_it lined lined_after handle link at) in fresh handle link at now.opened now.past
+  passes_own handle link at =
+      passed_or_new given station history phased.uses.in_turn.listens (IsSeenNow handle link) handle link at (passed handle link at)
+      (λ new. fresh handle link at new.opened new.past)

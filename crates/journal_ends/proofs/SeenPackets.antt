@@ -1,5 +1,5 @@
 -- What each open end says and hears by the journal, after a packet on the air.
-use Rattle.std.proofs.Common.{◌≡◌, ℕ, zero, suc, ◌+◌, ◌-◌, ◌<◌, ◌==◌, ◌&&◌, ◌⊎◌, inl, inr, Bool, true, false, Option, Some, None, List, [], ◌∷◌, ◌++◌, length, take, refl, sym, ap, subst, ◌∙◌, arith}
+use Rattle.std.proofs.Common.{◌≡◌, ℕ, zero, suc, ◌-◌, ◌<◌, ◌==◌, ◌&&◌, ◌⊎◌, inl, inr, Bool, true, false, Option, Some, None, List, [], ◌∷◌, ◌++◌, length, take, refl, sym, ap, subst, ◌∙◌, arith}
 use Rattle.std.specs.Prelude.{if◌then◌else◌}
 use Rattle.std.proofs.lemmas.Bool.{eqb-true, eq-eqb, false_from_ne_true}
 use Rattle.ble_base.specs.Side.{other_side}
@@ -28,12 +28,12 @@ use Rattle.radio_replay.specs.Damage.{damaged_packet}
 use Rattle.radio_replay.specs.declared.fates.Fate.{Fate}
 use Rattle.journal_acks.proofs.journal_packets.AccessOrder.{AreNth}
 use Rattle.journal_acks.proofs.journal_packets.SoFar.{IsBelongingSoFar, sends_on_its_link}
+use Rattle.journal_acks.proofs.run_laws.ByCalls.{last_turn}
 use Rattle.journal_acks.proofs.run_laws.DistinctAccess.{AreApart}
-use Rattle.journal_acks.proofs.run_laws.Hearings.{wanted_is}
 use Rattle.journal_acks.proofs.run_laws.OwnLinks.{sent_begins}
 use Rattle.journal_acks.proofs.run_laws.TurnPlaces.{AllStand, Within, at_stage}
 use Rattle.journal_acks.proofs.run_model.Fates.{turns_are}
-use Rattle.journal_acks.proofs.run_model.LinkEnds.{received_event, received_own}
+use Rattle.journal_acks.proofs.run_model.LinkEnds.{received_event, received_own, wanted_is}
 use Rattle.journal_acks.proofs.run_model.Stations.{is_in, among}
 use Rattle.journal_acks.proofs.run_model.Walk.{AtPackets, Place}
 use Rattle.journal_acks.proofs.Counting.{facts_event}
@@ -62,9 +62,6 @@ central_of_both phases station one other (inr sends) (inr listens) =
     ap (λ r. central_side r (side_of station)) sends.1 ∙ sym (side_other station) ∙ ap (λ r. central_side r (side_of (other_of station))) (sym listens.1)
 central_of_both phases station one other (inl sends) (inr listens) = absurd (let a = sends.0 in let b = listens.0 in omega (arith, a, b))
 central_of_both phases station one other (inr sends) (inl listens) = absurd (let a = sends.0 in let b = listens.0 in omega (arith, a, b))
-
-turn_slot : (turns slot : ℕ) → turns ≡ slot + 1 → turns - 1 ≡ slot
-turn_slot turns slot is = omega (arith, is)
 
 deaf : (received : Option (List ℕ)) (listens : Bool) → listens ≡ false → listens ≡ true → received ≡ None
 deaf received listens none on = absurd (let h : true ≡ false = sym on ∙ none in absurd cc)
@@ -256,7 +253,7 @@ module _ (words : Words) (nth : AreNth) (apart : AreApart) (given : Given) (are_
               let number = number_at other handle history in
               let turn = (facts other).turn in
               let slot : length (turns_of (journal_of history)) - 1 ≡ turn.slot =
-              turn_slot (length (turns_of (journal_of history))) turn.slot (turns_are history ∙ sym (phased other is_too).uses.in_turn.slot_is) in
+              last_turn (length (turns_of (journal_of history))) turn.slot (turns_are history ∙ sym (phased other is_too).uses.in_turn.slot_is) in
               let heard : is_heard_of number (side_of other) history station channel octets hearing ≡ true =
               heard_of_link number number (side_of other) history station channel octets hearing off belongs_there
               ∙ (λ i. eq-eqb number number refl i && far_side station i) in

@@ -1,30 +1,29 @@
 -- As an open end of a run is called with a good packet that is not mixed, it does not end its link for a failed integrity.
 use Rattle.std.proofs.Common.{◌≡◌, ℕ, Bool, true, false, Some, List, [], ◌∷◌, ◌++◌, append-nil, refl, sym, ap, subst, ◌∙◌}
-use Rattle.link_calls.specs.link_model.End.{facts_after as end_after}
-use Rattle.link_calls.specs.link_model.Facts.{Facts as EndFacts}
-use Rattle.link_calls.specs.link_model.Packets.{is_forged}
-use Rattle.link_calls.specs.link_model.Setup.{Setup as EndSetup}
-use Rattle.link_calls.specs.link_model.Step.{WordsGiven}
-use Rattle.link_calls.proofs.link_model.Hearing.{IsHeardWhole}
-use Rattle.link_calls.specs.open_links.OpenLinks.{OpenLink, facts_in, link_after, link_at}
-use Rattle.link_calls.specs.controller_model.declared.doing.Doing.{Doing}
-use Rattle.link_calls.specs.controller_model.Facts.{Setup, Facts}
-use Rattle.link_calls.specs.controller_model.Step.{PacketHeard}
-use Rattle.link_calls.specs.Phases.{link_worded}
-use Rattle.link_calls.specs.run_model.Feeding.{AreDistinct}
-use Rattle.link_calls.specs.run_model.History.{Event, Called, past_of}
-use Rattle.link_calls.specs.run_model.LinkEnds.{HaveAddresses}
-use Rattle.link_calls.specs.run_model.Run.{Given, facts_at, history_of, run_of, setup_at}
-use Rattle.link_calls.proofs.run_model.LinkEnds.{AreTaken, IsUnderstood}
-use Rattle.link_calls.proofs.run_model.Stations.{is_in}
-use Rattle.link_calls.specs.run_laws.Ends.{AreEnds as AreEndsIn, IsOpen, OpenEnd, link_listened}
-use Rattle.link_calls.proofs.run_laws.Agreed.{step_facts}
-use Rattle.link_calls.proofs.run_laws.LinkPhases.{in_phase}
-use Rattle.link_calls.proofs.run_laws.SameEvent.{apart_ends}
-use Rattle.link_calls.proofs.run_laws.TurnPlaces.{standing}
-use Rattle.link_runs.specs.link_pairs.Ends.{AreEnds}
-use Rattle.link_runs.specs.link_pairs.Hearing.{is_mixed_packet, received}
-use Rattle.link_runs.proofs.link_pairs.Understanding.{IsOpenedThere}
+use Rattle.journal_outcomes.specs.link_calls.link_model.Facts.{Facts as EndFacts}
+use Rattle.journal_outcomes.specs.link_calls.link_model.Packets.{is_forged}
+use Rattle.journal_outcomes.specs.link_calls.link_model.Setup.{Setup as EndSetup}
+use Rattle.journal_outcomes.specs.link_calls.link_model.Step.{WordsGiven}
+use Rattle.journal_outcomes.proofs.link_calls.link_model.Hearing.{IsHeardWhole}
+use Rattle.journal_outcomes.specs.link_calls.open_links.OpenLinks.{OpenLink, facts_in}
+use Rattle.journal_outcomes.specs.link_calls.controller_model.declared.doing.Doing.{Doing}
+use Rattle.journal_outcomes.specs.link_calls.controller_model.Facts.{Setup, Facts}
+use Rattle.journal_outcomes.specs.link_calls.controller_model.Step.{PacketHeard}
+use Rattle.journal_outcomes.specs.link_calls.Phases.{link_worded}
+use Rattle.journal_outcomes.specs.link_calls.run_model.Feeding.{AreDistinct}
+use Rattle.journal_outcomes.specs.link_calls.run_model.History.{Event, Called, past_of}
+use Rattle.journal_outcomes.specs.link_calls.run_model.LinkEnds.{HaveAddresses}
+use Rattle.journal_outcomes.specs.link_calls.run_model.Run.{Given, facts_at, history_of, run_of, setup_at}
+use Rattle.journal_outcomes.proofs.link_calls.run_model.LinkEnds.{AreTaken, IsUnderstood}
+use Rattle.journal_outcomes.proofs.link_calls.run_model.Stations.{is_in}
+use Rattle.journal_outcomes.specs.link_calls.run_laws.Ends.{AreEnds as AreEndsIn, IsOpen, OpenEnd, link_listened}
+use Rattle.journal_outcomes.proofs.link_calls.run_laws.Agreed.{step_facts}
+use Rattle.journal_outcomes.proofs.link_calls.run_laws.LinkPhases.{in_phase}
+use Rattle.journal_outcomes.proofs.link_calls.run_laws.SameEvent.{apart_ends}
+use Rattle.journal_outcomes.proofs.link_calls.run_laws.TurnPlaces.{standing}
+use Rattle.journal_outcomes.specs.link_runs.link_pairs.Ends.{AreEnds}
+use Rattle.journal_outcomes.specs.link_runs.link_pairs.Hearing.{is_mixed_packet, received}
+use Rattle.journal_outcomes.proofs.link_runs.link_pairs.Understanding.{IsOpenedThere}
 use Rattle.journal_outcomes.specs.journal_collisions.journal_endings.run_pairs.InTurns.{HasSentNow, HearEachInTurn, HearNoMixed}
 use Rattle.journal_outcomes.specs.journal_collisions.journal_endings.run_pairs.Stages.{AreAnsweredEnds, AreBegunEnds}
 use Rattle.journal_outcomes.proofs.journal_crossing.journal_collisions.journal_endings.run_pairs.BothEnds.{ByStanding, kept_to}

@@ -1,36 +1,34 @@
 -- A line of a link that is shut with 3D comes after one of a packet that was forged to its side.
-use Rattle.std.proofs.Common.{◌≡◌, ◌⊎◌, inl, inr, ℕ, ◌==◌, Bool, true, false, Option, Some, None, List, [], ◌∷◌, ◌++◌, map, refl, sym, ap, subst, ◌∙◌, if◌then◌else◌}
+use Rattle.std.proofs.Common.{◌≡◌, ℕ, ◌==◌, true, false, Option, Some, List, [], ◌∷◌, ◌++◌, map, refl, sym, ap, subst, ◌∙◌}
 use Rattle.std.specs.Prelude.{IfSome}
 use Rattle.std.specs.Option.{option_map}
 use Rattle.std.proofs.lemmas.Bool.{eq-eqb}
 use Rattle.ble_base.specs.ErrorCodes.{ll_response_timeout, mic_failure}
 use Rattle.ble_base.specs.declared.error_codes.ErrCode.{ErrCode}
-use Rattle.controller_model.specs.Data.{facts_handed}
-use Rattle.controller_model.specs.Facts.{Facts}
-use Rattle.controller_model.specs.Shutting.{IsLeaving, IsOverdue, IsShut, acknowledged, ended_by_peer, failed, leaving, not_acknowledged, not_established, overdue, reset, timed_out, unanswered}
-use Rattle.controller_model.specs.Step.{Step, TurnEnds}
-use Rattle.controller_model.proofs.Shuts.{shuts_with_reason}
+use Rattle.journal_outcomes.specs.controller_model.Facts.{Facts}
+use Rattle.journal_outcomes.specs.controller_model.Shutting.{IsLeaving, IsOverdue, IsShut, acknowledged, ended_by_peer, failed, leaving, not_acknowledged, not_established, overdue, reset, timed_out, unanswered}
+use Rattle.journal_outcomes.specs.controller_model.Step.{TurnEnds}
+use Rattle.journal_outcomes.proofs.controller_model.Shuts.{shuts_with_reason}
 use Rattle.ble_base.specs.declared.roles.Side.{Side}
 use Rattle.journal.specs.declared.entries.Entry.{Entry}
 use Rattle.journal.specs.declared.entries.Entry.TheVariants.{Shut}
-use Rattle.link_calls.specs.control_end.Answers.{timeout_of}
-use Rattle.link_calls.specs.control_end.Held.{Held, held_of}
-use Rattle.link_calls.specs.open_links.Data.{link_reported}
-use Rattle.link_calls.specs.open_links.OpenLinks.{OpenLink, facts_in, link_at}
-use Rattle.link_calls.specs.run_model.History.{Called, Noted, past_of}
-use Rattle.link_calls.specs.run_model.Journal.{journal_of, side_of}
-use Rattle.link_calls.specs.run_model.LinkEnds.{HaveAddresses}
-use Rattle.link_calls.specs.run_model.NoteLines.{IsLineInCall, LinkLine, shut_line}
-use Rattle.link_calls.specs.run_model.Run.{Given, facts_at, history_of, run_of, setup_at}
-use Rattle.link_calls.proofs.UnderHandles.{map_under, was_open}
-use Rattle.link_calls.proofs.link_model.Hearing.{IsHeardWhole}
-use Rattle.link_calls.proofs.run_laws.DistinctAccess.{AreApart}
-use Rattle.link_calls.proofs.run_model.LinkEnds.{AreTaken, IsUnderstood}
-use Rattle.link_calls.proofs.run_model.NoteLines.{is_contained, line_in_call}
-use Rattle.link_calls.proofs.run_model.OfStations.{OfStations, run_of_stations}
-use Rattle.link_calls.proofs.run_model.Places.{each_at}
-use Rattle.link_calls.proofs.run_model.Stations.{is_in}
-use Rattle.link_runs.proofs.link_pairs.Understanding.{IsOpenedThere}
+use Rattle.journal_outcomes.specs.link_calls.control_end.Held.{held_of}
+use Rattle.journal_outcomes.specs.link_calls.open_links.Data.{link_reported}
+use Rattle.journal_outcomes.specs.link_calls.open_links.OpenLinks.{OpenLink, facts_in, link_at}
+use Rattle.journal_outcomes.specs.link_calls.run_model.History.{Called, Noted, past_of}
+use Rattle.journal_outcomes.specs.link_calls.run_model.Journal.{journal_of, side_of}
+use Rattle.journal_outcomes.specs.link_calls.run_model.LinkEnds.{HaveAddresses}
+use Rattle.journal_outcomes.specs.link_calls.run_model.NoteLines.{IsLineInCall, LinkLine, shut_line}
+use Rattle.journal_outcomes.specs.link_calls.run_model.Run.{Given, facts_at, history_of, run_of, setup_at}
+use Rattle.journal_outcomes.proofs.link_calls.UnderHandles.{map_under, was_open}
+use Rattle.journal_outcomes.proofs.link_calls.link_model.Hearing.{IsHeardWhole}
+use Rattle.journal_outcomes.proofs.link_calls.run_laws.DistinctAccess.{AreApart}
+use Rattle.journal_outcomes.proofs.link_calls.run_model.LinkEnds.{AreTaken, IsUnderstood}
+use Rattle.journal_outcomes.proofs.link_calls.run_model.NoteLines.{is_contained, line_in_call}
+use Rattle.journal_outcomes.proofs.link_calls.run_model.OfStations.{OfStations, run_of_stations}
+use Rattle.journal_outcomes.proofs.link_calls.run_model.Places.{each_at}
+use Rattle.journal_outcomes.proofs.link_calls.run_model.Stations.{is_in}
+use Rattle.journal_outcomes.proofs.link_runs.link_pairs.Understanding.{IsOpenedThere}
 use Rattle.journal_outcomes.proofs.journal_crossing.journal_collisions.journal_endings.run_pairs.LinkSteps.{AsksMayCome}
 use Rattle.journal_outcomes.specs.journal_collisions.journal_endings.journal_indications.journal_data.Followed.{Follows, Mixed}
 use Rattle.journal_outcomes.proofs.journal_crossing.journal_collisions.journal_endings.journal_indications.LineEnds.{end_of_line}
@@ -41,6 +39,7 @@ use Rattle.journal_outcomes.proofs.journal_crossing.journal_collisions.journal_e
 use Rattle.journal_outcomes.proofs.journal_crossing.journal_collisions.journal_endings.CallsKeep.{reported_kept}
 use Rattle.journal_outcomes.proofs.journal_crossing.journal_collisions.journal_endings.HostReasons.{IsReason, is_ending}
 use Rattle.journal_outcomes.proofs.journal_crossing.journal_collisions.journal_endings.KeptInRuns.{kept_before_end}
+use Rattle.journal_outcomes.proofs.journal_crossing.journal_collisions.journal_endings.NoneEnds.{unanswered_code}
 use Rattle.journal_outcomes.proofs.journal_crossing.journal_collisions.journal_endings.PairedEnds.{LateAlone, ReadUnmixed}
 use Rattle.journal_failures.specs.Failures.{AllFailuresAreForged, IsForgedIn}
 use Rattle.journal_failures.proofs.FailedLinks.{ends_in, reported_ends}
@@ -52,14 +51,6 @@ use Rattle.journal_failures.proofs.HeardForged.{forged_later}
 
 apart : (X : Type 0) (code known : ℕ) → code ≡ known → code ≡ mic_failure → (known == mic_failure) ≡ false → X
 apart X code known is is_too none = absurd (let h : true ≡ false = sym (eq-eqb known mic_failure (sym is ∙ is_too)) ∙ none in cc)
-
-unanswered_code : (h : Held) (slot : ℕ) (code : ErrCode) → timeout_of slot h ≡ Some code → code.0 ≡ ll_response_timeout
-unanswered_code h slot code is = by _ _ is
-  where
-    by : (goes over : Bool) → (if goes then (if over then Some (record { 0 = ll_response_timeout }) else None) else None) ≡ Some code → code.0 ≡ ll_response_timeout
-    by true true same = let equal : ◌≡◌ {A = ErrCode} (record { 0 = ll_response_timeout }) code = cc in ap (λ (c : ErrCode). c.0) (sym equal)
-    by true false same = absurd (cc)
-    by false over same = absurd (cc)
 
 not_overdue : (X : Type 0) (slot : ℕ) (link : OpenLink) (code : ℕ) → IsOverdue slot link code → code ≡ mic_failure → X
 not_overdue X slot link code (not_established none since is) same = apart X code _ is same refl

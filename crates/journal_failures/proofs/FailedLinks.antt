@@ -5,36 +5,37 @@ use Rattle.ble_base.specs.declared.error_codes.ErrCode.{ErrCode}
 use Rattle.ble_base.specs.declared.verdicts.Verdict.TheVariants.{Broken as BrokenPacket, Forged, Good}
 use Rattle.air_frame.specs.declared.Heard.{Heard}
 use Rattle.air_frame.specs.declared.Heard.TheVariants.{Broken, NotOurs, Whole}
-use Rattle.controller_model.specs.Facts.{Facts, Setup}
-use Rattle.controller_model.specs.Heard.{has_room}
-use Rattle.controller_model.specs.Side.{facts_after}
-use Rattle.controller_model.specs.Step.{HostOctet, NothingHeard, PacketHeard, Step, TurnBegins, TurnEnds}
-use Rattle.controller_model.specs.declared.doing.Doing.{Doing}
-use Rattle.controller_model.proofs.Asked.{IsAskedStep}
-use Rattle.link_calls.specs.Hosts.{GetsData, HasHeardHost, IsAsked, Unchanged}
-use Rattle.link_calls.specs.Phases.{HasPassed, IsNew, Stays, Takes, base_receiving, link_receiving, link_worded, refusal_at, refused_if}
-use Rattle.link_calls.specs.Turns.{fixed_if, sent_if}
-use Rattle.link_calls.specs.Uses.{listens_under, sends_under}
-use Rattle.link_calls.specs.link_model.End.{facts_of as end_facts_of}
-use Rattle.link_calls.specs.link_model.Facts.{Facts as EndFacts}
-use Rattle.link_calls.specs.link_model.Packets.{heard_of, is_forged, is_forged_in, is_forged_pdu, verdict_of, whole_pdu}
-use Rattle.link_calls.specs.link_model.Payload.{opens_now}
-use Rattle.link_calls.specs.link_model.Setup.{Setup as EndSetup}
-use Rattle.link_calls.specs.link_model.Step.{DataGiven, DataReported, Disconnected, EventEntered, KeyAnswered, PacketReceived, PacketSent, PduFixed, ProcedureAsked, RequestAnswered, Step as EndStep, WordsGiven}
-use Rattle.link_calls.specs.link_model.Verdicts.{has_room_for, pdu_by, verdict_by, whole_in}
-use Rattle.link_calls.specs.open_links.Data.{complete_in, link_reported}
-use Rattle.link_calls.specs.open_links.OpenLinks.{OpenLink, facts_in, link_after, link_at, new_link}
-use Rattle.link_calls.specs.open_links.Turns.{enters_in, link_entered}
-use Rattle.link_calls.specs.run_model.Run.{step_of}
-use Rattle.link_calls.proofs.AtOnce.{IsRefusal, refusal_is}
-use Rattle.link_calls.proofs.HostSteps.{asked_is_well}
-use Rattle.link_calls.proofs.LinkCalls.{HasBegun, begins_under, phase_under}
-use Rattle.link_calls.proofs.UnderHandles.{ended_under, host_under}
-use Rattle.link_calls.proofs.Worded.{each_worded, worded_setup}
-use Rattle.link_calls.proofs.open_links.Unmoved.{entered_setup}
-use Rattle.link_calls.proofs.run_laws.Agreed.{step_facts}
-use Rattle.link_runs.specs.link_pairs.Hearing.{received}
+use Rattle.journal_outcomes.specs.controller_model.Facts.{Facts, Setup}
+use Rattle.journal_outcomes.specs.controller_model.Heard.{has_room}
+use Rattle.journal_outcomes.specs.controller_model.Side.{facts_after}
+use Rattle.journal_outcomes.specs.controller_model.Step.{HostOctet, NothingHeard, PacketHeard, Step, TurnBegins, TurnEnds}
+use Rattle.journal_outcomes.specs.controller_model.declared.doing.Doing.{Doing}
+use Rattle.journal_outcomes.proofs.controller_model.Asked.{IsAskedStep}
+use Rattle.journal_outcomes.specs.link_calls.Hosts.{GetsData, HasHeardHost, IsAsked, Unchanged}
+use Rattle.journal_outcomes.specs.link_calls.Phases.{HasPassed, IsNew, Stays, Takes, base_receiving, link_receiving, link_worded, refusal_at, refused_if}
+use Rattle.journal_outcomes.specs.link_calls.Turns.{fixed_if, sent_if}
+use Rattle.journal_outcomes.specs.link_calls.Uses.{listens_under, sends_under}
+use Rattle.journal_outcomes.specs.link_calls.link_model.End.{facts_of as end_facts_of}
+use Rattle.journal_outcomes.specs.link_calls.link_model.Facts.{Facts as EndFacts}
+use Rattle.journal_outcomes.specs.link_calls.link_model.Packets.{heard_of, is_forged, is_forged_in, is_forged_pdu, verdict_of, whole_pdu}
+use Rattle.journal_outcomes.specs.link_calls.link_model.Payload.{opens_now}
+use Rattle.journal_outcomes.specs.link_calls.link_model.Setup.{Setup as EndSetup}
+use Rattle.journal_outcomes.specs.link_calls.link_model.Step.{DataGiven, DataReported, Disconnected, EventEntered, KeyAnswered, PacketReceived, PacketSent, PduFixed, ProcedureAsked, RequestAnswered, Step as EndStep, WordsGiven}
+use Rattle.journal_outcomes.specs.link_calls.link_model.Verdicts.{has_room_for, pdu_by, verdict_by, whole_in}
+use Rattle.journal_outcomes.specs.link_calls.open_links.Data.{complete_in, link_reported}
+use Rattle.journal_outcomes.specs.link_calls.open_links.OpenLinks.{OpenLink, facts_in, link_after, link_at}
+use Rattle.journal_outcomes.specs.link_calls.open_links.Turns.{enters_in}
+use Rattle.journal_outcomes.specs.link_calls.run_model.Run.{step_of}
+use Rattle.journal_outcomes.proofs.link_calls.AtOnce.{IsRefusal, refusal_is}
+use Rattle.journal_outcomes.proofs.link_calls.HostSteps.{asked_is_well}
+use Rattle.journal_outcomes.proofs.link_calls.LinkCalls.{HasBegun, begins_under, phase_under}
+use Rattle.journal_outcomes.proofs.link_calls.UnderHandles.{ended_under, host_under}
+use Rattle.journal_outcomes.proofs.link_calls.Worded.{each_worded, worded_setup}
+use Rattle.journal_outcomes.proofs.link_calls.open_links.Unmoved.{entered_setup}
+use Rattle.journal_outcomes.proofs.link_calls.run_laws.Agreed.{step_facts}
+use Rattle.journal_outcomes.specs.link_runs.link_pairs.Hearing.{received}
 use Rattle.journal_outcomes.proofs.journal_crossing.journal_collisions.journal_endings.run_pairs.EndCalls.{IsUnheard, good_or_unheard}
+use Rattle.journal_outcomes.proofs.journal_crossing.journal_collisions.journal_endings.CallsKeep.{refusal_off}
 use Rattle.journal_outcomes.proofs.journal_crossing.journal_collisions.journal_endings.run_pairs.Worded.{worded_verdict}
 use Rattle.journal_outcomes.proofs.journal_crossing.journal_collisions.journal_endings.EndingProcedures.{is_receiving, same_ends}
 use Rattle.journal_failures.proofs.GoodPackets.{is_failed}
@@ -73,11 +74,6 @@ asked_off (KeyAnswered key slot) by_host = refl
 asked_off (Disconnected reason slot) by_host = refl
 asked_off (DataGiven start body) by_host = absurd by_host
 asked_off step by_host = absurd by_host
-
-refusal_off : (step : EndStep) → IsRefusal step → is_receiving step ≡ false
-refusal_off (RequestAnswered answer) is = refl
-refusal_off (KeyAnswered key slot) is = refl
-refusal_off step is = absurd is
 
 refused_ends : (answer : Option EndStep) (link : OpenLink) → IfSome answer IsRefusal → ends_in (refused_if answer link) ≡ ends_in link
 refused_ends (Some step) link is = after_ends link step (refusal_off step is)

@@ -3,28 +3,28 @@
 use Rattle.std.proofs.Common.{◌≡◌, ℕ, ◌==◌, Bool, true, false, Option, Some, None, List, [], ◌∷◌, ◌++◌, append_assoc, map, take, refl, sym, ap, subst, ◌∙◌, if◌then◌else◌}
 use Rattle.std.specs.Prelude.{⊤}
 use Rattle.std.proofs.lemmas.Bool.{eqb-true}
-use Rattle.controller_model.specs.Facts.{Facts}
-use Rattle.controller_model.specs.Side.{facts_of, notes_after}
-use Rattle.controller_model.specs.Step.{HostOctet, NothingHeard, PacketHeard, Step, TurnBegins, TurnEnds}
-use Rattle.link_calls.specs.open_links.OpenLinks.{OpenLink, link_at}
-use Rattle.link_calls.specs.run_model.History.{Called, Event, HostFed, Noted, TurnBegan, Transmitted, packet_received, past_of, steps_in}
-use Rattle.link_calls.specs.run_model.Journal.{journal_of, side_of}
-use Rattle.link_calls.specs.run_model.LinkEnds.{HaveAddresses}
-use Rattle.link_calls.specs.run_model.Links.{links_of}
-use Rattle.link_calls.specs.run_model.Run.{Given, after_call, after_feed, after_octets, facts_at, hearings_of, history_of, octets_left, run_of, setup_at, step_of}
-use Rattle.link_calls.proofs.link_model.Hearing.{IsHeardWhole}
-use Rattle.link_calls.proofs.run_laws.DistinctAccess.{AreApart}
-use Rattle.link_calls.proofs.run_laws.Hearings.{own_facts}
-use Rattle.link_calls.proofs.run_laws.OpenSteps.{none_open, open_has}
-use Rattle.link_calls.proofs.run_laws.TwoStations.{differs_back}
-use Rattle.link_calls.proofs.run_model.Calls.{flat_nothing}
-use Rattle.link_calls.proofs.run_model.Fronts.{front_at}
-use Rattle.link_calls.proofs.run_model.LinkEnds.{AreTaken, IsUnderstood}
-use Rattle.link_calls.proofs.run_model.LinksKnown.{link_by_own}
-use Rattle.link_calls.proofs.run_model.Places.{each_at}
-use Rattle.link_calls.proofs.run_model.Stations.{is_in, among}
-use Rattle.link_calls.proofs.run_model.Walk.{AtListening, IsKept as IsKeptInRun, NoTurn, Place}
-use Rattle.link_runs.proofs.link_pairs.Understanding.{IsOpenedThere}
+use Rattle.journal_outcomes.specs.controller_model.Facts.{Facts}
+use Rattle.journal_outcomes.specs.controller_model.Side.{facts_of, notes_after}
+use Rattle.journal_outcomes.specs.controller_model.Step.{HostOctet, NothingHeard, PacketHeard, Step, TurnBegins, TurnEnds}
+use Rattle.journal_outcomes.specs.link_calls.open_links.OpenLinks.{OpenLink, link_at}
+use Rattle.journal_outcomes.specs.link_calls.run_model.History.{Called, Event, HostFed, Noted, TurnBegan, Transmitted, packet_received, past_of, steps_in}
+use Rattle.journal_outcomes.specs.link_calls.run_model.Journal.{journal_of, side_of}
+use Rattle.journal_outcomes.specs.link_calls.run_model.LinkEnds.{HaveAddresses}
+use Rattle.journal_outcomes.specs.link_calls.run_model.Links.{links_of}
+use Rattle.journal_outcomes.specs.link_calls.run_model.Run.{Given, after_call, after_feed, after_octets, facts_at, hearings_of, history_of, octets_left, run_of, setup_at, step_of}
+use Rattle.journal_outcomes.proofs.link_calls.link_model.Hearing.{IsHeardWhole}
+use Rattle.journal_outcomes.proofs.link_calls.run_laws.DistinctAccess.{AreApart}
+use Rattle.journal_outcomes.proofs.link_calls.run_laws.Hearings.{own_facts}
+use Rattle.journal_outcomes.proofs.link_calls.run_laws.OpenSteps.{none_open, open_has}
+use Rattle.journal_outcomes.proofs.link_calls.run_laws.TwoStations.{differs_back}
+use Rattle.journal_outcomes.proofs.link_calls.run_model.Calls.{flat_nothing}
+use Rattle.journal_outcomes.proofs.link_calls.run_model.Fronts.{front_at}
+use Rattle.journal_outcomes.proofs.link_calls.run_model.LinkEnds.{AreTaken, IsUnderstood}
+use Rattle.journal_outcomes.proofs.link_calls.run_model.LinksKnown.{link_by_own}
+use Rattle.journal_outcomes.proofs.link_calls.run_model.Places.{each_at}
+use Rattle.journal_outcomes.proofs.link_calls.run_model.Stations.{is_in, among}
+use Rattle.journal_outcomes.proofs.link_calls.run_model.Walk.{AtListening, IsKept as IsKeptInRun, NoTurn, Place}
+use Rattle.journal_outcomes.proofs.link_runs.link_pairs.Understanding.{IsOpenedThere}
 use Rattle.journal_outcomes.proofs.journal_crossing.journal_collisions.journal_endings.run_pairs.LinkSteps.{AsksMayCome}
 use Rattle.journal_outcomes.proofs.journal_crossing.journal_collisions.journal_endings.journal_indications.journal_data.Followed.{IsFollowed, followed_before}
 use Rattle.journal_outcomes.proofs.journal_crossing.journal_collisions.journal_endings.journal_indications.journal_data.Openness.{opens_where_free}

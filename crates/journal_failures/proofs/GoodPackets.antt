@@ -2,16 +2,16 @@
 use Rattle.std.proofs.Common.{◌≡◌, ◌⊎◌, inl, inr, ℕ, ◌==◌, Bool, true, false, List, Option, Some, None, refl, sym, ap, ◌∙◌}
 use Rattle.ble_base.specs.ErrorCodes.{mic_failure}
 use Rattle.ble_base.specs.declared.error_codes.ErrCode.{ErrCode}
-use Rattle.link_calls.specs.link_model.Facts.{Facts}
-use Rattle.link_calls.specs.link_model.Packets.{is_forged}
-use Rattle.link_calls.specs.link_model.Setup.{Setup}
-use Rattle.link_calls.proofs.link_model.Hearing.{IsHeardWhole}
-use Rattle.link_runs.specs.link_pairs.Ends.{AreEnds}
-use Rattle.link_runs.specs.link_pairs.Hearing.{IsPacketOf, answered, is_mixed_packet, received}
-use Rattle.link_runs.specs.link_pairs.Sound.{EndsForInstant, EndsForged}
-use Rattle.link_runs.proofs.link_pairs.Ending.{answered_ends, central_lasts as central_goes, peripheral_lasts as peripheral_goes}
-use Rattle.link_runs.proofs.link_pairs.SenderHears.{has_seen}
-use Rattle.link_runs.proofs.link_pairs.Understanding.{IsOpenedThere}
+use Rattle.journal_outcomes.specs.link_calls.link_model.Facts.{Facts}
+use Rattle.journal_outcomes.specs.link_calls.link_model.Packets.{is_forged}
+use Rattle.journal_outcomes.specs.link_calls.link_model.Setup.{Setup}
+use Rattle.journal_outcomes.proofs.link_calls.link_model.Hearing.{IsHeardWhole}
+use Rattle.journal_outcomes.specs.link_runs.link_pairs.Ends.{AreEnds}
+use Rattle.journal_outcomes.specs.link_runs.link_pairs.Hearing.{IsPacketOf, answered, is_mixed_packet, received}
+use Rattle.journal_outcomes.specs.link_runs.link_pairs.Sound.{EndsForInstant, EndsForged}
+use Rattle.journal_outcomes.proofs.link_runs.link_pairs.Ending.{answered_ends, central_lasts as central_goes, peripheral_lasts as peripheral_goes}
+use Rattle.journal_outcomes.proofs.link_runs.link_pairs.SenderHears.{has_seen}
+use Rattle.journal_outcomes.proofs.link_runs.link_pairs.Understanding.{IsOpenedThere}
 use Rattle.journal_outcomes.specs.journal_collisions.journal_endings.run_pairs.Stages.{AreAnsweredEnds, AreBegunEnds, CentralTook, IsForged, IsLate, IsOver, Lasts, PeripheralTook}
 use Rattle.journal_outcomes.proofs.journal_crossing.journal_collisions.journal_endings.run_pairs.Stages.{central_reads, peripheral_reads}
 

@@ -4,41 +4,38 @@ use Rattle.std.specs.Prelude.{⊤}
 use Rattle.std.proofs.lemmas.Bool.{eqb-true}
 use Rattle.ble_base.specs.Side.{other_side}
 use Rattle.ble_base.specs.declared.roles.Side.{Side}
-use Rattle.ble_base.specs.declared.verdicts.Verdict.{Verdict}
 use Rattle.ble_base.specs.declared.verdicts.Verdict.TheVariants.{Forged}
 use Rattle.adv_pdu.specs.declared.pdu.ConnectFields.{ConnectFields}
 use Rattle.air_frame.specs.Packet.{access_octets}
-use Rattle.controller_model.specs.Facts.{Facts, Sends}
-use Rattle.controller_model.specs.Side.{notes_after}
-use Rattle.controller_model.specs.Step.{HostOctet, NothingHeard, PacketHeard, Step, TurnBegins, TurnEnds}
+use Rattle.journal_outcomes.specs.controller_model.Facts.{Facts, Sends}
+use Rattle.journal_outcomes.specs.controller_model.Side.{notes_after}
+use Rattle.journal_outcomes.specs.controller_model.Step.{HostOctet, NothingHeard, PacketHeard, Step, TurnBegins, TurnEnds}
 use Rattle.journal.specs.declared.entries.Entry.{Entry}
 use Rattle.journal.specs.declared.entries.Entry.TheVariants.{Air}
-use Rattle.link_calls.specs.Uses.{listens_under}
-use Rattle.link_calls.specs.link_model.Packets.{verdict_of}
-use Rattle.link_calls.specs.open_links.OpenLinks.{OpenLink, facts_in, link_at}
-use Rattle.link_calls.specs.run_model.Feeding.{AreDistinct}
-use Rattle.link_calls.specs.run_model.History.{Called, Event, Hearing, Noted, Transmitted, TurnBegan, handed_or, is_handed, packet_received}
-use Rattle.link_calls.specs.run_model.Journal.{air_entries, journal_of, mark_of, side_of}
-use Rattle.link_calls.specs.run_model.LinkEnds.{HaveAddresses}
-use Rattle.link_calls.specs.run_model.Links.{is_advertising}
-use Rattle.link_calls.specs.run_model.Run.{Given, after_call, after_feed, facts_at, hearings_of, history_of, octets_left, run_of, setup_at, step_of, use_at}
-use Rattle.link_calls.proofs.link_model.Hearing.{IsHeardWhole}
-use Rattle.link_calls.proofs.run_laws.ByCalls.{Holds}
-use Rattle.link_calls.proofs.run_laws.DistinctAccess.{AreApart}
-use Rattle.link_calls.proofs.run_laws.Hearings.{other_facts, wanted_is}
-use Rattle.link_calls.proofs.run_laws.InAgreement.{AreStations}
-use Rattle.link_calls.proofs.run_model.LinkEnds.{AreTaken, IsUnderstood, received_by, received_event, received_own}
-use Rattle.link_calls.proofs.run_model.Parts.{journal_event, journal_more}
-use Rattle.link_calls.proofs.run_model.Places.{each_at}
-use Rattle.link_calls.proofs.run_model.Stations.{among, is_in, not_before}
-use Rattle.link_calls.proofs.run_model.Walk.{AtPackets, IsKept as IsKeptInRun, NoTurn, Place}
+use Rattle.journal_outcomes.specs.link_calls.Uses.{listens_under}
+use Rattle.journal_outcomes.specs.link_calls.link_model.Packets.{verdict_of}
+use Rattle.journal_outcomes.specs.link_calls.open_links.OpenLinks.{OpenLink, facts_in, link_at}
+use Rattle.journal_outcomes.specs.link_calls.run_model.Feeding.{AreDistinct}
+use Rattle.journal_outcomes.specs.link_calls.run_model.History.{Called, Event, Hearing, Noted, Transmitted, TurnBegan, handed_or, is_handed, packet_received}
+use Rattle.journal_outcomes.specs.link_calls.run_model.Journal.{air_entries, journal_of, mark_of, side_of}
+use Rattle.journal_outcomes.specs.link_calls.run_model.LinkEnds.{HaveAddresses}
+use Rattle.journal_outcomes.specs.link_calls.run_model.Links.{is_advertising}
+use Rattle.journal_outcomes.specs.link_calls.run_model.Run.{Given, after_call, after_feed, facts_at, hearings_of, history_of, octets_left, run_of, setup_at, step_of, use_at}
+use Rattle.journal_outcomes.proofs.link_calls.link_model.Hearing.{IsHeardWhole}
+use Rattle.journal_outcomes.proofs.link_calls.run_laws.DistinctAccess.{AreApart}
+use Rattle.journal_outcomes.proofs.link_calls.run_laws.Hearings.{other_facts}
+use Rattle.journal_outcomes.proofs.link_calls.run_model.LinkEnds.{AreTaken, IsUnderstood, received_by, received_event, received_own, wanted_is}
+use Rattle.journal_outcomes.proofs.link_calls.run_model.Parts.{journal_event, journal_more}
+use Rattle.journal_outcomes.proofs.link_calls.run_model.Places.{each_at}
+use Rattle.journal_outcomes.proofs.link_calls.run_model.Stations.{among, is_in, not_before}
+use Rattle.journal_outcomes.proofs.link_calls.run_model.Walk.{AtPackets, IsKept as IsKeptInRun, Place}
 use Rattle.radio_replay.specs.Damage.{damaged_packet}
 use Rattle.radio_replay.specs.declared.fates.Fate.{Fate}
 use Rattle.journal_outcomes.specs.journal_collisions.journal_endings.journal_indications.journal_data.journal_links.Begun.{link_numbered}
-use Rattle.journal_ends.proofs.ForgedLinks.{left_is}
+use Rattle.journal_outcomes.proofs.journal_ends.ForgedLinks.{left_is}
 use Rattle.journal_outcomes.proofs.journal_crossing.journal_collisions.journal_endings.journal_indications.journal_data.Mine.{other_back}
 use Rattle.journal_outcomes.proofs.journal_crossing.journal_collisions.journal_endings.journal_indications.journal_data.journal_acks.AirCounts.{hears}
-use Rattle.journal_outcomes.proofs.journal_crossing.journal_collisions.journal_endings.journal_indications.journal_data.journal_acks.Counting.{AreCountedSo, AreKnown, facts_event}
+use Rattle.journal_outcomes.proofs.journal_crossing.journal_collisions.journal_endings.journal_indications.journal_data.journal_acks.Counting.{AreKnown, facts_event}
 use Rattle.journal_outcomes.proofs.journal_crossing.journal_collisions.journal_endings.journal_indications.journal_data.journal_acks.EachCall.{HaveCalls, OfCall, run_calls}
 use Rattle.journal_outcomes.proofs.journal_crossing.journal_collisions.journal_endings.journal_indications.journal_data.journal_acks.Exchanging.{number_at, number_other, number_sent}
 use Rattle.journal_outcomes.proofs.journal_crossing.journal_collisions.journal_endings.journal_indications.journal_data.journal_acks.KeptCounts.{AreCountedAt, counts_kept}

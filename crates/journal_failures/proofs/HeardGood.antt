@@ -1,34 +1,34 @@
 -- A good packet that a station of two takes on a link that is followed does not end the link for a failed integrity.
-use Rattle.std.proofs.Common.{◌≡◌, ℕ, Bool, true, false, Some, List, [], ◌∷◌, ◌++◌, append_assoc, refl, sym, ap, ◌∙◌}
+use Rattle.std.proofs.Common.{◌≡◌, ℕ, true, false, Some, List, [], ◌∷◌, ◌++◌, append_assoc, refl, sym, ◌∙◌}
 use Rattle.ble_base.specs.declared.roles.Role.{Role}
 use Rattle.ble_base.specs.declared.roles.Role.TheVariants.{Central, Peripheral}
-use Rattle.ble_base.specs.declared.verdicts.Verdict.TheVariants.{Forged, Good}
-use Rattle.controller_model.specs.Facts.{Facts}
-use Rattle.controller_model.specs.Heard.{has_room}
-use Rattle.controller_model.specs.Step.{PacketHeard}
-use Rattle.link_calls.specs.Phases.{link_worded}
-use Rattle.link_calls.specs.Uses.{listens_under}
-use Rattle.link_calls.specs.link_model.Packets.{is_forged, verdict_of}
-use Rattle.link_calls.specs.open_links.OpenLinks.{OpenLink, facts_in, link_at}
-use Rattle.link_calls.specs.run_laws.Ends.{HaveOneConnectInd, OpenEnd, ReceivesGood}
-use Rattle.link_calls.specs.run_model.Feeding.{AreDistinct}
-use Rattle.link_calls.specs.run_model.History.{Called, Event}
-use Rattle.link_calls.specs.run_model.LinkEnds.{HaveAddresses}
-use Rattle.link_calls.specs.run_model.Run.{Given, facts_at, history_of, run_of, setup_at}
-use Rattle.link_calls.proofs.link_model.Hearing.{IsHeardWhole}
-use Rattle.link_calls.proofs.run_laws.DistinctAccess.{AreApart}
-use Rattle.link_calls.proofs.run_laws.SameEvent.{apart_ends, one_connect_ind}
-use Rattle.link_calls.proofs.run_laws.TwoStations.{AreTwo, are_two as two_are, differs_back}
-use Rattle.link_calls.proofs.run_model.LinkEnds.{AreTaken, IsUnderstood}
-use Rattle.link_calls.proofs.run_model.Numbers.{numbered_at}
-use Rattle.link_calls.proofs.run_model.Stations.{is_in}
-use Rattle.link_runs.specs.link_pairs.Hearing.{received}
-use Rattle.link_runs.proofs.link_pairs.Understanding.{IsOpenedThere}
+use Rattle.ble_base.specs.declared.verdicts.Verdict.TheVariants.{Good}
+use Rattle.journal_outcomes.specs.controller_model.Facts.{Facts}
+use Rattle.journal_outcomes.specs.controller_model.Heard.{has_room}
+use Rattle.journal_outcomes.specs.controller_model.Step.{PacketHeard}
+use Rattle.journal_outcomes.specs.link_calls.Phases.{link_worded}
+use Rattle.journal_outcomes.specs.link_calls.Uses.{listens_under}
+use Rattle.journal_outcomes.specs.link_calls.link_model.Packets.{is_forged, verdict_of}
+use Rattle.journal_outcomes.specs.link_calls.open_links.OpenLinks.{OpenLink, facts_in, link_at}
+use Rattle.journal_outcomes.specs.link_calls.run_laws.Ends.{HaveOneConnectInd, OpenEnd, ReceivesGood}
+use Rattle.journal_outcomes.specs.link_calls.run_model.Feeding.{AreDistinct}
+use Rattle.journal_outcomes.specs.link_calls.run_model.History.{Called, Event}
+use Rattle.journal_outcomes.specs.link_calls.run_model.LinkEnds.{HaveAddresses}
+use Rattle.journal_outcomes.specs.link_calls.run_model.Run.{Given, facts_at, history_of, run_of, setup_at}
+use Rattle.journal_outcomes.proofs.link_calls.link_model.Hearing.{IsHeardWhole}
+use Rattle.journal_outcomes.proofs.link_calls.run_laws.DistinctAccess.{AreApart}
+use Rattle.journal_outcomes.proofs.link_calls.run_laws.SameEvent.{apart_ends, one_connect_ind}
+use Rattle.journal_outcomes.proofs.link_calls.run_laws.TwoStations.{AreTwo, are_two as two_are, differs_back}
+use Rattle.journal_outcomes.proofs.link_calls.run_model.LinkEnds.{AreTaken, IsUnderstood}
+use Rattle.journal_outcomes.proofs.link_calls.run_model.Numbers.{numbered_at}
+use Rattle.journal_outcomes.proofs.link_calls.run_model.Stations.{is_in}
+use Rattle.journal_outcomes.specs.link_runs.link_pairs.Hearing.{received}
+use Rattle.journal_outcomes.proofs.link_runs.link_pairs.Understanding.{IsOpenedThere}
 use Rattle.journal_outcomes.specs.journal_collisions.journal_endings.run_pairs.InTurns.{HearEachInTurn, HearNoMixed}
+use Rattle.journal_outcomes.proofs.journal_crossing.journal_data.run_pairs.FarPackets.{listens_is}
 use Rattle.journal_outcomes.proofs.journal_crossing.journal_collisions.journal_endings.run_pairs.FarEnds.{hear_in_turn, hears_in_turn}
 use Rattle.journal_outcomes.proofs.journal_crossing.journal_collisions.journal_endings.run_pairs.LinkSteps.{AsksMayCome}
 use Rattle.journal_outcomes.proofs.journal_crossing.journal_collisions.journal_endings.journal_indications.FarEnds.{far_before}
-use Rattle.journal_outcomes.proofs.journal_crossing.journal_collisions.journal_endings.journal_indications.Receptions.{listened}
 use Rattle.journal_outcomes.proofs.journal_crossing.journal_collisions.journal_endings.journal_indications.journal_data.Followed.{AreEndsOf, IsFollowed, ends_more, hear_fewer}
 use Rattle.journal_outcomes.proofs.journal_crossing.journal_collisions.journal_endings.journal_indications.journal_data.KeptData.{other_in}
 use Rattle.journal_outcomes.proofs.journal_crossing.journal_collisions.journal_endings.journal_indications.journal_data.Mine.{HasFarEnd}
@@ -88,7 +88,7 @@ module _ (whole : IsHeardWhole) (opens_there : IsOpenedThere) (understood : IsUn
   there = far_end given station before handle far
 
   receives : ReceivesGood facts octets link
-  receives = record { handle = handle; listens = listened handle facts.turn.doing listens; is_open = is_open; is_good = good }
+  receives = record { handle = handle; listens = listens_is handle facts.turn.doing listens; is_open = is_open; is_good = good }
 
   same_link : HaveOneConnectInd link.setup link.setup
   same_link = record { fields = refl; opened = refl }
@@ -104,8 +104,8 @@ module _ (whole : IsHeardWhole) (opens_there : IsOpenedThere) (understood : IsUn
       hear_in_turn understood taken apart given six distinct two before (call ∷ rest) at central peripheral in_it in_too (apart_ends before central peripheral are.ends)
       (one_connect_ind before central peripheral are.ends)
 
-  back : (one two : OpenEnd) → HaveOneConnectInd one.link.setup two.link.setup → HaveOneConnectInd two.link.setup one.link.setup
-  back one two same = record { fields = sym same.fields; opened = sym same.opened }
+  back : (one other : OpenEnd) → HaveOneConnectInd one.link.setup other.link.setup → HaveOneConnectInd other.link.setup one.link.setup
+  back one other same = record { fields = sym same.fields; opened = sym same.opened }
 
   abbrev Stays : Type 0
   Stays = let base = link_worded (setup_at given station) facts facts.turn.doing link in is_forged link.setup (facts_in base) octets ≡ false
@@ -115,7 +115,7 @@ module _ (whole : IsHeardWhole) (opens_there : IsOpenedThere) (understood : IsUn
   as_central are =
       let mix = mixed_none own there on in_far are in
       central_good whole opens_there understood taken given six distinct asks before rest station octets own there at on in_far are.ends is_open far.is_open
-      (hear own there on in_far are) (hear_fewer given before (call ∷ []) own there mix) (has_room (setup_at given station) facts) refl (listened handle facts.turn.doing listens)
+      (hear own there on in_far are) (hear_fewer given before (call ∷ []) own there mix) (has_room (setup_at given station) facts) refl (listens_is handle facts.turn.doing listens)
       (hears_in_turn understood taken apart given six distinct two then_on rest place own there in_far (differs_back other station (other_not station))
       (one_connect_ind before own there are.ends) before [] octets link refl receives same_link)
       (mix.one_hears before [] octets link far.far refl receives refl far.is_open refl) (setup_at given station) facts
@@ -124,7 +124,7 @@ module _ (whole : IsHeardWhole) (opens_there : IsOpenedThere) (understood : IsUn
   as_peripheral are =
       let mix = mixed_none there own in_far on are in
       peripheral_good whole opens_there understood taken given six distinct asks before rest station octets there own at in_far on are.ends far.is_open is_open
-      (hear there own in_far on are) (hear_fewer given before (call ∷ []) there own mix) (has_room (setup_at given station) facts) refl (listened handle facts.turn.doing listens)
+      (hear there own in_far on are) (hear_fewer given before (call ∷ []) there own mix) (has_room (setup_at given station) facts) refl (listens_is handle facts.turn.doing listens)
       (hears_in_turn understood taken apart given six distinct two then_on rest place own there in_far (differs_back other station (other_not station))
       (back there own (one_connect_ind before there own are.ends)) before [] octets link refl receives same_link)
       (mix.other_hears before [] octets link far.far refl receives refl far.is_open refl) (setup_at given station) facts facts.turn.doing

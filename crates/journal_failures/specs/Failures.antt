@@ -9,7 +9,7 @@ use Rattle.air_frame.specs.Packet.{access_octets}
 use Rattle.journal.specs.declared.entries.Entry.{Entry}
 use Rattle.journal.specs.declared.entries.Entry.TheVariants.{Air, Shut}
 use Rattle.journal.specs.declared.entries.Mark.{Mark}
-use Rattle.journal_ends.specs.Left.{left_of}
+use Rattle.journal_outcomes.specs.journal_ends.Left.{left_of}
 use Rattle.journal_outcomes.specs.journal_collisions.journal_endings.journal_indications.journal_data.Followed.{Mixed}
 use Rattle.journal_outcomes.specs.journal_collisions.journal_endings.journal_indications.journal_data.journal_links.Begun.{LinkBegun, link_numbered}
 

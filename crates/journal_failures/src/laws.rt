@@ -23,11 +23,11 @@ pub fn a_link_fails_only_after_a_forged_packet()
         → Follows (given_of a b script) mixed
         → AllFailuresAreForged mixed (journal_of (history_of (run_of (given_of a b script)))) }
 {
-    controller_model::a_pdu_is_understood();
+    journal_outcomes::a_pdu_is_understood();
     advertise::laws::connections_are_taken();
     scan_init::laws::searches_give_each_valid_address();
     air_frame::laws::packet_tells_its_pdu();
-    link_runs::a_sealed_packet_is_opened();
+    journal_outcomes::a_sealed_packet_is_opened();
     journal_outcomes::what_hosts_ask_may_come();
     journal_outcomes::no_procedure_ends_a_link_but_a_late_one();
     journal_outcomes::packets_of_a_link_are_read_as_sent();

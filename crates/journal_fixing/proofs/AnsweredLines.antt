@@ -3,7 +3,7 @@
 use Rattle.std.proofs.Common.{◌≡◌, ℕ, ◌&&◌, not, Bool, true, false, Option, Some, None, List, [], ◌∷◌, ◌++◌, map, refl, sym, ap, subst, ◌∙◌, append_assoc, if◌then◌else◌}
 use Rattle.std.specs.Prelude.{All, IfSome, ⊤}
 use Rattle.std.proofs.lemmas.Bool.{eq-eqb}
-use Rattle.std.proofs.lemmas.List.Elements.{All-append, All-cons, All-head, All-nil, All-tail}
+use Rattle.std.proofs.lemmas.List.Elements.{All-append, All-cons, All-nil}
 use Rattle.ble_base.specs.declared.notes.Note.{Note}
 use Rattle.ble_base.specs.declared.notes.Note.TheVariants.{Up as UpNote, Sent as SentNote}
 use Rattle.ble_base.specs.declared.roles.Side.{Side}
@@ -34,11 +34,11 @@ use Rattle.journal_controls.specs.run_model.Run.{Given, facts_at, history_of, ru
 use Rattle.journal_controls.proofs.controller_model.Handles.{HaveOwnHandles, own_handles}
 use Rattle.journal_controls.proofs.journal_acks.DataCalls.{received_at, unfound}
 use Rattle.journal_controls.proofs.journal_acks.Exchanging.{number_at, number_notes}
-use Rattle.journal_controls.proofs.journal_acks.NewPdus.{first_part}
+use Rattle.journal_controls.proofs.journal_acks.NewPdus.{first_part, in_middle}
 use Rattle.journal_controls.proofs.journal_acks.PhaseNotes.{IsOnLink, IsPhaseOf, IsPlainPhase, phase_of}
 use Rattle.journal_controls.proofs.journal_acks.TwoStations.{IsOfTwo}
 use Rattle.journal_controls.proofs.journal_acks.link_calls.CallNotes.{HasNoData, OpensNone}
-use Rattle.journal_controls.proofs.journal_acks.Worded.{link_worded, received_setup_is, worded, worded_here, worded_setup}
+use Rattle.journal_controls.proofs.journal_acks.Worded.{link_worded, worded, worded_here, worded_setup}
 use Rattle.journal_controls.proofs.journal_acks.link_calls.LinkCalls.{IsOfTakes, received_noted, received_quiet}
 use Rattle.journal_controls.proofs.controller_model.Places.{link_receiving, refused_if as places_refused}
 use Rattle.journal_controls.proofs.journal_ends.GrownLinks.{IsRefusal, refusal_in_is}
@@ -47,6 +47,7 @@ use Rattle.journal_controls.proofs.Replies.{IsReply, replies_as, worded_reply, w
 use Rattle.journal_controls.proofs.SendsAlike.{SendsAlike, alike_fixed, alike_then, answered_alike, given_alike}
 use Rattle.journal_controls.proofs.journal_ends.run_laws.DistinctAccess.{AreApart}
 use Rattle.journal_controls.proofs.journal_packets.AccessOrder.{AreNth}
+use Rattle.journal_controls.proofs.journal_packets.Replies.{receiving_setup as received_setup_is}
 use Rattle.journal_controls.proofs.link_model.Hearing.{IsHeardWhole}
 use Rattle.journal_controls.proofs.journal_ends.open_links.Handles.{handle_is}
 use Rattle.journal_controls.proofs.run_model.LinkEnds.{AreTaken, IsUnderstood}
@@ -80,10 +81,6 @@ note_sent handle count facts true is =
     All-cons (IsOfReply true facts) _ []
     (record { sends = refl; acked = left_true (is_acked facts.acknowledgement) (not (is_empty (pdu_fixed facts))) (sym is); is = refl })
     (All-nil (IsOfReply true facts))
-
-note_in : (P : Note → Type 0) (earlier later : List Note) (note : Note) → All P (earlier ++ note ∷ later) → P note
-note_in P [] later note all = All-head P note later all
-note_in P (first ∷ earlier) later note all = note_in P earlier later note (All-tail P first (earlier ++ note ∷ later) all)
 
 -- a note of a new PDU is under this handle
 abbrev IsUnder : ℕ → Note → Type 0
@@ -161,14 +158,14 @@ module _ (setup : Setup) (facts : Facts) (octets : List ℕ) (handle count llid 
     where
       by : IsPhaseOf setup facts (Some octets) → IsOnIt
       by (IsPlainPhase none plain) =
-          absurd (let h : true ≡ false = (note_in HasNoData earlier later note (subst (All HasNoData) notes_are plain)).sends in absurd cc)
+          absurd (let h : true ≡ false = (in_middle HasNoData earlier later note (subst (All HasNoData) notes_are plain)).sends in absurd cc)
       by (IsOnLink other words heard some listens is) =
           let octets_are = same_octets heard octets some in
           let notes =
           ap (λ xs. notes_after setup facts (PacketHeard xs)) (sym octets_are) ∙ ap notes_passed is
           ∙ (λ i. notes_passed (link_heard setup other (octets_are i) (worded words setup other facts))) in
           let under : handle ≡ other =
-          note_in (IsUnder other) earlier later note (subst (All (IsUnder other)) (sym notes ∙ notes_are) (link_noted words other (link_at other facts.links) refl)) in record {
+          in_middle (IsUnder other) earlier later note (subst (All (IsUnder other)) (sym notes ∙ notes_are) (link_noted words other (link_at other facts.links) refl)) in record {
             on = listens handle ∙ eq-eqb other handle (sym under);
             words = words;
             notes = notes ∙ (λ i. notes_passed (link_heard setup (sym under i) octets (worded words setup (sym under i) facts)));
@@ -201,7 +198,7 @@ module _ (setup : Setup) (facts : Facts) (octets : List ℕ) (handle count llid 
 
   noted : IsSentNew replies (facts_in taken) (record { llid = llid; body = body })
   noted =
-      note_in (IsOfReply replies (facts_in taken)) earlier later note
+      in_middle (IsOfReply replies (facts_in taken)) earlier later note
       (subst (All (IsOfReply replies (facts_in taken))) (sym on_link ∙ notes_are)
       (All-append (IsOfReply replies (facts_in taken)) (link_heard setup handle octets worded_facts).notes _
       (received_noted (IsOfReply replies (facts_in taken)) (takes_none replies (facts_in taken)) setup handle octets worded_facts) (reply_noted replies)))

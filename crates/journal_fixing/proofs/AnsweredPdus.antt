@@ -20,9 +20,11 @@ use Rattle.journal_controls.specs.link_model.Setup.{Setup}
 use Rattle.journal_controls.specs.link_model.Step.{PacketReceived}
 use Rattle.journal_controls.specs.link_model.Verdicts.{pdu_of}
 use Rattle.journal_controls.specs.link_model.keyed_control.Keyed.{Keyed}
-use Rattle.journal_controls.proofs.CentralFixed.{acked_free, data_free, gone_acked, taking_free}
+use Rattle.journal_controls.proofs.CentralFixed.{data_free, gone_acked, taking_free}
 use Rattle.journal_controls.proofs.EndSteps.{acks_by, good_leave, left_of, not_true, received_is}
+use Rattle.journal_controls.proofs.PeripheralFixed.{taken_acked, taken_data}
 use Rattle.journal_controls.proofs.SendsAlike.{SendsAlike, alike_fixed}
+use Rattle.journal_controls.proofs.link_model.Fixing.{acked_control as acked_free}
 use Rattle.journal_fixing.specs.NextPdu.{IsFixedBy, data_waits, data_waits_after, more_with_new, more_with_old, pdu_next}
 use Rattle.journal_fixing.proofs.FixedPdus.{fixed_next, more_fixed, more_old}
 
@@ -36,17 +38,9 @@ gone_more : (goes : Bool) (slot : ℕ) (facts : Facts) → (control_gone_if goes
 gone_more true slot facts = refl
 gone_more false slot facts = refl
 
-taken_acked : (takes : Bool) (pdu : Pdu) (slot : ℕ) (facts : Facts) → is_acked (procedures_take_if takes pdu slot facts).acknowledgement ≡ is_acked facts.acknowledgement
-taken_acked true pdu slot facts = refl
-taken_acked false pdu slot facts = refl
-
 taken_fixes : (takes : Bool) (pdu : Pdu) (slot : ℕ) (facts : Facts) → (procedures_take_if takes pdu slot facts).fixes_control ≡ facts.fixes_control
 taken_fixes true pdu slot facts = refl
 taken_fixes false pdu slot facts = refl
-
-data_acked : (takes : Bool) (facts : Facts) → is_acked (data_taken_if takes facts).acknowledgement ≡ is_acked facts.acknowledgement
-data_acked true facts = refl
-data_acked false facts = refl
 
 data_fixes : (takes : Bool) (facts : Facts) → (data_taken_if takes facts).fixes_control ≡ facts.fixes_control
 data_fixes true facts = refl
@@ -97,7 +91,7 @@ module _ (fixing : Keyed) (outgoing : Data) (facts : Facts) (is : IsFixedBy fixi
       }
 
   heard_acked : is_acked heard.acknowledgement ≡ is_acked own.acknowledgement
-  heard_acked = data_acked carries seen ∙ taken_acked takes pdu slot (accepted_if accepted pdu untaken) ∙ gone_acked (takes_leave own) slot own
+  heard_acked = taken_data carries seen ∙ taken_acked takes pdu slot (accepted_if accepted pdu untaken) ∙ gone_acked (takes_leave own) slot own
 
   heard_outgoing : heard.outgoing ≡ untaken.outgoing
   heard_outgoing = data_free carries seen ∙ taking_free takes pdu slot (accepted_if accepted pdu untaken)

@@ -1,8 +1,6 @@
 -- What an end fixes by its procedures, its phase and its data, and what it sends then.
 use Rattle.std.proofs.Common.{◌≡◌, ℕ, ◌≤◌, nat_lt, ◌&&◌, ◌||◌, not, Bool, true, false, Option, Some, None, [], length, is_some, refl, ap, sym, ◌∙◌, if◌then◌else◌}
 use Rattle.data_pdu.specs.declared.ctrl.Ctrl.{Ctrl}
-use Rattle.data_pdu.specs.declared.ctrl.Ctrl.TheVariants.{StartEncReq}
-use Rattle.wire_fields.specs.Field.{little_endian}
 use Rattle.acl_banks.specs.declared.pieces.Piece.{Piece}
 use Rattle.journal_controls.specs.KeyedLines.{has_next}
 use Rattle.journal_controls.specs.link_model.Acknowledgement.{Pdu, empty_pdu, is_acked}
@@ -19,17 +17,15 @@ use Rattle.journal_controls.specs.link_model.control_end.Held.{held_of}
 use Rattle.journal_controls.specs.link_model.keyed_control.Keyed.{Keyed}
 use Rattle.journal_controls.specs.link_model.phased_control.Phased.{is_quiet_now as is_quiet_phase}
 use Rattle.journal_controls.specs.link_model.procedure_stages.Queue.{waiting_in}
+use Rattle.journal_controls.proofs.EndSteps.{filled}
+use Rattle.journal_controls.proofs.link_model.KeyedSteps.{fixed as fixing_keeps}
 use Rattle.journal_fixing.specs.NextPdu.{IsFixedBy, data_pdu_next, data_waits, data_waits_after, lets_data_go, more_with_new, more_with_old, pdu_next}
 use Rattle.journal_fixing.proofs.UnsentOctets.{data_length, piece_full, piece_waits}
 
 -- ---- as it fixes its PDU
 
-stays_if : (same : Bool) (facts : Facts) → keyed_of (if same then facts else fixed_anew facts) ≡ keyed_of facts
-stays_if true facts = refl
-stays_if false facts = refl
-
 pub fixing_stays : (setup : Setup) (facts : Facts) → keyed_of (facts_after setup facts PduFixed) ≡ keyed_of facts
-fixing_stays setup facts = stays_if (is_control facts.outgoing.fixed) facts
+fixing_stays setup facts = fixing_keeps (is_control facts.outgoing.fixed) facts
 
 piece_by : (next : Bool) (waiting : ℕ) (quiet goes : Bool) (cut : Data) → next ≡ false
     → (data_fixed_by next waiting quiet goes cut).fixed ≡ (if goes then pdu_with (next_piece cut) else empty_pdu)
@@ -56,11 +52,6 @@ fixed_by setup facts free =
     }
 
 -- ---- as it sends
-
-filled : (ctrl : Ctrl) → is_empty (pdu_of_control (Some ctrl)) ≡ false
-unfolding little_endian
-filled StartEncReq = refl
-filled other = refl
 
 -- MD after one that is sent again
 old_by : (next goes : Bool) (now : Option Ctrl) (cut : Data) → 1 ≤ cut.limit

@@ -1,6 +1,5 @@
 -- What an end does in the first phase of a turn after it fixed its PDU.
 use Rattle.std.proofs.Common.{◌≡◌, ℕ, suc, ◌⊎◌, inl, inr, Bool, true, false, Option, Some, List, [], ◌∷◌, ◌++◌, fold, refl, sym, ap, subst, ◌∙◌, append_assoc, arith}
-use Rattle.ble_base.specs.declared.roles.Role.{Role}
 use Rattle.ble_base.specs.declared.roles.Role.TheVariants.{Central, Peripheral}
 use Rattle.journal_controls.specs.controller_model.Facts.{Facts, Setup, first_facts}
 use Rattle.journal_controls.specs.controller_model.Heard.{has_room}
@@ -24,7 +23,7 @@ use Rattle.journal_controls.specs.run_model.Feeding.{AreDistinct}
 use Rattle.journal_controls.specs.run_model.History.{Event, past_of}
 use Rattle.journal_controls.specs.run_model.Run.{Given, facts_at, history_of, run_of, setup_at, step_of}
 use Rattle.journal_controls.proofs.CentralFixed.{IsFree, entered_free}
-use Rattle.journal_controls.proofs.FixedEnds.{AreFixed, begun_past, fixed_first, fixed_kept, sends_replying}
+use Rattle.journal_controls.proofs.FixedEnds.{AreFixed, begun_past, fixed_first, fixed_kept, other_role, sends_replying}
 use Rattle.journal_controls.proofs.Replies.{replies_as}
 use Rattle.journal_controls.proofs.SendsAlike.{SendsAlike, receiving_alike}
 use Rattle.journal_controls.proofs.journal_acks.Standing.{listener_role, listener_sends, sender_role}
@@ -112,9 +111,6 @@ module _ (base link : OpenLink) (enters fixes sends : Bool) (slot : ℕ) (setup_
   tells_then : sends ≡ true → (one : OpenLink) (now : ℕ) → link ≡ link_after (PacketSent now) one → TellsMore (facts_fixing link.setup link.past) (facts_in one)
   tells_then sending one now is =
       subst (TellsMore (facts_fixing link.setup link.past)) (sym (sent_then sending one now is)) (fixed_tells link.setup (facts_fixing link.setup link.past) free_then)
-
-other_role : (X : Type 0) (role : Role) → role ≡ Central → role ≡ Peripheral → X
-other_role X role is is_too = absurd (let h : Central ≡ Peripheral = sym is ∙ is_too in absurd cc)
 
 -- a peripheral that answers, in the phase in which it takes the packet
 module _ (setup : Setup) (facts : Facts) (received : Option (List ℕ)) (handle : ℕ) (link : OpenLink)

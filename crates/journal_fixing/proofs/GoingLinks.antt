@@ -1,5 +1,5 @@
 -- Which ends heard nothing yet in a turn, by what a controller does, and the end with which an answer goes.
-use Rattle.std.proofs.Common.{◌≡◌, ℕ, suc, ◌==◌, ◌||◌, ◌⊎◌, inl, inr, Bool, true, false, Some, List, refl, sym, ap, ◌∙◌, arith}
+use Rattle.std.proofs.Common.{◌≡◌, ℕ, suc, ◌==◌, ◌||◌, ◌⊎◌, inl, inr, Bool, true, false, Some, List, sym, ap, ◌∙◌, arith}
 use Rattle.ble_base.specs.declared.roles.Role.TheVariants.{Central, Peripheral}
 use Rattle.ble_base.specs.declared.roles.Side.{Side}
 use Rattle.journal_controls.specs.controller_model.Facts.{Facts, Setup}
@@ -19,6 +19,7 @@ use Rattle.journal_controls.specs.run_model.History.{Event}
 use Rattle.journal_controls.specs.run_model.Journal.{journal_of}
 use Rattle.journal_controls.proofs.SendsAlike.{receiving_same}
 use Rattle.journal_controls.proofs.journal_ends.run_laws.LinkPhases.{IsInPhase}
+use Rattle.journal_controls.proofs.journal_acks.link_calls.LinkCalls.{sent_setup}
 use Rattle.journal_fixing.specs.OnLines.{control_going, has_heard}
 
 -- ---- what is kept of an end
@@ -79,10 +80,6 @@ sent_first phases handle links later doing next is then_is on sends = by doing (
     by doing zero is sends = absurd cc
 
 -- ---- an end that takes a packet does not listen on
-
-sent_setup : (sends : Bool) (slot : ℕ) (link : OpenLink) → (sent_if sends slot link).setup ≡ link.setup
-sent_setup true slot link = refl
-sent_setup false slot link = refl
 
 pub receiving_setup : (sends : Bool) (setup : Setup) (handle : ℕ) (room : Bool) (octets : List ℕ) (facts : Facts) (link : OpenLink)
     → (sent_if sends facts.turn.slot (link_receiving setup handle room octets facts link)).setup ≡ link.setup

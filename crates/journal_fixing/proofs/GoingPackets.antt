@@ -27,7 +27,7 @@ use Rattle.journal_controls.specs.run_model.Journal.{journal_of}
 use Rattle.journal_controls.proofs.ControlPackets.{taking_counts}
 use Rattle.journal_controls.proofs.Counted.{told_by}
 use Rattle.journal_controls.proofs.GoodPackets.{good_verdict}
-use Rattle.journal_controls.proofs.EventMoves.{air_line, aired, keyed_at, turn_at}
+use Rattle.journal_controls.proofs.EventMoves.{air_line, aired, keyed_at}
 use Rattle.journal_controls.proofs.journal_acks.Counting.{IsEndCounted, plain}
 use Rattle.journal_controls.proofs.journal_acks.Exchanging.{exchange_at}
 use Rattle.journal_controls.proofs.journal_acks.KeptLines.{IsLined}

@@ -1,7 +1,7 @@
 -- Each step of a run of two stations keeps that an open end as it fixed its next PDU in the turn is, by the journal, what it
 -- was then.
-use Rattle.std.proofs.Common.{◌≡◌, ℕ, suc, ◌+◌, ◌-◌, ◌==◌, ◌<◌, ◌⊎◌, inl, inr, Bool, true, false, Option, Some, None, List, [], ◌∷◌, ◌++◌, length, map, refl, sym, ap, subst, ◌∙◌, append-nil, append_assoc, arith}
-use Rattle.std.specs.Prelude.{All, take, if◌then◌else◌}
+use Rattle.std.proofs.Common.{◌≡◌, ℕ, suc, ◌+◌, ◌-◌, ◌==◌, ◌<◌, Bool, true, false, Option, Some, None, List, [], ◌∷◌, ◌++◌, length, map, refl, sym, ap, subst, ◌∙◌, append-nil, append_assoc, arith}
+use Rattle.std.specs.Prelude.{take, if◌then◌else◌}
 use Rattle.std.proofs.lemmas.Bool.{eqb-true}
 use Rattle.std.proofs.lemmas.List.{map-append}
 use Rattle.ble_base.specs.declared.roles.Side.{Side}
@@ -32,16 +32,18 @@ use Rattle.journal_controls.specs.run_model.LinkEnds.{HaveAddresses}
 use Rattle.journal_controls.specs.run_model.Readers.{turns_of}
 use Rattle.journal_controls.specs.run_model.Run.{Given, after_call, after_feed, after_octets, facts_at, hearings_of, history_of, octets_left, run_of, setup_at, step_of}
 use Rattle.journal_controls.proofs.FixedEnds.{begun_past}
+use Rattle.journal_controls.proofs.PassedControls.{no_octet}
 use Rattle.journal_controls.proofs.journal_ends.EndsKnown.{AreLined, lined_at}
 use Rattle.journal_controls.proofs.journal_ends.KeptSeen.{AreSeenAt, seen_first, seen_kept}
 use Rattle.journal_controls.proofs.journal_ends.PastSeen.{notes_more}
 use Rattle.journal_controls.proofs.journal_ends.SeenCalls.{held_at}
 use Rattle.journal_controls.proofs.journal_acks.Counting.{facts_event}
 use Rattle.journal_controls.proofs.journal_acks.Exchanging.{number_at, number_called, number_other, number_sent}
+use Rattle.journal_controls.proofs.journal_acks.PassedLinks.{passed_or_new}
 use Rattle.journal_controls.proofs.journal_acks.Standing.{PhasedBy, phased_at}
 use Rattle.journal_controls.proofs.journal_acks.TwoStations.{IsOfTwo, hearing_of, one_hearing, other_apart}
 use Rattle.journal_controls.proofs.journal_acks.link_calls.CallNotes.{OpensNone, begin_noted, opening_none}
-use Rattle.journal_controls.proofs.journal_acks.link_calls.LinkCalls.{IsOpenedNow, passes_under, phase_quiet, turn_begun_under}
+use Rattle.journal_controls.proofs.journal_acks.link_calls.LinkCalls.{turn_begun_under}
 use Rattle.journal_controls.proofs.journal_links.OfTwo.{are_distinct}
 use Rattle.journal_controls.proofs.journal_packets.AccessOrder.{AreNth}
 use Rattle.journal_controls.proofs.journal_ends.run_laws.ByCalls.{last_turn}
@@ -133,10 +135,6 @@ rests : (words : Words) (given : Given) (history : List Event) (station : ℕ) �
 rests words given history station is = unused words given history station (λ handle. ap (uses_under handle) is)
 
 -- ---- events and calls that leave an end as it is
-
-received_turn : (received : Option (List ℕ)) → is_octet (step_of received) ≡ false
-received_turn None = refl
-received_turn (Some octets) = refl
 
 module _ (words : Words) (given : Given) where
   -- an event that is no call
@@ -265,7 +263,7 @@ module _ (words : Words) (given : Given) (station phases : ℕ) (history : List 
   passed_fixing handle link at number uses (IsNew end made opened off) = absurd (let h : true ≡ false = sym (uses_on handle later.turn.doing uses) ∙ off in absurd cc)
   passed_fixing handle link at number uses (Stays was none nothing listened) =
       let sent = listened (listens_then handle later.turn.doing none uses) in
-      own_still words given station (step_of received) (received_turn received) history lined lined_after in_it handle link at number link was refl
+      own_still words given station (step_of received) (no_octet received) history lined lined_after in_it handle link at number link was refl
       (are handle link was (sends_uses handle held.turn.doing sent))
   passed_fixing handle link at number uses (Takes base octets was some on same) =
       let side = side_of station in
@@ -289,23 +287,9 @@ module _ (words : Words) (given : Given) (station phases : ℕ) (history : List 
 
   passes_fixing : AreFixingOf words given passed station
   passes_fixing = λ handle link at uses.
-      let at_now = held_at words given station (step_of received) history in_it lined lined_after handle link at in
       let used = ap (λ (f : Facts). uses_under handle f.turn.doing) (sym (own_facts given station (step_of received) history)) ∙ uses in
-      let passing = passes_under (setup_at given station) held received handle link phased.uses.in_turn.listens at_now in
-      by handle link at uses used at_now passing (phase_quiet (setup_at given station) held received handle)
-    where
-      by : (handle : ℕ) (link : OpenLink) → link_at handle (facts_at given station (after_call given station (step_of (packet_received station history)) history)).links ≡ Some link
-          → uses_under handle (facts_at given station (after_call given station (step_of (packet_received station history)) history)).turn.doing ≡ true
-          → uses_under handle (facts_after (setup_at given station) (facts_at given station history) (step_of (packet_received station history))).turn.doing ≡ true
-          → link_at handle (facts_after (setup_at given station) (facts_at given station history) (step_of (packet_received station history))).links ≡ Some link
-          → HasPassed (setup_at given station) (facts_at given station history) (has_room (setup_at given station) (facts_at given station history)) (packet_received station history) handle
-          (facts_after (setup_at given station) (facts_at given station history) (step_of (packet_received station history))).turn.doing link
-          → All (OpensNone handle) (notes_after (setup_at given station) (facts_at given station history) (step_of (packet_received station history)))
-          ⊎ ((one : OpenLink) → link_at handle (facts_after (setup_at given station) (facts_at given station history) (step_of (packet_received station history))).links ≡ Some one
-          → IsOpenedNow (facts_at given station history).turn.slot one)
-          → IsFixing words (after_call given station (step_of (packet_received station history)) history) station handle link
-      by handle link at uses used at_now passing (inl quiet) = passed_fixing handle link at (number_called given station (step_of received) history handle quiet) used passing
-      by handle link at uses used at_now passing (inr new) = absurd (new_unused handle link at (new link at_now).opened uses)
+      passed_or_new given station history phased.uses.in_turn.listens (IsFixing words passed station handle link) handle link at
+      (λ number passing. passed_fixing handle link at number used passing) (λ new. absurd (new_unused handle link at new.opened uses))
 
 -- ---- each step
 
@@ -486,7 +470,7 @@ module _ (words : Words) (understood : IsUnderstood) (taken : AreTaken) (nth : A
               seen = seen;
               unfixed = tt;
               aired = received_aired words given station call history has.aired;
-              fixing = fixing_call words given station call (received_turn received) history lined lined_after
+              fixing = fixing_call words given station call (no_octet received) history lined lined_after
                   (passes_fixing words given station phases history lined lined_after in_it phased (seen.holds.so_far.last.each station in_it)
                   (one_slot phases done left station history after in_it phased turns seen) (λ octets. has.aired station octets in_it) (has.fixing station in_it))
                   (λ other in_other differs. has.fixing other in_other);

@@ -1,10 +1,10 @@
 -- Each step of a run of two stations keeps that an end that awaits a packet heard nothing yet in the turn, and that an end
 -- that answers is, by the journal, what it is as the packet has acknowledged its last control PDU.
-use Rattle.std.proofs.Common.{◌≡◌, ℕ, suc, ◌==◌, ◌<◌, ◌⊎◌, inl, inr, Bool, true, false, Option, Some, None, List, [], ◌∷◌, ◌++◌, map, refl, sym, ap, subst, ◌∙◌, arith}
-use Rattle.std.specs.Prelude.{All, take, if◌then◌else◌}
+use Rattle.std.proofs.Common.{◌≡◌, ℕ, suc, ◌==◌, ◌<◌, Bool, true, false, Option, Some, None, List, [], ◌∷◌, ◌++◌, map, refl, sym, ap, subst, ◌∙◌, arith}
+use Rattle.std.specs.Prelude.{take, if◌then◌else◌}
 use Rattle.std.proofs.lemmas.Bool.{eqb-true}
 use Rattle.ble_base.specs.declared.roles.Side.{Side}
-use Rattle.journal_controls.specs.controller_model.Facts.{Facts, Listens, Sends}
+use Rattle.journal_controls.specs.controller_model.Facts.{Facts, Sends}
 use Rattle.journal_controls.specs.controller_model.Heard.{has_room}
 use Rattle.journal_controls.specs.controller_model.Side.{facts_after, notes_after}
 use Rattle.journal_controls.specs.controller_model.Step.{Step as Call, HostOctet, PacketHeard, TurnBegins, TurnEnds}
@@ -25,20 +25,18 @@ use Rattle.journal_controls.specs.run_model.Run.{Given, after_call, after_feed, 
 use Rattle.journal_controls.proofs.ControlledEnds.{whole as control_whole}
 use Rattle.journal_controls.proofs.EventMoves.{keyed_at}
 use Rattle.journal_controls.proofs.FixedEnds.{fixed_in}
-use Rattle.journal_controls.proofs.KeptControls.{AreControlledAt, controls_first, controls_kept}
+use Rattle.journal_controls.proofs.KeptControls.{AreControlledAt, controls_first, controls_kept, none_before}
 use Rattle.journal_controls.proofs.journal_acks.Counting.{IsEndCounted, facts_event, moved as count_moved}
-use Rattle.journal_controls.proofs.journal_acks.Exchanging.{exchange_at, number_at, number_called, number_other, number_sent}
+use Rattle.journal_controls.proofs.journal_acks.Exchanging.{exchange_at, number_at, number_other, number_sent}
 use Rattle.journal_controls.proofs.journal_acks.KeptCounts.{unsent}
-use Rattle.journal_controls.proofs.journal_acks.Standing.{PhasedBy, listener_role, listens_wanted, phased_at}
+use Rattle.journal_controls.proofs.journal_acks.PassedLinks.{passed_or_new}
+use Rattle.journal_controls.proofs.journal_acks.Standing.{PhasedBy, listener_role, phased_at}
 use Rattle.journal_controls.proofs.journal_acks.TwoStations.{IsOfTwo, hearing_of, one_hearing}
-use Rattle.journal_controls.proofs.journal_acks.link_calls.CallNotes.{OpensNone}
-use Rattle.journal_controls.proofs.journal_acks.link_calls.LinkCalls.{IsOpenedNow, passes_under, phase_quiet}
 use Rattle.journal_controls.proofs.journal_ends.EndsKnown.{AreLined, lined_at}
-use Rattle.journal_controls.proofs.journal_ends.KeptSeen.{AreSeenAt}
-use Rattle.journal_controls.proofs.journal_ends.SeenCalls.{IsSeenAt, held_at, moved as seen_moved, seen_in_link, whole as seen_whole}
+use Rattle.journal_controls.proofs.journal_ends.SeenCalls.{IsSeenAt, moved as seen_moved, seen_in_link, whole as seen_whole}
 use Rattle.journal_controls.proofs.journal_ends.SeenEvents.{seen_at}
 use Rattle.journal_controls.proofs.journal_ends.run_laws.DistinctAccess.{AreApart}
-use Rattle.journal_controls.proofs.journal_ends.run_laws.Hearings.{other_facts, own_facts, wanted_is}
+use Rattle.journal_controls.proofs.journal_ends.run_laws.Hearings.{other_facts, own_facts}
 use Rattle.journal_controls.proofs.journal_ends.run_laws.InAgreement.{IsStation, OpenedBefore}
 use Rattle.journal_controls.proofs.journal_ends.run_laws.OpenSteps.{open_has}
 use Rattle.journal_controls.proofs.journal_ends.run_laws.TurnPlaces.{Within, at_stage}
@@ -246,47 +244,16 @@ module _ (words : Words) (given : Given) (station phases : ℕ) (history : List 
 
   passes_unheard : AreUnheardOf words given passed station
   passes_unheard = λ handle link at awaits none.
-      let at_now = held_at words given station (step_of received) history in_it lined lined_after handle link at in
-      by handle link at awaits at_now (passes_under (setup_at given station) held received handle link phased.uses.in_turn.listens at_now)
-      (phase_quiet (setup_at given station) held received handle)
-    where
-      by : (handle : ℕ) (link : OpenLink) → link_at handle (facts_at given station (after_call given station (step_of (packet_received station history)) history)).links ≡ Some link
-          → awaits_under handle (facts_at given station (after_call given station (step_of (packet_received station history)) history)).turn.doing ≡ true
-          → link_at handle (facts_after (setup_at given station) (facts_at given station history) (step_of (packet_received station history))).links ≡ Some link
-          → HasPassed (setup_at given station) (facts_at given station history) (has_room (setup_at given station) (facts_at given station history)) (packet_received station history) handle
-          (facts_after (setup_at given station) (facts_at given station history) (step_of (packet_received station history))).turn.doing link
-          → All (OpensNone handle) (notes_after (setup_at given station) (facts_at given station history) (step_of (packet_received station history)))
-          ⊎ ((one : OpenLink) → link_at handle (facts_after (setup_at given station) (facts_at given station history) (step_of (packet_received station history))).links ≡ Some one
-          → IsOpenedNow (facts_at given station history).turn.slot one)
-          → has_heard words (side_of station) (number_at station handle (after_call given station (step_of (packet_received station history)) history))
-          (journal_of (after_call given station (step_of (packet_received station history)) history)) ≡ false
-      by handle link at awaits at_now passing (inl quiet) = passed_unheard handle link at (number_called given station (step_of received) history handle quiet) awaits passing
-      by handle link at awaits at_now passing (inr new) = absurd (new_unused handle link at (new link at_now).opened (awaits_uses handle now.turn.doing awaits))
+      passed_or_new given station history phased.uses.in_turn.listens
+      (has_heard words (side_of station) (number_at station handle passed) (journal_of passed) ≡ false) handle link at
+      (λ number passing. passed_unheard handle link at number awaits passing)
+      (λ new. absurd (new_unused handle link at new.opened (awaits_uses handle now.turn.doing awaits)))
 
 -- ---- each step
 
 module _ (words : Words) (heard_whole : IsHeardWhole) (understood : IsUnderstood) (taken : AreTaken) (nth : AreNth) (apart : AreApart) (given : Given) (are_two : IsOfTwo given)
     (six : HaveAddresses given) (gives : GivesWords given words) where
   -- ---- a packet
-
-  -- before it, no end has one to take
-  none_before : (phases : ℕ) (done left : List ℕ) (station channel : ℕ) (octets : List ℕ) (history : List Event) → given.stations ≡ done ++ station ∷ left
-      → use_at given station history ≡ Sends channel octets → AreSeenAt words given (AtPackets phases done (station ∷ left)) history
-      → (one handle : ℕ) (link : OpenLink) → is_in one given.stations ≡ true → link_at handle (facts_at given one history).links ≡ Some link
-      → listens_under handle (facts_at given one history).turn.doing ≡ true → packet_received one history ≡ None
-  none_before phases done left station channel octets history are wanted has = λ one handle link in_one at on. by one handle link in_one at on (one == station) refl
-    where
-      by : (one handle : ℕ) (link : OpenLink) → is_in one given.stations ≡ true → link_at handle (facts_at given one history).links ≡ Some link
-          → listens_under handle (facts_at given one history).turn.doing ≡ true → (same : Bool) → (one == station) ≡ same → packet_received one history ≡ None
-      by one handle link in_one at on true same =
-          let place = AtPackets phases done (station ∷ left) in
-          let facts = facts_at given one history in
-          let listens = (phased_at given place history has.holds.hearing.stand one in_one).uses.in_turn.listens in
-          let sends = ap (λ n. use_at given n history) (eqb-true one station same) ∙ wanted in
-          absurd (let h : Sends channel octets ≡ Listens (facts_in link).event.channel =
-          sym sends ∙ sym (wanted_is given one history) ∙ listens_wanted facts handle link facts.turn.doing on listens at in absurd cc)
-      by one handle link in_one at on false differs =
-          has.silent one station in_one (among given.stations done left station are) differs (not_before given.stations done left station (are_distinct given are_two) are)
 
   module _ (phases : ℕ) (done left : List ℕ) (station channel : ℕ) (octets : List ℕ) (fates : List Fate) (history : List Event) (stations_are : given.stations ≡ done ++ station ∷ left)
       (wanted : use_at given station history ≡ Sends channel octets) (has : AreGoingAt words given (AtPackets phases done (station ∷ left)) history) where
@@ -335,7 +302,7 @@ module _ (words : Words) (heard_whole : IsHeardWhole) (understood : IsUnderstood
       was_open = ap (λ (f : Facts). link_at handle f.links) (sym same) ∙ at
 
       none : listens_under handle turn.doing ≡ true → packet_received one history ≡ None
-      none = none_before phases done left station channel octets history stations_are wanted has.controls.seen one handle link in_one was_open
+      none = none_before words given are_two phases done left station channel octets history stations_are wanted has.controls.seen one handle link in_one was_open
 
       unheard_before : awaits_under handle turn.doing ≡ true → has_heard words side number (journal_of history) ≡ false
       unheard_before awaits = has.so_far.unheard one in_one handle link was_open awaits none

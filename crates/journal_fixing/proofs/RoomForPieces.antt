@@ -1,5 +1,5 @@
 -- An end whose host asks only for values in range fixes a piece of data with room for an octet at least.
-use Rattle.std.proofs.Common.{◌≡◌, ◌≤◌, List, [], ◌∷◌, ◌++◌, fold, arith}
+use Rattle.std.proofs.Common.{◌≤◌, List, [], ◌∷◌, ◌++◌, fold, arith}
 use Rattle.ble_base.specs.Limits.{payload_octets}
 use Rattle.journal_controls.specs.link_model.AskRanges.{AreAsksInRange, IsAskInRange}
 use Rattle.journal_controls.specs.link_model.End.{facts_after, facts_of}
@@ -23,7 +23,7 @@ steps_sized setup facts [] p are sized = sized
 steps_sized setup facts (step ∷ steps) p are sized =
     steps_sized setup (facts_after setup facts step) steps (step_past setup facts step p) are.1 (sized_step setup facts step p are.0 sized)
 
-past_lengths : (setup : Setup) (past : List Step) → setup.link.max_rx ≡ payload_octets → AreAsksInRange past → HasLengths (facts_of setup past).control.table.lengths
+past_lengths : (setup : Setup) (past : List Step) → setup.link.max_rx ≤ payload_octets → AreAsksInRange past → HasLengths (facts_of setup past).control.table.lengths
 unfolding facts_of
 past_lengths setup past max are =
     (steps_sized setup (first_facts setup) past (first_past setup) are
@@ -48,7 +48,7 @@ asks_fixing past are = asks_from [] [] past tt tt are
 -- the effective length is 27 octets at least
 pub room_for_piece : (link : OpenLink) → HasRanges link → 1 ≤ (data_cut (facts_fixing link.setup link.past)).limit
 room_for_piece link has =
-    let lengths = past_lengths link.setup (past_fixing link.past) has.max_rx (asks_fixing link.past has.asks) in
+    let lengths = past_lengths link.setup (past_fixing link.past) has.max_rx_to (asks_fixing link.past has.asks) in
     let own = lengths.own in
     let peer = lengths.peer in
     omega (arith, own, peer)

@@ -1,45 +1,28 @@
 -- Both ends of the link of a packet, as it comes on the air and is judged forged although it was not changed.
-use Rattle.std.proofs.Common.{◌≡◌, ◌≢◌, ℕ, ◌+◌, ◌==◌, not, true, false, Some, List, ◌∷◌, ◌++◌, refl, sym, ap, ◌∙◌}
+use Rattle.std.proofs.Common.{◌≡◌, ◌≢◌, ℕ, ◌+◌, not, true, false, Some, List, ◌∷◌, ◌++◌, refl, sym, ap, ◌∙◌}
 use Rattle.std.specs.List.{Contains}
-use Rattle.std.proofs.lemmas.Bool.{eqb-true, false_from_ne_true}
 use Rattle.std.proofs.lemmas.Slice.Eq.{bytes_eq-Decides}
-use Rattle.ble_base.specs.Side.{other_side}
-use Rattle.ble_base.specs.declared.roles.Role.{Role}
-use Rattle.ble_base.specs.declared.roles.Role.TheVariants.{Central, Peripheral}
-use Rattle.ble_base.specs.declared.roles.Side.{Side}
-use Rattle.ble_base.specs.declared.roles.Side.TheVariants.{A, B}
 use Rattle.ble_base.specs.declared.verdicts.Verdict.TheVariants.{Forged}
-use Rattle.journal_controls.specs.journal_acks.HeardBy.{IsHeardByEnd}
-use Rattle.journal_controls.specs.journal_packets.Senders.{IsOfSendersLink}
-use Rattle.journal_controls.specs.link_model.Packets.{verdict_of}
-use Rattle.journal_controls.specs.link_model.Step.{PacketSent}
-use Rattle.journal_controls.specs.open_links.OpenLinks.{OpenLink, facts_in, link_after}
-use Rattle.journal_controls.specs.run_model.History.{Event, Hearing, Transmitted}
-use Rattle.journal_controls.specs.run_model.Journal.{side_of}
-use Rattle.journal_controls.specs.run_model.LinkEnds.{HaveAddresses}
-use Rattle.journal_controls.specs.run_model.Links.{links_of}
-use Rattle.journal_controls.specs.run_model.Numbers.{AreNumbered, HasNumber}
-use Rattle.journal_controls.specs.run_model.Run.{Given, facts_at, history_of, run_of}
-use Rattle.link_calls.specs.run_laws.Ends.{AreEnds, IsOpen, OpenEnd, link_listened}
-use Rattle.link_runs.specs.link_pairs.Hearing.{has_other_keys}
+use Rattle.journal_sealing.specs.journal_controls.journal_acks.HeardBy.{IsHeardByEnd}
+use Rattle.journal_sealing.specs.journal_controls.journal_packets.Senders.{IsOfSendersLink}
+use Rattle.journal_sealing.specs.journal_controls.link_model.Packets.{verdict_of}
+use Rattle.journal_sealing.specs.journal_controls.link_model.Step.{PacketSent}
+use Rattle.journal_sealing.specs.journal_controls.open_links.OpenLinks.{OpenLink, facts_in, link_after}
+use Rattle.journal_sealing.specs.journal_controls.run_model.History.{Event, Hearing, Transmitted}
+use Rattle.journal_sealing.specs.journal_controls.run_model.LinkEnds.{HaveAddresses}
+use Rattle.journal_sealing.specs.journal_controls.run_model.Links.{links_of}
+use Rattle.journal_sealing.specs.journal_controls.run_model.Run.{Given, facts_at, history_of, run_of}
+use Rattle.run_keys.specs.run_pairs.link_calls.run_laws.Ends.{AreEnds, IsOpen, OpenEnd, link_listened}
+use Rattle.journal_sealing.specs.link_runs.link_pairs.Hearing.{has_other_keys}
 use Rattle.radio_replay.specs.Damage.{damaged_packet}
 use Rattle.run_keys.specs.run_pairs.InTurns.{HasSentNow, HearEachInTurn, HearNoMixed}
-use Rattle.journal_acks.proofs.run_laws.DistinctAccess.{AreApart}
-use Rattle.journal_acks.proofs.run_laws.InAgreement.{differs_back}
-use Rattle.journal_acks.proofs.run_laws.OwnLinks.{at_central, at_peripheral, not_same, sender_in}
-use Rattle.journal_acks.proofs.run_laws.SameEvent.{one_event}
-use Rattle.journal_controls.proofs.journal_acks.TwoStations.{IsOfTwo, other_is, other_of}
-use Rattle.journal_controls.proofs.journal_links.OfTwo.{are_distinct}
-use Rattle.journal_controls.proofs.run_model.LinkEnds.{AreTaken, IsUnderstood}
-use Rattle.journal_controls.proofs.run_model.Numbers.{numbered_at}
-use Rattle.journal_controls.proofs.run_model.Stations.{contains_in, is_in}
-use Rattle.journal_data.proofs.OneNumber.{one_connect}
+use Rattle.journal_sealing.proofs.journal_acks.run_laws.DistinctAccess.{AreApart}
+use Rattle.journal_sealing.proofs.journal_controls.journal_acks.TwoStations.{IsOfTwo}
+use Rattle.journal_sealing.proofs.journal_controls.run_model.LinkEnds.{AreTaken, IsUnderstood}
+use Rattle.journal_sealing.proofs.journal_controls.run_model.Stations.{contains_in}
 use Rattle.run_keys.proofs.run_pairs.FarPackets.{listens_is}
-use Rattle.journal_forgeries.proofs.SentNow.{IsSentNow, sends_one}
-
-not_other : (side : Side) → side ≡ other_side side → ⊥
-not_other A is = absurd cc
-not_other B is = absurd cc
+use Rattle.journal_forgeries.proofs.PacketEnds.{of_both}
+use Rattle.journal_forgeries.proofs.SentNow.{IsSentNow}
 
 -- ---- what the laws of both ends give at this place
 
@@ -90,67 +73,11 @@ module _ (understood : IsUnderstood) (taken : AreTaken) (apart : AreApart) (give
   abbrev own : OpenEnd
   own = record { station = listener; handle = by_end.handle; link = by_end.link }
 
-  abbrev pub far_link : OpenLink
+  abbrev far_link : OpenLink
   far_link = link_after (PacketSent (facts_at given station before).turn.slot) now.link
 
-  abbrev pub far : OpenEnd
+  abbrev far : OpenEnd
   far = record { station = station; handle = now.handle; link = far_link }
-
-  differs : (listener == station) ≡ false
-  differs = false_from_ne_true (listener == station) (λ is. not_other (side_of station) (sym (ap side_of (eqb-true listener station is)) ∙ by_end.side_is))
-
-  numbers : AreNumbered given before
-  numbers = numbered_at understood taken given before rest packet (are_distinct given are_two) six at refl
-
-  abbrev own_number : ℕ
-  own_number = (links_of before).link_of listener by_end.handle
-
-  abbrev far_number : ℕ
-  far_number = (links_of before).link_of station now.handle
-
-  own_has : HasNumber before own_number listener by_end.link.setup
-  own_has = numbers listener by_end.handle by_end.link by_end.is_open
-
-  far_has : HasNumber before far_number station now.link.setup
-  far_has = numbers station now.handle far_link now.is_open
-
-  -- both have the number of the packet
-  pub far_number_is : by_end.number ≡ far_number
-  far_number_is =
-      let h : Some by_end.number ≡ Some ((links_of before).link_of station from.handle) = sym (by_end.belongs same) ∙ from.belongs in
-      let number : by_end.number ≡ (links_of before).link_of station from.handle = cc in
-      number ∙ ap ((links_of before).link_of station) (sends_one (facts_at given station before).turn.doing from.handle now.handle from.sends now.sends)
-
-  one_place : own_has.has.before ≡ far_has.has.before
-  one_place = one_connect before own_number far_number listener station by_end.link.setup now.link.setup (sym by_end.number_is ∙ far_number_is) own_has far_has
-
-  one_sender : own_has.has.sent.sender ≡ far_has.has.sent.sender
-  one_sender = (one_event before listener station by_end.link.setup now.link.setup own_has.has far_has.has one_place).sender
-
-  in_own : is_in listener given.stations ≡ true
-  in_own = contains_in given.stations listener by_end.listens
-
-  -- ---- one of them is the central
-
-  both_central : by_end.link.setup.link.role ≡ Central → now.link.setup.link.role ≡ Central → ⊥
-  both_central is is_too =
-      let one : listener ≡ station =
-      sym (at_central by_end.link.setup.link.role listener by_end.link.setup own_has.has.sent is own_has.has.is_at_end) ∙ one_sender
-      ∙ at_central now.link.setup.link.role station now.link.setup far_has.has.sent is_too far_has.has.is_at_end in
-      not_other (side_of station) (sym (ap side_of one) ∙ by_end.side_is)
-
-  both_peripheral : by_end.link.setup.link.role ≡ Peripheral → now.link.setup.link.role ≡ Peripheral → ⊥
-  both_peripheral is is_too =
-      let sender = own_has.has.sent.sender in
-      let in_it = sender_in understood taken apart given six (are_distinct given are_two) before (packet ∷ rest) at listener by_end.link.setup own_has.has in
-      let off = at_peripheral by_end.link.setup.link.role listener by_end.link.setup own_has.has.sent is own_has.has.is_at_end in
-      let off_too = at_peripheral now.link.setup.link.role station now.link.setup far_has.has.sent is_too far_has.has.is_at_end in
-      let other : sender ≡ other_of listener = other_is given are_two listener sender in_own in_it (not_same_back listener sender off) in
-      let there : station ≡ other_of listener = other_is given are_two listener station in_own now.in_it (differs_back listener station differs) in
-      off_too (sym one_sender ∙ other ∙ sym there)
-    where
-      not_same_back : (one sender : ℕ) → sender ≢ one → (sender == one) ≡ false
-      not_same_back one sender off = differs_back one sender (not_same sender one off)
 
   -- ---- it was sent now
 
@@ -165,7 +92,7 @@ module _ (understood : IsUnderstood) (taken : AreTaken) (apart : AreApart) (give
       packet = now.packet;
       channel_is = sym by_end.channel_is ∙ now.channel_is;
     };
-    now = now.one_turn listener in_own;
+    now = now.one_turn listener (contains_in given.stations listener by_end.listens);
   }
 
   listens : link_listened (facts_at given listener before).turn.doing ≡ Some by_end.handle
@@ -176,23 +103,18 @@ module _ (understood : IsUnderstood) (taken : AreTaken) (apart : AreApart) (give
 
   module _ (hear : HearInTurns given before) (pure : HearPure given before by_end.number) (down : ForgedDown given before station octets)
       (up : ForgedUp given before station octets) where
-    heard_by : (one other : Role) → by_end.link.setup.link.role ≡ one → now.link.setup.link.role ≡ other
-        → has_other_keys (facts_in far_link) (facts_in by_end.link) ≡ true
-    heard_by Central Central is is_too = absurd (both_central is is_too)
-    heard_by Peripheral Peripheral is is_too = absurd (both_peripheral is is_too)
-    heard_by Central Peripheral is is_too =
-        let ends : AreEnds before own far =
-        record { of_central = own_has.has; of_peripheral = far_has.has; same = one_place; is_central = is; is_peripheral = is_too } in
-        up own far refl by_end.listens in_station ends (hear own far by_end.listens in_station ends)
-        (pure own far ends by_end.listens in_station (by_end.number_is ∙ own_has.number_is)) by_end.is_open now.is_open listens has_sent judged
-    heard_by Peripheral Central is is_too =
-        let ends : AreEnds before far own =
-        record { of_central = far_has.has; of_peripheral = own_has.has; same = sym one_place; is_central = is_too; is_peripheral = is } in
-        down far own refl in_station by_end.listens ends (hear far own in_station by_end.listens ends)
-        (pure far own ends in_station by_end.listens (far_number_is ∙ far_has.number_is)) by_end.is_open now.is_open listens has_sent judged
+    differ : has_other_keys (facts_in far_link) (facts_in by_end.link) ≡ true
+    differ =
+        of_both understood taken apart given are_two six before rest station channel octets hearing others at by_end from now same
+        (has_other_keys (facts_in far_link) (facts_in by_end.link) ≡ true)
+        (λ ends begun.
+        up own far refl by_end.listens in_station ends (hear own far by_end.listens in_station ends) (pure own far ends by_end.listens in_station begun) by_end.is_open
+        now.is_open listens has_sent judged)
+        (λ ends begun.
+        down far own refl in_station by_end.listens ends (hear far own in_station by_end.listens ends) (pure far own ends in_station by_end.listens begun) by_end.is_open
+        now.is_open listens has_sent judged)
 
     pub other_keys : (facts_in far_link).encryption.end.key ≢ (facts_in by_end.link).encryption.end.key
     other_keys one_key =
-        let differ = heard_by by_end.link.setup.link.role now.link.setup.link.role refl refl in
         absurd (let h : false ≡ true =
         sym (ap not ((bytes_eq-Decides (facts_in far_link).encryption.end.key (facts_in by_end.link).encryption.end.key).1 one_key)) ∙ differ in absurd cc)

@@ -1,6 +1,5 @@
 -- A line of a packet that is judged forged although it was not changed: the keys of both ends differ by the lines before it.
-use Rattle.std.proofs.Common.{◌≡◌, ℕ, ◌&&◌, ◌⊎◌, inl, inr, not, Bool, true, false, Option, Some, List, [], ◌∷◌, ◌++◌, refl, sym, ap, subst, ◌∙◌, arith}
-use Rattle.std.specs.List.{Contains}
+use Rattle.std.proofs.Common.{◌≡◌, ℕ, ◌&&◌, not, Bool, true, false, Option, Some, List, ◌∷◌, ◌++◌, refl, sym, ap, ◌∙◌}
 use Rattle.std.proofs.lemmas.Bool.{eqb-true}
 use Rattle.std.proofs.lemmas.Slice.Eq.{bytes_eq-Decides}
 use Rattle.ble_base.specs.Side.{other_side}
@@ -10,47 +9,41 @@ use Rattle.ble_base.specs.declared.verdicts.Verdict.TheVariants.{Forged}
 use Rattle.journal.specs.declared.entries.Entry.{Entry}
 use Rattle.journal.specs.declared.entries.Entry.TheVariants.{Air}
 use Rattle.journal.specs.declared.entries.Mark.{Mark}
-use Rattle.journal_controls.specs.LineSteps.{keyed_on}
-use Rattle.journal_controls.specs.journal_acks.Exchange.{is_number}
-use Rattle.journal_controls.specs.journal_acks.HeardBy.{IsHeardLine}
-use Rattle.journal_controls.specs.journal_acks.Held.{HasPayloadOfEnd}
-use Rattle.journal_controls.specs.journal_ends.Asked.{Words}
-use Rattle.journal_controls.specs.journal_ends.Left.{left_of}
-use Rattle.journal_controls.specs.journal_packets.Belonging.{link_of_packet}
-use Rattle.journal_controls.specs.link_model.Facts.{keyed_of}
-use Rattle.journal_controls.specs.link_model.keyed_control.Keyed.{Keyed}
-use Rattle.journal_controls.specs.open_links.OpenLinks.{facts_in}
-use Rattle.journal_controls.specs.run_model.History.{Event, Hearing, Transmitted, is_handed}
-use Rattle.journal_controls.specs.run_model.Journal.{journal_of, side_of}
-use Rattle.journal_controls.specs.run_model.LinkEnds.{HaveAddresses}
-use Rattle.journal_controls.specs.run_model.Links.{is_advertising, links_of}
-use Rattle.journal_controls.specs.run_model.Run.{Given, history_of, run_of}
+use Rattle.journal_sealing.specs.journal_controls.LineSteps.{keyed_on}
+use Rattle.journal_sealing.specs.journal_controls.journal_acks.Exchange.{is_number}
+use Rattle.journal_sealing.specs.journal_controls.journal_acks.HeardBy.{IsHeardLine}
+use Rattle.journal_sealing.specs.journal_controls.journal_acks.Held.{HasPayloadOfEnd}
+use Rattle.journal_sealing.specs.journal_controls.journal_ends.Asked.{Words}
+use Rattle.journal_sealing.specs.journal_controls.journal_ends.Left.{left_of}
+use Rattle.journal_sealing.specs.journal_controls.journal_packets.Belonging.{link_of_packet}
+use Rattle.journal_sealing.specs.journal_controls.link_model.Facts.{keyed_of}
+use Rattle.journal_sealing.specs.journal_controls.link_model.keyed_control.Keyed.{Keyed}
+use Rattle.journal_sealing.specs.journal_controls.open_links.OpenLinks.{facts_in}
+use Rattle.journal_sealing.specs.journal_controls.run_model.History.{Event, Hearing, Transmitted, is_handed}
+use Rattle.journal_sealing.specs.journal_controls.run_model.Journal.{journal_of, side_of}
+use Rattle.journal_sealing.specs.journal_controls.run_model.LinkEnds.{HaveAddresses}
+use Rattle.journal_sealing.specs.journal_controls.run_model.Links.{is_advertising, links_of}
+use Rattle.journal_sealing.specs.journal_controls.run_model.Run.{Given, history_of, run_of}
 use Rattle.radio_replay.specs.Damage.{damaged_packet}
-use Rattle.journal_acks.proofs.run_laws.DistinctAccess.{AreApart}
-use Rattle.journal_controls.proofs.journal_acks.TwoStations.{IsOfTwo}
-use Rattle.journal_controls.proofs.journal_links.OfTwo.{are_distinct, of_two_stations}
-use Rattle.journal_controls.proofs.run_model.LinkEnds.{AreTaken, IsUnderstood}
-use Rattle.journal_controls.proofs.run_model.Stations.{is_in}
+use Rattle.journal_sealing.proofs.journal_acks.run_laws.DistinctAccess.{AreApart}
+use Rattle.journal_sealing.proofs.journal_controls.journal_acks.TwoStations.{IsOfTwo}
+use Rattle.journal_sealing.proofs.journal_controls.journal_links.OfTwo.{are_distinct}
+use Rattle.journal_sealing.proofs.journal_controls.run_model.LinkEnds.{AreTaken, IsUnderstood}
+use Rattle.journal_sealing.proofs.journal_controls.journal_ends.ForgedLinks.{left_is}
+use Rattle.journal_data.proofs.Followed.{is_of_two}
 use Rattle.journal_sealing.specs.Mixed.{is_mixed}
-use Rattle.journal_sealing.proofs.Judged.{left_is}
 use Rattle.journal_sealing.proofs.UnmixedEnds.{KeysAreGiven}
 use Rattle.journal_forgeries.specs.Forgeries.{AllForgedAreOfOtherKeys}
-use Rattle.journal_forgeries.proofs.AirEnds.{ForgedDown, ForgedUp, HearInTurns, HearPure, far_link, far_number_is, other_keys}
+use Rattle.journal_forgeries.proofs.AirEnds.{ForgedDown, ForgedUp, HearInTurns, HearPure, other_keys}
+use Rattle.journal_forgeries.proofs.PacketEnds.{far_link, far_number_is}
 use Rattle.journal_forgeries.proofs.SentNow.{sent_now}
 
-contains_of : (given : Given) → IsOfTwo given → (station : ℕ) → is_in station given.stations ≡ true → Contains given.stations station
-contains_of given are station found = by (of_two_stations given are station found)
-  where
-    by : (station ≡ 0) ⊎ (station ≡ 1) → Contains given.stations station
-    by (inl is) = subst (λ xs. Contains xs station) (sym are) (subst (Contains (0 ∷ 1 ∷ [])) (sym is) (0, omega arith, refl))
-    by (inr is) = subst (λ xs. Contains xs station) (sym are) (subst (Contains (0 ∷ 1 ∷ [])) (sym is) (1, omega arith, refl))
-
-on_data : (on named : Bool) → (not on && named) ≡ true → (on ≡ false) × (named ≡ true)
+pub on_data : (on named : Bool) → (not on && named) ≡ true → (on ≡ false) × (named ≡ true)
 on_data false true is = (refl, refl)
 on_data false false is = absurd cc
 on_data true named is = absurd cc
 
-one_number : (found : Option ℕ) (number n : ℕ) → found ≡ Some n → is_number found number ≡ true → n ≡ number
+pub one_number : (found : Option ℕ) (number n : ℕ) → found ≡ Some n → is_number found number ≡ true → n ≡ number
 one_number found number n is named = eqb-true n number (ap (λ may. is_number may number) (sym is) ∙ named)
 
 -- an end by the lines before the packet is the one that the station holds
@@ -111,16 +104,14 @@ forged_line words understood taken apart given are_two six heard payloads keys h
     let station = aired.station in
     let from = payloads before aired.after station channel octets (aired.hearing ∷ aired.others) aired.is_at off in
     let now = sent_now given six (are_distinct given are_two) before aired.after station channel octets (aired.hearing ∷ aired.others) aired.is_at off in
-    let in_station = contains_of given are_two station now.in_it in
+    let in_station = is_of_two given are_two station now.in_it in
     let same : damaged_packet aired.hearing.fate octets ≡ octets =
     sym (ap (λ mark. left_of mark octets) aired.fate_is ∙ left_is aired.hearing.fate octets) ∙ (bytes_eq-Decides (left_of fate octets) octets).0 unchanged in
     let number_is : by_end.number ≡ number =
     one_number (link_of_packet front side octets) number by_end.number
     ((λ i. link_of_packet (aired.front_is i) (aired.side_is i) octets) ∙ by_end.belongs same) parts.1 in
-    let far_is = far_number_is understood taken apart given are_two six before aired.after station channel octets aired.hearing aired.others aired.is_at in_station by_end from.sent now
-    same (sym aired.verdict_is) in
-    let far = far_link understood taken apart given are_two six before aired.after station channel octets aired.hearing aired.others aired.is_at in_station by_end from.sent now
-    same (sym aired.verdict_is) in
+    let far_is = far_number_is understood taken apart given are_two six before aired.after station channel octets aired.hearing aired.others aired.is_at by_end from.sent now same in
+    let far = far_link understood taken apart given are_two six before aired.after station channel octets aired.hearing aired.others aired.is_at by_end from.sent now same in
     let event = Transmitted station channel octets (aired.hearing ∷ aired.others) in
     let one_is = same_end words side (side_of station) number ((links_of before).link_of station now.handle) front (journal_of before) one (keyed_of (facts_in far))
     aired.side_is (sym number_is ∙ far_is) aired.front_is is_one

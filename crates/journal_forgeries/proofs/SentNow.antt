@@ -1,26 +1,27 @@
 -- A packet of a link, as it comes on the air: its sender sent it in this turn, and both stations are in one turn.
-use Rattle.std.proofs.Common.{◌≡◌, ℕ, ◌+◌, inl, inr, true, false, Some, List, ◌∷◌, ◌++◌, sym, ◌∙◌, arith}
-use Rattle.journal_controls.specs.controller_model.declared.doing.Doing.{Doing}
-use Rattle.journal_controls.specs.controller_model.declared.doing.Doing.TheVariants.{CentralSends, PeripheralSends, Rests}
-use Rattle.journal_controls.specs.controller_model.Facts.{Sends}
-use Rattle.journal_controls.specs.controller_model.Sent.{SendsOn}
-use Rattle.journal_controls.specs.link_model.Packets.{packet_sent}
-use Rattle.journal_controls.specs.link_model.Step.{PacketSent}
-use Rattle.journal_controls.specs.open_links.OpenLinks.{OpenLink, facts_in, link_after, link_at}
-use Rattle.journal_controls.specs.run_model.Feeding.{AreDistinct}
-use Rattle.journal_controls.specs.run_model.History.{Event, Hearing, Transmitted, turns_begun}
-use Rattle.journal_controls.specs.run_model.LinkEnds.{HaveAddresses}
-use Rattle.journal_controls.specs.run_model.Links.{is_advertising}
-use Rattle.journal_controls.specs.run_model.Run.{Given, facts_at, history_of, run_of, use_at}
-use Rattle.journal_acks.proofs.run_laws.ByCalls.{first_hears}
-use Rattle.journal_acks.proofs.run_laws.Hearings.{AreHearing, hearing_kept, use_sent_at}
-use Rattle.journal_acks.proofs.run_laws.SentPackets.{IsUseSent}
-use Rattle.journal_acks.proofs.run_laws.TurnPlaces.{stands_first}
-use Rattle.journal_controls.proofs.journal_acks.AirCounts.{advertises}
-use Rattle.journal_controls.proofs.journal_acks.Seen.{seen_packet}
-use Rattle.journal_controls.proofs.journal_acks.Standing.{phased_at}
-use Rattle.journal_controls.proofs.run_model.Stations.{among, is_in}
-use Rattle.journal_controls.proofs.run_model.Walk.{AtPackets}
+use Rattle.std.proofs.Common.{◌≡◌, ℕ, inl, inr, true, false, Some, List, ◌∷◌, ◌++◌, sym, ◌∙◌}
+use Rattle.journal_sealing.specs.journal_controls.controller_model.declared.doing.Doing.{Doing}
+use Rattle.journal_sealing.specs.journal_controls.controller_model.declared.doing.Doing.TheVariants.{CentralSends, PeripheralSends, Rests}
+use Rattle.journal_sealing.specs.journal_controls.controller_model.Facts.{Sends}
+use Rattle.journal_sealing.specs.journal_controls.controller_model.Sent.{SendsOn}
+use Rattle.journal_sealing.specs.journal_controls.link_model.Packets.{packet_sent}
+use Rattle.journal_sealing.specs.journal_controls.link_model.Step.{PacketSent}
+use Rattle.journal_sealing.specs.journal_controls.open_links.OpenLinks.{OpenLink, facts_in, link_after, link_at}
+use Rattle.journal_sealing.specs.journal_controls.run_model.Feeding.{AreDistinct}
+use Rattle.journal_sealing.specs.journal_controls.run_model.History.{Event, Hearing, Transmitted, turns_begun}
+use Rattle.journal_sealing.specs.journal_controls.run_model.LinkEnds.{HaveAddresses}
+use Rattle.journal_sealing.specs.journal_controls.run_model.Links.{is_advertising}
+use Rattle.journal_sealing.specs.journal_controls.run_model.Run.{Given, facts_at, history_of, run_of, use_at}
+use Rattle.journal_sealing.proofs.journal_acks.run_laws.ByCalls.{first_hears}
+use Rattle.journal_sealing.proofs.journal_acks.run_laws.Hearings.{AreHearing, hearing_kept, use_sent_at}
+use Rattle.journal_sealing.proofs.journal_acks.run_laws.InAgreement.{one_slot}
+use Rattle.journal_sealing.proofs.journal_acks.run_laws.SentPackets.{IsUseSent}
+use Rattle.journal_sealing.proofs.journal_acks.run_laws.TurnPlaces.{stands_first}
+use Rattle.journal_sealing.proofs.journal_controls.journal_acks.AirCounts.{advertises}
+use Rattle.journal_sealing.proofs.journal_controls.journal_acks.Seen.{seen_packet}
+use Rattle.journal_sealing.proofs.journal_controls.journal_acks.Standing.{phased_at}
+use Rattle.journal_sealing.proofs.journal_controls.run_model.Stations.{among, is_in}
+use Rattle.journal_sealing.proofs.journal_controls.run_model.Walk.{AtPackets}
 
 pub record IsSentNow (given : Given) (history : List Event) (station channel : ℕ) (octets : List ℕ) : Type 0 where
   pub in_it : is_in station given.stations ≡ true
@@ -38,9 +39,6 @@ sends_one (CentralSends link) handle other is is_too = sym is ∙ is_too
 sends_one (PeripheralSends link) handle other is is_too = sym is ∙ is_too
 sends_one Rests handle other is is_too = absurd is
 sends_one doing handle other is is_too = absurd is
-
-one_slot : (one other turns : ℕ) → one + 1 ≡ turns → other + 1 ≡ turns → one ≡ other
-one_slot one other turns is is_too = omega (arith, is, is_too)
 
 abbrev SentNowAt : Given → List Event → ℕ → ℕ → List ℕ → Type 0
 SentNowAt given history station channel octets = is_advertising channel ≡ false → IsSentNow given history station channel octets

@@ -7,11 +7,11 @@ use Rattle.ble_base.specs.declared.verdicts.Verdict.TheVariants.{Forged}
 use Rattle.journal.specs.declared.entries.Entry.{Entry}
 use Rattle.journal.specs.declared.entries.Entry.TheVariants.{Air}
 use Rattle.journal.specs.declared.entries.Mark.{Mark}
-use Rattle.journal_controls.specs.LineSteps.{keyed_on}
-use Rattle.journal_controls.specs.journal_acks.Shut.{is_of_link}
-use Rattle.journal_controls.specs.journal_ends.Asked.{Words}
-use Rattle.journal_controls.specs.journal_ends.Left.{is_unchanged}
-use Rattle.journal_controls.specs.link_model.keyed_control.Keyed.{Keyed}
+use Rattle.journal_sealing.specs.journal_controls.LineSteps.{keyed_on}
+use Rattle.journal_sealing.specs.journal_controls.journal_acks.Shut.{is_of_link}
+use Rattle.journal_sealing.specs.journal_controls.journal_ends.Asked.{Words}
+use Rattle.journal_sealing.specs.journal_controls.journal_ends.Left.{is_unchanged}
+use Rattle.journal_sealing.specs.journal_controls.link_model.keyed_control.Keyed.{Keyed}
 use Rattle.journal_sealing.specs.Mixed.{is_mixed}
 
 -- by the lines before such a packet, its end and that of the other side have two session keys, unless a line of the link

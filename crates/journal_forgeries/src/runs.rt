@@ -1,10 +1,10 @@
 //! What is forged in a run. The body only calls the laws that it rests on: the contract is the law.
 ghost use Rattle.std.specs.Prelude.{◌≡◌, ◌∷◌, []};
-ghost use Rattle.journal_controls.specs.journal_ends.Asked.{Words};
-ghost use Rattle.journal_controls.specs.journal_ends.GivenWords.{GivesWords};
-ghost use Rattle.journal_controls.specs.run_model.Journal.{journal_of};
-ghost use Rattle.journal_controls.specs.run_model.LinkEnds.{HaveAddresses};
-ghost use Rattle.journal_controls.specs.run_model.Run.{Given, history_of, run_of};
+ghost use Rattle.journal_sealing.specs.journal_controls.journal_ends.Asked.{Words};
+ghost use Rattle.journal_sealing.specs.journal_controls.journal_ends.GivenWords.{GivesWords};
+ghost use Rattle.journal_sealing.specs.journal_controls.run_model.Journal.{journal_of};
+ghost use Rattle.journal_sealing.specs.journal_controls.run_model.LinkEnds.{HaveAddresses};
+ghost use Rattle.journal_sealing.specs.journal_controls.run_model.Run.{Given, history_of, run_of};
 ghost use Rattle.journal_forgeries.specs.Forgeries.{AllForgedAreOfOtherKeys};
 
 /// In a run of two stations, with any number of links each: a packet of a link that reaches the other
@@ -16,12 +16,12 @@ pub fn a_packet_is_forged_only_between_two_keys()
         → HaveAddresses given → GivesWords given words
         → AllForgedAreOfOtherKeys words (journal_of (history_of (run_of given))) }
 {
-    journal_acks::links_of_two_stations_keep_to_the_journal();
-    journal_controls::the_keys_by_lines_are_those_that_the_end_holds();
+    journal_sealing::links_of_two_stations_keep_to_the_journal();
+    journal_sealing::the_keys_by_lines_are_those_that_the_end_holds();
     journal_sealing::ends_hear_no_mixed_packet_while_their_journal_is_not_mixed();
     run_keys::both_ends_hear_each_other_in_turns();
     run_keys::a_packet_is_forged_only_with_other_keys();
-    journal_controls::a_pdu_is_understood();
+    journal_sealing::a_pdu_is_understood();
     advertise::laws::connections_are_taken();
     scan_init::laws::searches_give_each_valid_address();
 }

@@ -8,7 +8,7 @@ use Rattle.host_view.specs.declared.view.Advertising.{Advertising as ViewAdverti
 use Rattle.host_view.specs.View.{View}
 use Rattle.host_view.specs.Changes.{view_after}
 use Rattle.host_view.specs.Refusals.{count_if, is_connectable}
-use Rattle.host_view.specs.Unbuilt.{status_of}
+use Rattle.host_view.specs.Status.{status_of}
 use Rattle.host_view.proofs.TakenCommands.{connection_has_room}
 use Rattle.scan_init.specs.Initiating.{InitiatorFacts}
 use Rattle.journal_data.specs.controller_model.Facts.{Setup}

@@ -52,7 +52,7 @@ opens_notes setup facts octets outcome on pdu fields notes is free = by (free_fr
     by : (found : Option ℕ) → free_from 0 facts.links ≡ found → IsSome found → TakesLink setup facts octets
     by None none some = absurd (let h : false ≡ true = some in absurd cc)
     by (Some handle) found some =
-        let link = link_taken on.params.own pdu fields handle in record {
+        let link = link_taken facts.view on.params.own pdu fields handle in record {
           handle = handle;
           own = link.own;
           peer = link.peer;

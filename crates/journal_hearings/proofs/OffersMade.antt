@@ -34,11 +34,11 @@ use Rattle.journal_data.specs.run_model.LinkEnds.{HaveAddresses}
 use Rattle.journal_data.specs.run_model.Links.{Links, first_links, is_advertising, links_after}
 use Rattle.journal_data.specs.run_model.Run.{Given, after_call, after_feed, after_octets, facts_at, hearings_of, octets_left, setup_at, step_of, use_at}
 use Rattle.journal_data.proofs.run_model.Calls.{fold_called, fold_event}
-use Rattle.journal_data.proofs.run_model.LinkEnds.{IsUnderstood, of_advertising}
+use Rattle.journal_data.proofs.run_model.LinkEnds.{IsUnderstood, of_advertising, wanted_is}
 use Rattle.journal_data.proofs.run_model.Stations.{is_in, among, in_more_other, in_more_same, not_before}
 use Rattle.journal_data.proofs.run_model.Walk.{Place, NoTurn, AtFeeds, AtBegins, AfterPhases, AtPackets, AtListening, AtEnds, IsKept}
 use Rattle.journal_data.proofs.run_laws.ByCalls.{first_hears}
-use Rattle.journal_data.proofs.run_laws.Hearings.{AreHearing, hearing_kept, other_facts, own_facts, wanted_is}
+use Rattle.journal_data.proofs.run_laws.Hearings.{AreHearing, hearing_kept, other_facts, own_facts}
 use Rattle.journal_data.proofs.run_laws.InAgreement.{differs_back}
 use Rattle.journal_data.proofs.run_laws.TurnPlaces.{Within, at_stage, event_past, stands_first}
 use Rattle.journal_data.specs.journal_packets.Belonging.{is_side}
@@ -241,7 +241,7 @@ offers_before setup facts = record {
       let asks = true && does_ask (scan_answer on.params facts.view.accepted on.recent pdu) in none_next (asks_if asks channel pdu) _ (asks_none asks channel pdu) is;
   answered = λ channel octets pdu on doing is_on hears is. none_next Rests _ refl is;
   connects = λ channel octets pdu on access handle doing is_on hears answers next free in_range is.
-      none_next (Connects channel (link_made on.params.own pdu (fields_sent setup on access facts) handle)) _ refl is;
+      none_next (Connects channel (link_made facts.view on.params.own pdu (fields_sent setup on access facts) handle)) _ refl is;
   received = λ handle octets is.
       let replies = replies_in facts.turn.slot (has_room setup facts) (link_at handle facts.links) octets in none_next (reply_if replies handle) _ (replies_none replies handle) is;
 }

@@ -32,7 +32,7 @@ use Rattle.journal_data.proofs.run_model.Doings.{IsWanted, always_wanted}
 use Rattle.journal_data.proofs.run_model.Dues.{run_due}
 use Rattle.journal_data.proofs.run_model.Fates.{turns_are}
 use Rattle.journal_data.proofs.run_model.Handing.{request_unforged}
-use Rattle.journal_data.proofs.run_model.LinkEnds.{AreTaken, IsUnderstood, of_advertising}
+use Rattle.journal_data.proofs.run_model.LinkEnds.{AreTaken, IsUnderstood, of_advertising, wanted_is}
 use Rattle.journal_data.proofs.run_model.LinksKnown.{last_by_call}
 use Rattle.journal_data.proofs.run_model.NoteLines.{note_line}
 use Rattle.journal_data.proofs.run_model.OfStations.{OfStations, run_of_stations}
@@ -42,7 +42,6 @@ use Rattle.journal_data.proofs.run_model.Stations.{is_in}
 use Rattle.journal_data.proofs.run_model.Unseen.{good_is}
 use Rattle.journal_data.proofs.run_laws.ChSel.{one_channel}
 use Rattle.journal_data.proofs.run_laws.DistinctAccess.{AreApart}
-use Rattle.journal_data.proofs.run_laws.Hearings.{wanted_is}
 use Rattle.journal_data.specs.journal_links.Begun.{links_begun}
 use Rattle.journal_data.proofs.journal_links.OfTwo.{are_distinct, of_two_stations, other_of as other_by}
 use Rattle.journal_data.proofs.journal_links.OpenedLines.{opened_note}

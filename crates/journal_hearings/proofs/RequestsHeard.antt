@@ -30,13 +30,13 @@ use Rattle.journal_data.specs.run_model.LinkEnds.{HaveAddresses}
 use Rattle.journal_data.specs.run_model.Links.{is_advertising}
 use Rattle.journal_data.specs.run_model.Run.{Given, facts_at, hearing_at, history_of, reaches, run_of, setup_at, step_of, use_at, verdict_where}
 use Rattle.journal_data.proofs.run_model.EntryEvents.{is_aired}
-use Rattle.journal_data.proofs.run_model.LinkEnds.{IsUnderstood}
+use Rattle.journal_data.proofs.run_model.LinkEnds.{IsUnderstood, wanted_is}
 use Rattle.journal_data.proofs.run_model.OfStations.{OfStations, run_of_stations}
 use Rattle.journal_data.proofs.run_model.Places.{each_at}
 use Rattle.journal_data.proofs.run_model.Stations.{is_in, among}
 use Rattle.journal_data.proofs.run_model.Walk.{AtPackets}
 use Rattle.journal_data.proofs.run_laws.ChSel.{one_channel}
-use Rattle.journal_data.proofs.run_laws.Hearings.{AreHearing, IsHeard, sends_deaf, wanted_is}
+use Rattle.journal_data.proofs.run_laws.Hearings.{AreHearing, IsHeard, sends_deaf}
 use Rattle.journal_data.proofs.run_laws.InAgreement.{differs_back}
 use Rattle.journal_data.proofs.journal_links.OfTwo.{are_distinct}
 use Rattle.journal_data.proofs.journal_acks.Seen.{IsSeen, seen_packet}

@@ -19,7 +19,7 @@ use Rattle.host_answers.proofs.AnswerStatuses.{statuses_of}
 use Rattle.host_answers.proofs.AnswersHeld.{answers_held}
 use Rattle.host_view.specs.View.{View}
 use Rattle.host_view.specs.Changes.{view_after}
-use Rattle.host_view.specs.Unbuilt.{status_of}
+use Rattle.host_view.specs.Status.{status_of}
 use Rattle.journal_data.specs.open_links.declared.offers.Offer.{Offer}
 use Rattle.journal_data.specs.open_links.declared.offers.Offer.TheVariants.{NoLink, Empty, Overflow, Kept}
 use Rattle.journal_data.specs.controller_model.Step.{Step, HostOctet, TurnBegins, PacketHeard, NothingHeard, TurnEnds}
@@ -126,7 +126,7 @@ settings_kept setup policy list = record {
     sent = λ channel link doing. opening_passes (Holds policy list) link facts is;
     responds = λ channel on doing is_on. is;
     taken = λ channel heard pdu on fields handle is_on hears takes free.
-        let link = link_taken on.params.own pdu fields handle in opening_passes (Holds policy list) link facts is;
+        let link = link_taken facts.view on.params.own pdu fields handle in opening_passes (Holds policy list) link facts is;
     scanned = λ channel heard pdu on doing is_on hears. is;
     answered = λ channel heard pdu on doing is_on hears. is;
     connects = λ channel heard pdu on access handle doing is_on hears answers next free in_range. is;

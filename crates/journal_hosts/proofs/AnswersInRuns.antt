@@ -12,7 +12,7 @@ use Rattle.h4_frames.specs.declared.packet.HostPacket.TheVariants.{Command as Ho
 use Rattle.hci_cmd.specs.declared.command.CmdRead.{CmdRead}
 use Rattle.hci_cmd.specs.declared.command.CmdRead.TheVariants.{Known, UnknownOpcode, BadLength}
 use Rattle.hci_cmd.specs.Command.{command_of}
-use Rattle.host_view.specs.Unbuilt.{status_of}
+use Rattle.host_view.specs.Status.{status_of}
 use Rattle.journal_data.specs.controller_model.Answers.{is_host_completed}
 use Rattle.journal_data.specs.controller_model.Facts.{Setup, Facts, first_facts}
 use Rattle.journal_data.specs.controller_model.Host.{commands_after, commands_from, commands_in, commands_of, is_answered, opcodes_of, with_answer}

@@ -435,7 +435,7 @@ module _ (Few Fit : Type 0) where
   early_fits : (station : ℕ) (history : List Event) (note : Note) → ((side : Side) → handles_at side history ≡ None)
       → is_being_fed (side_of station) (journal_of history) ≡ true → IsOfOctet note → FitsNote station history note
   early_fits station history (UpNote packet) early fed one = record {
-    credit = λ is. let count = one is in record {
+    credit = λ is. let count = one.1 is in record {
       fits = subst (λ handles. Fits handles packet.items) (sym (early (side_of station))) count;
       fed = λ none. fed;
       some = λ fit. omega (arith, count);

@@ -19,8 +19,9 @@ use Rattle.hci_evt.specs.Event.{mask_bit_of, written}
 use Rattle.hci_evt.specs.declared.event.Event.{Event}
 use Rattle.hci_evt.specs.declared.event.Event.TheVariants.{DisconnectionComplete, HardwareError, BufferOverflow, ChannelSelection, CompletedPackets}
 use Rattle.host_view.specs.Links.{was_encrypted}
+use Rattle.host_view.specs.Noted.{is_acl_data}
 use Rattle.host_view.specs.View.{View}
-use Rattle.host_view.specs.Unbuilt.{status_of}
+use Rattle.host_view.specs.Status.{status_of}
 use Rattle.journal_data.specs.link_model.declared.setup.LinkSetup.{LinkSetup}
 use Rattle.journal_data.specs.link_model.Packets.{good_pdu}
 use Rattle.journal_data.specs.open_links.declared.ended.LinkEnded.{LinkEnded}
@@ -60,9 +61,9 @@ abbrev pub IsNoCredit : Note → Type 0
 IsNoCredit (Up packet) = is_credit packet.items ≡ false
 IsNoCredit other = ⊤
 
--- a packet to the host, which is of one packet if it is a credit, or a link that is shut
+-- a packet to the host, which is no data, and is of one packet if it is a credit, or a link that is shut
 abbrev pub IsOfOctet : Note → Type 0
-IsOfOctet (Up packet) = is_credit packet.items ≡ true → credit_count packet.items ≡ 1
+IsOfOctet (Up packet) = (is_acl_data packet.items ≡ false) × (is_credit packet.items ≡ true → credit_count packet.items ≡ 1)
 IsOfOctet (Shut handle reason) = ⊤
 IsOfOctet other = ⊥
 
@@ -93,8 +94,13 @@ module _ (P : Note → Type 0) (each : (event : Event) → IsOtherEvent event �
 plain_notes : (view : View) (events : List Event) → AllByRecursion IsOtherEvent events → AreNoCredits (notes_of_events view events)
 plain_notes view events are = plain_each IsNoCredit other_is view events are
 
+event_none : (event : Event) → is_acl_data (written event) ≡ false
+unfolding little_endian
+event_none (CompletedPackets handle count) = refl
+event_none event = refl
+
 plain_one : (event : Event) → IsOtherEvent event → IsOfOctet (Up (record { items = written event }))
-plain_one event is = λ credit. absurd (let h : false ≡ true = sym (other_is event is) ∙ credit in absurd cc)
+plain_one event is = (event_none event, λ credit. absurd (let h : false ≡ true = sym (other_is event is) ∙ credit in absurd cc))
 
 plain_ones : (view : View) (events : List Event) → AllByRecursion IsOtherEvent events → AllByRecursion IsOfOctet (notes_of_events view events)
 plain_ones view events are = plain_each IsOfOctet plain_one view events are
@@ -202,7 +208,7 @@ phase_none setup facts = record {
   sent = λ channel link doing. both (notes_opened facts.view link) [] (opened_none facts.view link) tt;
   responds = λ channel on doing is_on. tt;
   taken = λ channel octets pdu on fields handle is_on hears takes free.
-      let link = link_taken on.params.own pdu fields handle in
+      let link = link_taken facts.view on.params.own pdu fields handle in
       both (notes_opened facts.view link) [] (opened_none facts.view link) tt;
   scanned = λ channel octets pdu on doing is_on hears.
       let answer = scan_answer on.params facts.view.accepted on.recent pdu in
@@ -289,7 +295,7 @@ command_ones setup facts opcode BadLength = answer_ones setup facts opcode BadLe
 offered_ones : (view : View) (offer : Offer) (handle : ℕ) → AllByRecursion IsOfOctet (notes_offered view offer handle)
 unfolding little_endian
 offered_ones view NoLink handle = tt
-offered_ones view Empty handle = ((λ is. refl), tt)
+offered_ones view Empty handle = ((refl, λ is. refl), tt)
 offered_ones view Overflow handle = plain_ones view (BufferOverflow 1 ∷ []) (tt, tt)
 offered_ones view Kept handle = tt
 

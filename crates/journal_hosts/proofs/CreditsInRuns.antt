@@ -14,7 +14,7 @@ use Rattle.journal.specs.declared.entries.Entry.{Entry}
 use Rattle.journal.specs.declared.entries.Entry.TheVariants.{Turn, Air, Shut, Up}
 use Rattle.journal_data.specs.open_links.Data.{complete_in, completed_from}
 use Rattle.journal_data.specs.open_links.OpenLinks.{Links}
-use Rattle.journal_data.specs.controller_model.Data.{event_completed, note_received, notes_ended_turn, facts_handed, notes_handed}
+use Rattle.journal_data.specs.controller_model.Data.{event_completed, notes_ended_turn, facts_handed, notes_handed, notes_pieces, pieces_handed}
 use Rattle.journal_data.specs.controller_model.Events.{notes_of_events}
 use Rattle.journal_data.specs.controller_model.Facts.{Facts}
 use Rattle.journal_data.specs.controller_model.Side.{notes_after}
@@ -49,7 +49,7 @@ use Rattle.journal_hosts.proofs.EndsReported.{lines_more, shut_was_opened}
 use Rattle.journal_hosts.proofs.QuietTurns.{AreQuiet, IsSilent, ends_calm, quiet_first, quiet_kept}
 use Rattle.journal_data.specs.controller_model.Links.{ends_for, notes_leaving}
 use Rattle.journal_data.specs.open_links.Turns.{ending_in}
-use Rattle.journal_hosts.proofs.Calm.{nothing_handed}
+use Rattle.journal_hosts.proofs.Calm.{only_pieces}
 
 -- ---- whether a packet was on the air in the turn
 
@@ -125,33 +125,34 @@ module _ (given : Given) (station : ℕ) (history : List Event) where
   handed_each : (HaveFewBuffers given → EachOpen (λ link. complete_in link ≤ 65535) facts.links) → handles_at (side_of station) history ≡ Some []
       → Each (AllFit given) called_first (map (Noted station) (notes_handed facts))
   handed_each fits none =
-      let pieces = map note_received facts.received in
+      let pieces = notes_pieces facts in
       let events = notes_of_events facts.view (map event_completed (completed_from 0 facts.links)) in
       let many = (own_handles (setup_at given station) (past_of station history)).many in
       subst (Each (AllFit given) called_first) (sym (map_both station pieces events))
       (each_append (AllFit given) called_first (map (Noted station) pieces) (map (Noted station) events)
-      (pieces_each (HaveFewLinks given) (HaveFewBuffers given) station facts.received called_first (ap some_handles (same_called ∙ none)))
+      (pieces_each (HaveFewLinks given) (HaveFewBuffers given) station (pieces_handed facts) called_first (ap some_handles (same_called ∙ none)))
       (ascend (HaveFewLinks given) (HaveFewBuffers given) station facts.view 0 facts.links (called_first ++ map (Noted station) pieces) []
-      (quiet_more (side_of station) station pieces called_first (pieces_none facts.received) ∙ same_called ∙ none)
+      (quiet_more (side_of station) station pieces called_first (pieces_none (pieces_handed facts)) ∙ same_called ∙ none)
       (unended_first (side_of station) (journal_of (called_first ++ map (Noted station) pieces))
-      (ap some_handles (quiet_more (side_of station) station pieces called_first (pieces_none facts.received) ∙ same_called ∙ none))) (λ few. tt) (λ few. let most = few.links station in omega (arith, many, most)) fits))
+      (ap some_handles (quiet_more (side_of station) station pieces called_first (pieces_none (pieces_handed facts)) ∙ same_called ∙ none))) (λ few. tt) (λ few. let most = few.links station in omega (arith, many, most)) fits))
 
-  handed_by : (HaveFewBuffers given → EachOpen (λ link. complete_in link ≤ 65535) facts.links) → (IsSilent history → notes_handed facts ≡ []) → (handles : Option (List ℕ)) → handles_at (side_of station) history ≡ handles → some_handles handles ≡ []
+  handed_by : (HaveFewBuffers given → EachOpen (λ link. complete_in link ≤ 65535) facts.links) → (IsSilent history → notes_handed facts ≡ notes_pieces facts) → (handles : Option (List ℕ)) → handles_at (side_of station) history ≡ handles → some_handles handles ≡ []
       → Each (AllFit given) called_first (map (Noted station) (notes_handed facts))
-  handed_by fits nothing None is none =
+  handed_by fits only None is none =
       let silent : IsSilent history = subst (Counts (turn_packets (journal_of history))) is (counts_of (side_of station) (journal_of history)) in
-      subst (λ notes. Each (AllFit given) called_first (map (Noted station) notes)) (sym (nothing silent)) tt
-  handed_by fits nothing (Some handles) is none = handed_each fits (is ∙ ap Some none)
+      subst (λ notes. Each (AllFit given) called_first (map (Noted station) notes)) (sym (only silent))
+      (pieces_each (HaveFewLinks given) (HaveFewBuffers given) station (pieces_handed facts) called_first (ap some_handles (same_called ∙ is)))
+  handed_by fits only (Some handles) is none = handed_each fits (is ∙ ap Some none)
 
-  end_each : (HaveFewBuffers given → EachOpen (λ link. complete_in link ≤ 65535) facts.links) → (IsSilent history → notes_handed facts ≡ [])
+  end_each : (HaveFewBuffers given → EachOpen (λ link. complete_in link ≤ 65535) facts.links) → (IsSilent history → notes_handed facts ≡ notes_pieces facts)
       → some_handles (handles_at (side_of station) history) ≡ [] → Each (AllFit given) called_first (map (Noted station) (notes_ended_turn facts))
-  end_each fits nothing none =
+  end_each fits only none =
       let handed = notes_handed facts in
       let left = facts_handed facts in
       let leaving = notes_leaving left in
       subst (Each (AllFit given) called_first) (sym (map_both station handed leaving))
       (each_append (AllFit given) called_first (map (Noted station) handed) (map (Noted station) leaving)
-      (handed_by fits nothing (handles_at (side_of station) history) refl none)
+      (handed_by fits only (handles_at (side_of station) history) refl none)
       (leaving_each (HaveFewLinks given) (HaveFewBuffers given) station left.view (ends_for ending_in left) (called_first ++ map (Noted station) handed)
       (leaving_none left)))
 
@@ -347,7 +348,7 @@ order_kept given are_two distinct = let kept = quiet_kept given are_two distinct
         each = each_append (AllFit given) [] history (Called station TurnEnds ∷ map (Noted station) (notes_ended_turn facts)) is.each (
           tt,
           end_each given station history (few_complete given station history (stands_at (AtEnds done (station ∷ left)) station (turns_begun history)) (is.quiet.stand station in_it))
-              (λ silent. nothing_handed facts (ends_calm given distinct done left station history are is.quiet silent))
+              (λ silent. only_pieces facts (ends_calm given distinct done left station history are is.quiet silent))
               (is.within station in_it (not_before given.stations done left station distinct are)),
         );
         within = λ other in_too out. end_handles given are_two done station history in_it is.within other in_too (other == station) refl out;
@@ -367,13 +368,13 @@ run_in_order given are_two distinct =
 
 -- ---- each line
 
-record IsNotedUp (side : Side) (octets : List ℕ) (station : ℕ) (note : Note) : Type 0 where
-  packet : ArrayVec ℕ
-  is : note ≡ UpNote packet
-  side_is : side_of station ≡ side
-  octets_are : packet.items ≡ octets
+pub record IsNotedUp (side : Side) (octets : List ℕ) (station : ℕ) (note : Note) : Type 0 where
+  pub packet : ArrayVec ℕ
+  pub is : note ≡ UpNote packet
+  pub side_is : side_of station ≡ side
+  pub octets_are : packet.items ≡ octets
 
-noted_up : (station : ℕ) (link_of : ℕ → ℕ) (last : ℕ) (note : Note) (side : Side) (octets : List ℕ) → entry_of (side_of station) link_of last note ≡ Up side octets
+pub noted_up : (station : ℕ) (link_of : ℕ → ℕ) (last : ℕ) (note : Note) (side : Side) (octets : List ℕ) → entry_of (side_of station) link_of last note ≡ Up side octets
     → IsNotedUp side octets station note
 noted_up station link_of last (UpNote packet) side octets is = record { packet = packet; is = refl; side_is = cc; octets_are = cc }
 noted_up station link_of last note side octets is = absurd cc

@@ -91,7 +91,7 @@ quiet_front (x ∷ xs) ys none followed (note ∷ earlier) later handle reason i
 turn_followed : (facts : Facts) (setup : Setup) → passes facts.view (Main 4) ≡ true → AreFollowed (notes_after setup facts TurnEnds)
 turn_followed facts setup lets =
     quiet_front (notes_handed facts) (notes_leaving (facts_handed facts)) (handed_not is_shutting (λ octets. refl) facts)
-    (ends_followed facts.view lets (ends_for ending_in (facts_handed facts)))
+    (ends_followed (facts_handed facts).view lets (ends_for ending_in (facts_handed facts)))
 
 -- ---- a link that is shut after the first packet of a turn is shut as the turn ends
 

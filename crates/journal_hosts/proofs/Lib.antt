@@ -8,3 +8,12 @@ pub mod QuietTurns
 pub mod CreditsInRuns
 pub mod WholeCalls
 pub mod EndsFollowed
+pub mod ViewCounts
+pub mod FedCounts
+pub mod LineCounts
+pub mod PieceRoom
+pub mod FlowKept
+pub mod FlowInRuns
+pub mod FirstPieces
+pub mod NotedPieces
+pub mod PiecesInRuns

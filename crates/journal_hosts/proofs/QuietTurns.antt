@@ -1,4 +1,4 @@
--- Before the first packet of a turn no controller has heard one in it, so nothing waits for its host.
+-- Before the first packet of a turn no controller has heard one in it, so each complete packet is reported to its host.
 use Rattle.std.proofs.Common.{◌≡◌, ℕ, ◌-◌, ◌==◌, Bool, true, false, Some, None, List, [], ◌∷◌, ◌++◌, map, refl, sym, ap, subst, ◌∙◌, arith}
 use Rattle.std.specs.Prelude.{⊤, fold, take, if◌then◌else◌}
 use Rattle.std.proofs.lemmas.Bool.{eqb-true}
@@ -9,18 +9,18 @@ use Rattle.ble_base.specs.declared.roles.Side.{Side}
 use Rattle.radio_replay.specs.declared.fates.Fate.{Fate}
 use Rattle.journal_data.specs.controller_model.Between.{is_between_turns}
 use Rattle.journal_data.specs.controller_model.Side.{facts_after, notes_after}
-use Rattle.journal_data.specs.controller_model.Step.{Step, HostOctet, TurnBegins, TurnEnds}
+use Rattle.journal_data.specs.controller_model.Step.{Step, TurnBegins, TurnEnds}
 use Rattle.run_model.specs.Feeding.{AreDistinct}
-use Rattle.run_model.specs.History.{Event, TurnBegan, HostFed, Called, Noted, Transmitted, packet_received, past_of, turns_begun}
+use Rattle.run_model.specs.History.{Event, TurnBegan, Called, Noted, Transmitted, packet_received, past_of, turns_begun}
 use Rattle.run_model.specs.Journal.{air_entries, entries_of, entry_of, journal_from, journal_of, side_of}
 use Rattle.run_model.specs.Links.{Links, links_after, links_of}
 use Rattle.run_model.specs.Readers.{turn_packets, turn_packets_after}
-use Rattle.run_model.specs.Run.{Given, after_call, after_feed, after_octets, facts_at, hearings_of, octets_left, setup_at, step_of}
+use Rattle.run_model.specs.Run.{Given, after_call, facts_at, hearings_of, octets_left, setup_at, step_of}
 use Rattle.run_model.proofs.LinkEnds.{received_by, received_event}
 use Rattle.run_model.proofs.Parts.{journal_event, journal_more}
 use Rattle.run_model.proofs.Stations.{among, in_more_other, in_more_same, is_in, not_before}
 use Rattle.run_model.proofs.Walk.{Place, NoTurn, AtFeeds, AtBegins, AfterPhases, AtPackets, AtListening, AtEnds, IsKept}
-use Rattle.journal_data.proofs.run_laws.Hearings.{other_facts, own_facts}
+use Rattle.journal_data.proofs.run_laws.Hearings.{feed_none, none_called, other_facts, own_facts}
 use Rattle.journal_data.proofs.run_laws.TurnPlaces.{AllStand, Between, Within, at_stage, stands_first, stands_kept}
 use Rattle.journal_data.proofs.journal_acks.TwoStations.{IsOfTwo, one_hearing}
 use Rattle.journal_data.proofs.FedInRuns.{between_standing}
@@ -97,30 +97,6 @@ pub record AreQuiet (given : Given) (place : Place) (history : List Event) : Typ
 pub quiet_first : (given : Given) → AreQuiet given NoTurn []
 unfolding packet_received
 quiet_first given = record { stand = stands_first given; each = λ station is. record { unheard = refl; calm = tt } }
-
--- ---- a host sends
-
-none_by : (given : Given) (station : ℕ) (step : Step) (history : List Event) (other : ℕ) (same : Bool) → (other == station) ≡ same
-    → packet_received other history ≡ None → packet_received other (after_call given station step history) ≡ None
-none_by given station step history other true is none = received_by given other station step history true is
-none_by given station step history other false is none = received_by given other station step history false is ∙ none
-
-none_called : (given : Given) (station : ℕ) (step : Step) (history : List Event) (other : ℕ) → packet_received other history ≡ None
-    → packet_received other (after_call given station step history) ≡ None
-none_called given station step history other none = none_by given station step history other (other == station) refl none
-
-octets_none : (given : Given) (station : ℕ) (octets : List ℕ) (history : List Event) (other : ℕ) → packet_received other history ≡ None
-    → packet_received other (after_octets given station octets history) ≡ None
-octets_none given station [] history other none = none
-octets_none given station (octet ∷ octets) history other none =
-    octets_none given station octets (after_call given station (HostOctet octet) history) other (none_called given station (HostOctet octet) history other none)
-
-feed_none : (given : Given) (station : ℕ) (octets : List ℕ) (history : List Event) (other : ℕ) → packet_received other history ≡ None
-    → packet_received other (after_feed given station octets history) ≡ None
-feed_none given station [] history other none = none
-feed_none given station (octet ∷ octets) history other none =
-    octets_none given station (octet ∷ octets) (history ++ HostFed station (octet ∷ octets) ∷ []) other
-    (received_event other history (HostFed station (octet ∷ octets)) ∙ none)
 
 -- ---- one call of a round
 
@@ -300,7 +276,7 @@ quiet_kept given are_two distinct = let kept = stands_kept given distinct in rec
   };
 }
 
--- as a controller ends a turn in which no packet was on the air, nothing waits for its host
+-- so it is as a controller ends a turn in which no packet was on the air
 pub ends_calm : (given : Given) → AreDistinct given.stations → (done left : List ℕ) (station : ℕ) (history : List Event) → given.stations ≡ done ++ station ∷ left
     → AreQuiet given (AtEnds done (station ∷ left)) history → IsSilent history → IsCalm (facts_at given station history)
 ends_calm given distinct done left station history are is =

@@ -9,17 +9,17 @@ use Rattle.run_model.proofs.Walk.{IsStepped, is_outside, run_stepped}
 
 -- ---- an element of two lists, one after the other
 
-record IsBefore {A : Type 0} (xs : List A) (x : A) (ys zs ws : List A) : Type 0 where
-  more : List A
-  is : zs ≡ xs ++ x ∷ more
-  rest_is : ys ≡ more ++ ws
+pub record IsBefore {A : Type 0} (xs : List A) (x : A) (ys zs ws : List A) : Type 0 where
+  pub more : List A
+  pub is : zs ≡ xs ++ x ∷ more
+  pub rest_is : ys ≡ more ++ ws
 
-record IsAfter {A : Type 0} (xs : List A) (x : A) (ys zs ws : List A) : Type 0 where
-  more : List A
-  is : ws ≡ more ++ x ∷ ys
-  front_is : xs ≡ zs ++ more
+pub record IsAfter {A : Type 0} (xs : List A) (x : A) (ys zs ws : List A) : Type 0 where
+  pub more : List A
+  pub is : ws ≡ more ++ x ∷ ys
+  pub front_is : xs ≡ zs ++ more
 
-place_of : {A : Type 0} (xs : List A) (x : A) (ys zs ws : List A) → zs ++ ws ≡ xs ++ x ∷ ys → IsBefore xs x ys zs ws ⊎ IsAfter xs x ys zs ws
+pub place_of : {A : Type 0} (xs : List A) (x : A) (ys zs ws : List A) → zs ++ ws ≡ xs ++ x ∷ ys → IsBefore xs x ys zs ws ⊎ IsAfter xs x ys zs ws
 place_of xs x ys [] ws is = inr (record { more = xs; is = is; front_is = refl })
 place_of [] x ys (z ∷ zs) ws is =
     let first : z ≡ x = cc in

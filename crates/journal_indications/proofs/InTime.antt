@@ -1,10 +1,9 @@
 -- Where a peripheral enters an event, each indication that it took before came in time.
 use Rattle.std.proofs.Common.{◌≡◌, ℕ, Bool, true, Option, Some, None, List, [], ◌∷◌, ◌++◌, refl, sym, ap, subst, ◌∙◌, append-nil, append_assoc}
-use Rattle.std.specs.Prelude.{◌&&◌, All, is_none}
+use Rattle.std.specs.Prelude.{◌&&◌, All}
 use Rattle.std.specs.List.{Contains, flat_map}
 use Rattle.std.proofs.lemmas.Bool.{eq-eqb}
 use Rattle.ble_base.specs.declared.counters.EventNo.{EventNo}
-use Rattle.ble_base.specs.declared.error_codes.ErrCode.{ErrCode}
 use Rattle.ble_base.specs.declared.notes.Note.{Note}
 use Rattle.ble_base.specs.declared.notes.Note.TheVariants.{Enter as EnterNote}
 use Rattle.ble_base.specs.declared.roles.Role.{Role}
@@ -18,7 +17,7 @@ use Rattle.controller_model.specs.Entering.{IsEntered}
 use Rattle.controller_model.specs.Facts.{Setup}
 use Rattle.controller_model.specs.Side.{facts_of, notes_after}
 use Rattle.controller_model.specs.Step.{Step, TurnBegins}
-use Rattle.controller_model.proofs.Entries.{enters_as_turns_begin, enters_at_anchors}
+use Rattle.controller_model.proofs.Entries.{enters_as_turns_begin, enters_at_anchors, none_of}
 use Rattle.controller_model.proofs.Handles.{own_handles}
 use Rattle.link_changes.specs.InForce.{HasRanges}
 use Rattle.link_changes.specs.Noted.{event_noted, takings_from, takings_noted}
@@ -68,10 +67,6 @@ pub taken_in_time : ((setup : EndSetup) (past : List EndStep) → (setup.link.ro
 taken_in_time come setup past role ends =
     subst (λ r. All IsTakenInTime (takings_noted r (end_notes_of setup past))) role
     (come setup past (λ central. absurd (let h : Central ≡ Peripheral = sym central ∙ role in cc)) ends)
-
-goes_on_still : (ends : Option ErrCode) → is_none ends ≡ true → ends ≡ None
-goes_on_still None is = refl
-goes_on_still (Some code) is = absurd cc
 
 -- a note of an indication in force is of none that is taken
 none_applied : (handle event number : ℕ) (applied : Option ℕ) → takings_from Peripheral number (applied_notes handle event applied) ≡ []
@@ -175,7 +170,7 @@ module _ (understood : IsUnderstood) (taken : AreTaken) (given : Given) (are_two
     line_in_time link is_link is_peripheral =
         subst (All IsTakenInTime) (sym same_taken)
         (come end.setup end.past (sym (role_of_end link of.link_begun end.setup.link.role side (sym of.is_link ∙ is_link) of.central_is) ∙ is_peripheral)
-        (goes_on_still (facts_in end).control.ends entered.is_on))
+        (none_of (facts_in end).control.ends entered.is_on))
 
   pub came_in_time : AllCameInTime (journal_of (history_of (run_of given)))
   came_in_time front rest side number event channel link is is_link is_peripheral =

@@ -1,5 +1,5 @@
 -- The change that a peripheral reads, where its Instant has not passed, is the one that its central sent last.
-use Rattle.std.proofs.Common.{◌≡◌, ℕ, ◌<◌, ◌⊎◌, Bool, true, false, Some, List, [], ◌∷◌, ◌++◌, map, refl, sym, ap, subst, ◌∙◌, append-nil}
+use Rattle.std.proofs.Common.{◌≡◌, ℕ, ◌<◌, Bool, true, false, Some, List, [], ◌∷◌, ◌++◌, map, refl, sym, ap, subst, ◌∙◌, append-nil}
 use Rattle.std.specs.List.{Contains, flat_map}
 use Rattle.arrayvec.specs.ArrayVec.{ArrayVec}
 use Rattle.ble_base.specs.Side.{other_side}
@@ -64,12 +64,13 @@ use Rattle.journal_agreement.proofs.journal_data.run_model.Notes.{NotedBefore, r
 use Rattle.journal_agreement.proofs.journal_data.run_model.Numbers.{numbered_at}
 use Rattle.journal_agreement.proofs.journal_data.run_model.Places.{each_at}
 use Rattle.journal_agreement.proofs.journal_data.run_model.Stations.{is_in}
+use Rattle.run_indications.proofs.run_pairs.FarPackets.{listens_is}
 use Rattle.journal_indications.proofs.FarEnds.{far_before}
 use Rattle.journal_indications.proofs.InTime.{role_of_end}
 use Rattle.journal_indications.proofs.LineEnds.{IsEndOfLine, end_of_line, in_it, notes_before}
 use Rattle.journal_agreement.proofs.journal_data.NumberedEnds.{same_link}
 use Rattle.journal_agreement.proofs.journal_data.PairedEnds.{are_ends, far_end, far_side, own_end}
-use Rattle.journal_indications.proofs.Receptions.{IsReception, listened, reception_of}
+use Rattle.journal_indications.proofs.Receptions.{IsReception, reception_of}
 
 -- ---- what is known of one end, and of two
 
@@ -247,7 +248,7 @@ module _ (whole : IsHeardWhole) (understood : IsUnderstood) (taken : AreTaken) (
           (call.called ∙ ap (λ s. call.base ++ Called call.station s ∷ call.after) heard.step_is) two.ends
           (hear_in_call given mixed follows are_two front line call unmixed heard.octets heard.step_is (number_at call.station call.handle call.base)
           (far_end given call.station call.base call.handle far) (own_end call.station call.handle end) in_far on two of.number_is) far.is_open heard.is_open
-          (listened call.handle (facts_at given call.station call.base).turn.doing heard.listens)
+          (listens_is call.handle (facts_at given call.station call.base).turn.doing heard.listens)
           heard.notes_are says (subst (λ n. gap_ahead n indication < 32767) event_is in_time) in
           subst (IsLastSent (taking_of event indication).change) (sym sent_is)
           (last_sent (facts_in far.far).control.sent (taking_of event indication).change (last ∙ ap (λ n. Some (taking_of n indication).change) (sym event_is)))

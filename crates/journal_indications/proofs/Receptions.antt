@@ -2,14 +2,13 @@
 use Rattle.std.proofs.Common.{◌≡◌, ℕ, ◌==◌, Bool, true, false, Option, Some, None, List, [], ◌∷◌, ◌++◌, fold, refl, sym, ap, subst, ◌∙◌, append_assoc}
 use Rattle.std.specs.Prelude.{All, if◌then◌else◌}
 use Rattle.std.specs.List.{flat_map}
-use Rattle.std.proofs.lemmas.Bool.{eq-eqb, eqb-true}
+use Rattle.std.proofs.lemmas.Bool.{eq-eqb}
 use Rattle.std.proofs.lemmas.List.Elements.{All-append, All-from_recursion, All-head, All-tail}
 use Rattle.std.proofs.lemmas.List.Sums.{fold-append}
 use Rattle.arrayvec.specs.ArrayVec.{ArrayVec}
 use Rattle.ble_base.specs.declared.notes.Note.{Note}
 use Rattle.ble_base.specs.declared.notes.Note.TheVariants.{Enter, Took}
-use Rattle.controller_model.specs.declared.doing.Doing.{Doing}
-use Rattle.controller_model.specs.declared.doing.Doing.TheVariants.{Advertises, CentralListens, PeripheralListens}
+use Rattle.controller_model.specs.declared.doing.Doing.TheVariants.{PeripheralListens}
 use Rattle.controller_model.specs.Events.{notes_of_events}
 use Rattle.controller_model.specs.Facts.{Setup, Facts}
 use Rattle.controller_model.specs.Heard.{events_received, has_room, link_heard, link_received, notes_taken, replies_in, reply_if}
@@ -27,9 +26,9 @@ use Rattle.journal_agreement.specs.journal_data.link_model.Packets.{good_pdu}
 use Rattle.journal_agreement.specs.journal_data.link_model.Receiving.{received_notes}
 use Rattle.journal_agreement.specs.journal_data.link_model.Step.{PacketReceived}
 use Rattle.journal_agreement.specs.journal_data.open_links.OpenLinks.{OpenLink, facts_in, link_at}
-use Rattle.journal_agreement.specs.journal_data.run_laws.Ends.{link_listened}
 use Rattle.journal_agreement.specs.journal_data.run_model.Run.{step_of}
 use Rattle.journal_agreement.proofs.journal_data.journal_acks.HandedOn.{forged_unread, judged_link}
+use Rattle.journal_agreement.proofs.journal_data.journal_acks.NewPdus.{in_middle}
 use Rattle.journal_agreement.proofs.journal_data.journal_acks.PhaseNotes.{IsOnLink, IsPhaseOf, IsPlainPhase, phase_of}
 use Rattle.journal_agreement.proofs.journal_data.journal_acks.Worded.{link_worded, worded, worded_here}
 use Rattle.run_indications.proofs.run_pairs.WordedNotes.{worded_notes}
@@ -41,16 +40,11 @@ use Rattle.journal_agreement.specs.journal_data.journal_acks.link_calls.Uses.{li
 
 -- ---- lists of notes
 
--- a fact of all notes is one of each
-one_of : (P : Note → Type 0) (earlier later : List Note) (note : Note) → All P (earlier ++ note ∷ later) → P note
-one_of P [] later note all = All-head P note later all
-one_of P (first ∷ earlier) later note all = one_of P earlier later note (All-tail P first (earlier ++ note ∷ later) all)
-
 -- a note of a PDU that is taken is not among notes that take none
 not_among : (notes earlier later : List Note) (handle count llid : ℕ) (body : ArrayVec ℕ) (X : Type 0)
     → notes ≡ earlier ++ Took handle count llid body ∷ later → All TakesNone notes → X
 not_among notes earlier later handle count llid body X is none =
-    absurd (let h : true ≡ false = one_of TakesNone earlier later (Took handle count llid body) (subst (All TakesNone) is none) in absurd cc)
+    absurd (let h : true ≡ false = in_middle TakesNone earlier later (Took handle count llid body) (subst (All TakesNone) is none) in absurd cc)
 
 record HasRest (notes earlier : List Note) (note : Note) : Type 0 where
   rest : List Note
@@ -135,13 +129,6 @@ not_forged facts handle link octets room earlier rest note at on is = λ forged.
     none_before [] none = absurd cc
     none_before (one ∷ more) none = absurd cc
 
--- where it listens
-pub listened : (handle : ℕ) (doing : Doing) → listens_under handle doing ≡ true → link_listened doing ≡ Some handle
-listened handle (CentralListens other) on = ap Some (eqb-true other handle on)
-listened handle (PeripheralListens other) on = ap Some (eqb-true other handle on)
-listened handle (Advertises channel) on = absurd cc
-listened handle other on = absurd cc
-
 -- what the end of a link notes of a packet is the same where it was given words
 pub same_notes : (words : Bool) (setup : Setup) (facts : Facts) (link : OpenLink) (slot : ℕ) (room : Bool) (octets : List ℕ)
     → notes_taken slot room (Some (link_worded words setup facts link)) octets ≡ notes_taken slot room (Some link) octets
@@ -205,7 +192,7 @@ module _ (setup : Setup) (past : List Step) (earlier later : List Note) (handle 
         let notes = sym (same_notes words setup facts link slot room octets) ∙ found.is in
         let all = subst (All (IsOfPacket link.setup.link.handle)) notes (all_of_packet slot room octets link) in
         let own : link.setup.link.handle ≡ handle =
-        (one_of (IsOfPacket link.setup.link.handle) earlier found.rest note all).names handle count llid body refl in
+        (in_middle (IsOfPacket link.setup.link.handle) earlier found.rest note all).names handle count llid body refl in
         let under : link.setup.link.handle ≡ other = handle_is 0 other facts.links link (own_handles setup past).handles at in
         let same : other ≡ handle = sym under ∙ own in record {
           octets = octets;

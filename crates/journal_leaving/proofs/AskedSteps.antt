@@ -10,12 +10,12 @@ use Rattle.journal_controls.specs.link_model.Step.{Step, Disconnected, KeyAnswer
 use Rattle.journal_controls.specs.link_model.Times.{ended_by_procedures, ending_of}
 use Rattle.journal_controls.specs.link_model.declared.state.Leaving.{Leaving}
 use Rattle.journal_controls.proofs.controller_model.Asked.{IsAskedStep}
-use Rattle.journal_controls.proofs.journal_ends.HostedLinks.{IsHostStep, host_ends}
+use Rattle.journal_controls.proofs.journal_ends.HostedLinks.{host_ends}
 use Rattle.journal_leaving.specs.Lacking.{leaving_answering}
 use Rattle.journal_leaving.specs.Leaving.{leaving_asking}
 
 -- a step that a host asks of a link is one of a host
-pub host_step : (step : Step) → IsAskedStep step → IsHostStep step
+pub host_step : (step : Step) → IsAskedStep step → IsAskedStep step
 host_step (ProcedureAsked ask) is = tt
 host_step (RequestAnswered answer) is = tt
 host_step (KeyAnswered key slot) is = tt
@@ -29,7 +29,7 @@ pub key_leaves : (setup : Setup) (facts : Facts) (key : Option (List ℕ)) (slot
 key_leaves setup facts None slot = refl
 key_leaves setup facts (Some ltk) slot = refl
 
-pub step_leaves : (setup : Setup) (facts : Facts) (step : Step) → IsHostStep step
+pub step_leaves : (setup : Setup) (facts : Facts) (step : Step) → IsAskedStep step
     → (facts_after setup facts step).leaving ≡ leaving_asking step (leaving_answering (keyed_of facts) facts.leaving step)
 step_leaves setup facts (ProcedureAsked ask) by_host = by (is_to_come ask facts)
   where
@@ -51,7 +51,7 @@ same_ending : (ends : Option ErrCode) (leaving more : Leaving) → more.acknowle
 same_ending None leaving more acked answered peer = λ i. if acked i then Some (record { 0 = terminated_by_local_host }) else (if answered i then peer i else None)
 same_ending (Some code) leaving more acked answered peer = λ i. if acked i then Some (record { 0 = terminated_by_local_host }) else Some code
 
-leaves_ending : (setup : Setup) (facts : Facts) (ends : Option ErrCode) (step : Step) → IsHostStep step
+leaves_ending : (setup : Setup) (facts : Facts) (ends : Option ErrCode) (step : Step) → IsAskedStep step
     → ending_by ends (facts_after setup facts step).leaving ≡ ending_by ends facts.leaving
 leaves_ending setup facts ends (ProcedureAsked ask) by_host = ap (ending_by ends) (step_leaves setup facts (ProcedureAsked ask) by_host)
 leaves_ending setup facts ends (RequestAnswered answer) by_host = refl
@@ -64,7 +64,7 @@ leaves_ending setup facts ends (Disconnected reason slot) by_host =
     same_ending ends facts.leaving (facts_after setup facts (Disconnected reason slot)).leaving refl refl refl
 leaves_ending setup facts ends other by_host = absurd by_host
 
-pub step_ending : (setup : Setup) (facts : Facts) (step : Step) → IsHostStep step → ending_of (facts_after setup facts step) ≡ ending_of facts
+pub step_ending : (setup : Setup) (facts : Facts) (step : Step) → IsAskedStep step → ending_of (facts_after setup facts step) ≡ ending_of facts
 step_ending setup facts step by_host =
     ap (λ ends. ending_by ends (facts_after setup facts step).leaving) (host_ends setup facts step by_host)
     ∙ leaves_ending setup facts facts.control.ends step by_host

@@ -43,12 +43,13 @@ use Rattle.journal_controls.specs.link_model.procedures.Going.{closing_given, gr
 use Rattle.journal_controls.specs.link_model.procedures.Table.{TableFacts}
 use Rattle.journal_controls.specs.link_model.procedures.declared.outcome.Outcome.{Outcome}
 use Rattle.journal_controls.specs.link_model.procedures.Taking.{facts_with, lacks_room, no_room, outcome_of, settled}
+use Rattle.journal_controls.proofs.link_model.Ending.{entered_stays as entered_leaving, gone_stays as gone_leaving}
 use Rattle.journal_controls.proofs.link_model.KeyedPasts.{over, past_in_phase}
 use Rattle.journal_controls.proofs.link_model.KeyedSteps.{forged_ends, one_step}
 use Rattle.journal_controls.proofs.link_model.KnownEnds.{IsPast, first_past, step_past}
 use Rattle.journal_controls.proofs.link_model.phased_end.keyed_control.Phases.{phased_all}
 use Rattle.journal_controls.proofs.link_model.phased_end.keyed_control.phased_control.Calling.{makes_all_phased}
-use Rattle.journal_leaving.proofs.EndLeaving.{data_leaving, entered_leaving, forged_leaving, gone_leaving, sent_leaving}
+use Rattle.journal_leaving.proofs.EndLeaving.{data_leaving, forged_leaving, sent_leaving}
 
 -- ---- no call opens a link again that is to end
 

@@ -21,13 +21,13 @@ use Rattle.journal_controls.specs.link_model.Acknowledgement.{Pdu, bits_of, is_a
 use Rattle.journal_controls.specs.link_model.Controls.{goes_on, is_procedure_pdu, is_quiet_now, is_terminate, pdu_fixed, read_of}
 use Rattle.journal_controls.specs.link_model.Data.{is_control, is_data, is_empty, numbered}
 use Rattle.journal_controls.specs.link_model.End.{facts_after, notes_after}
-use Rattle.journal_controls.specs.link_model.Entering.{began_notes, done_notes, event_notes, facts_entered, facts_entered_if}
+use Rattle.journal_controls.specs.link_model.Entering.{began_notes, done_notes, event_notes, facts_entered}
 use Rattle.journal_controls.specs.link_model.Events.{applied_notes}
 use Rattle.journal_controls.specs.link_model.Facts.{Facts, keyed_of}
 use Rattle.journal_controls.specs.link_model.Packets.{good_pdu, is_forged}
 use Rattle.journal_controls.specs.link_model.Payload.{end_accepting}
 use Rattle.journal_controls.specs.link_model.Receiving.{accepted_if, accepts, acked_kind, acknowledged_if, acks_control, answers_with_control, code_of, counts_accepted, data_taken_if, facts_before_taking, facts_forged_if, facts_hearing, facts_received, given_if, given_notes, has_acknowledged, heard_in_slot, kept_given_if, leaving_acked_if, leaving_by, notes_hearing, procedures_give, procedures_take_if, received_notes, refused_notes, took_notes_if}
-use Rattle.journal_controls.specs.link_model.Sending.{control_gone_if, leaving_sent, sent_notes_if, takes_leave}
+use Rattle.journal_controls.specs.link_model.Sending.{leaving_sent, sent_notes_if, takes_leave}
 use Rattle.journal_controls.specs.link_model.Setup.{Setup}
 use Rattle.journal_controls.specs.link_model.Step.{EventEntered, PacketReceived, PacketSent}
 use Rattle.journal_controls.specs.link_model.Verdicts.{pdu_of}
@@ -47,6 +47,7 @@ use Rattle.journal_controls.proofs.EndMoves.{no_answer}
 use Rattle.journal_controls.proofs.EndSteps.{accepted_moves, before_response, left_of, not_true, received_is}
 use Rattle.journal_controls.proofs.NotedSteps.{accepts_if, empty_none, steps_accepted}
 use Rattle.journal_controls.proofs.TakingLines.{answer_where}
+use Rattle.journal_controls.proofs.link_model.Ending.{entered_stays, gone_stays}
 use Rattle.journal_leaving.specs.Lacking.{leaving_refusing}
 use Rattle.journal_leaving.specs.Leaving.{acks_terminate, leaving_saying}
 use Rattle.journal_controls.specs.Hearing.{keyed_hearing}
@@ -168,10 +169,6 @@ module _ (side : Side) (number : ℕ) where
           (left_by (is_procedure_pdu pdu) response slot pdu k l))
 
 -- ---- an end that hears
-
-pub gone_leaving : (goes : Bool) (slot : ℕ) (facts : Facts) → (control_gone_if goes slot facts).leaving ≡ facts.leaving
-gone_leaving true slot facts = refl
-gone_leaving false slot facts = refl
 
 -- a PDU that counts as it is accepted gives what it would
 taken_alike : (handed : Bool) (one other : TakenKeyed) → one.taken ≡ other.taken → (if handed then one else nothing_keyed).taken ≡ (if handed then other else nothing_keyed).taken
@@ -331,16 +328,12 @@ hearing_told slot setup facts before after last pdu told =
     let own = acknowledged_if acks (heard_in_slot slot header.md facts) in
     let acked_is = acks_by acks before.acked after.acked facts.acknowledgement.acked last facts.acknowledgement.last told.acked_before told.acked_after
     (λ is. told.last_is (not_true (is_acked facts.acknowledgement) (left_of (not (is_acked facts.acknowledgement)) (acknowledges (bits_of facts.acknowledgement) header) is))) in
-    ap (λ b. leaving_acked_if b facts.leaving) acked_is ∙ sym (gone_leaving (answers_with_control setup.link.role own) slot own)
+    ap (λ b. leaving_acked_if b facts.leaving) acked_is ∙ sym (gone_stays (answers_with_control setup.link.role own) slot own)
 
 -- ---- an end that enters an event, fixes its PDU, or sends
 
-pub entered_leaving : (goes : Bool) (setup : Setup) (slot : ℕ) (facts : Facts) → (facts_entered_if goes setup slot facts).leaving ≡ facts.leaving
-entered_leaving true setup slot facts = refl
-entered_leaving false setup slot facts = refl
-
 pub entered_leaves : (slot : ℕ) (setup : Setup) (facts : Facts) → (facts_after setup facts (EventEntered slot)).leaving ≡ facts.leaving
-entered_leaves slot setup facts = entered_leaving (goes_on facts) setup slot facts
+entered_leaves slot setup facts = entered_stays (goes_on facts) setup slot facts
 
 pub sent_leaving : (slot : ℕ) (setup : Setup) (facts : Facts) → (facts_after setup facts (PacketSent slot)).leaving ≡ leaving_sent facts.leaving
-sent_leaving slot setup facts = ap leaving_sent (gone_leaving (takes_leave facts) slot facts)
+sent_leaving slot setup facts = ap leaving_sent (gone_stays (takes_leave facts) slot facts)

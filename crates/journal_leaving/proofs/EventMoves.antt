@@ -34,11 +34,12 @@ use Rattle.journal_controls.specs.run_model.Links.{links_of}
 use Rattle.journal_controls.specs.run_model.Readers.{PairOpening, fed_in, fed_to_side, pair_openings_in, turns_of}
 use Rattle.journal_controls.specs.run_model.Run.{Given, after_call, facts_at, setup_at}
 use Rattle.journal_controls.proofs.EarlyTakings.{AreGiven, IsEarly, early_given, early_none, taking_early}
-use Rattle.journal_controls.proofs.EventMoves.{AnswersNone, air_line, aired, drawn_at, is_taken, keyed_at, named_alike, note_takes, turn_at, withholds_at}
+use Rattle.journal_controls.proofs.EventMoves.{AnswersNone, air_line, aired, drawn_at, first_none, is_taken, keyed_at, last_none, named_alike, note_takes, turn_at, withholds_at}
 use Rattle.journal_controls.proofs.LineFolds.{IsNamed, Others, Own, keyed_more, line_moves as line_keyed, moved_both, named_by}
 use Rattle.journal_controls.proofs.journal_acks.link_calls.CallNotes.{TakesNone, is_taking, none_taken, octet_noted}
 use Rattle.journal_controls.proofs.journal_ends.SeenEvents.{lines_at, note_hears, unaccepted_by, unanswered_in, unasked_in}
 use Rattle.journal_controls.proofs.journal_links.LinkLines.{line_more}
+use Rattle.journal_controls.proofs.run_model.Journals.{note_fed, note_turns}
 use Rattle.journal_controls.proofs.run_model.Parts.{journal_event}
 use Rattle.journal_leaving.specs.Leaving.{acks_terminate, is_own_packet, leaving_after, leaving_on}
 use Rattle.journal_leaving.specs.Said.{leaving_said}
@@ -75,14 +76,6 @@ leaves_alike withheld one other slot line named k l (Own is) same =
     ∙ sym (ap (λ lines. leaving_said withheld other slot lines k l) is)
 leaves_alike withheld one other slot line named k l (Others none) same =
     ap (λ lines. leaving_said withheld one slot lines k l) none ∙ sym (ap (λ lines. leaving_said withheld other slot lines k l) none)
-
-first_none : (lines more : List Entry) → NoneOpens (lines ++ more) → NoneOpens lines
-first_none [] more none = tt
-first_none (line ∷ lines) more none = (none.0, first_none lines more none.1)
-
-last_none : (lines more : List Entry) → NoneOpens (lines ++ more) → NoneOpens more
-last_none [] more none = none
-last_none (line ∷ lines) more none = last_none lines more none.1
 
 record AreNone (lines more : List Entry) : Type 0 where
   first : lines ≡ []
@@ -152,14 +145,6 @@ note_sends : (number : ℕ) (side other : Side) (front : List Entry) (link_of : 
 note_sends number side other front link_of last (Up packet) = refl
 note_sends number side other front link_of last note = refl
 
-note_begins : (other : Side) (link_of : ℕ → ℕ) (last : ℕ) (note : Note) → pair_openings_in (entry_of other link_of last note) ≡ []
-note_begins other link_of last (Up packet) = refl
-note_begins other link_of last note = refl
-
-note_feeds : (side other : Side) (link_of : ℕ → ℕ) (last : ℕ) (note : Note) → fed_in side (entry_of other link_of last note) ≡ []
-note_feeds side other link_of last (Up packet) = refl
-note_feeds side other link_of last note = refl
-
 note_moving : (words : Words) (response : Response) (number : ℕ) (side : Side) (history : List Event) (station : ℕ) (note : Note) → IsQuiet side station note
     → (is_taking note ≡ true → drawn_at words side history ≡ response) → IsMoving words response number side history (history ++ Noted station note ∷ [])
 note_moving words response number side history station note quiet gives =
@@ -169,8 +154,8 @@ note_moving words response number side history station note quiet gives =
     (note_hears number side (side_of station) front (links.link_of station) (links.last_of station) note)
     (unaccepted_by side front _ (quiet (links.link_of station) (links.last_of station)))
     (note_sends number side (side_of station) front (links.link_of station) (links.last_of station) note)
-    (note_begins (side_of station) (links.link_of station) (links.last_of station) note)
-    (note_feeds side (side_of station) (links.link_of station) (links.last_of station) note)
+    (note_turns (side_of station) (links.link_of station) (links.last_of station) note)
+    (note_fed side (side_of station) (links.link_of station) (links.last_of station) note)
     (λ takes. gives (sym (note_takes (side_of station) (links.link_of station) (links.last_of station) note) ∙ takes))
 
 none_moving : (words : Words) (response : Response) (number : ℕ) (side : Side) (history after : List Event) → journal_of after ≡ journal_of history

@@ -1,8 +1,7 @@
 -- In a run of two stations each open end is due as its lines tell until its station begins the turn, and then it is not.
-use Rattle.std.proofs.Common.{◌≡◌, ℕ, suc, ◌+◌, ◌-◌, ◌≤◌, ◌==◌, ◌⊎◌, inl, inr, not, Bool, true, false, Option, Some, None, List, [], ◌∷◌, ◌++◌, replicate, refl, sym, ap, subst, ◌∙◌, append_assoc, arith}
-use Rattle.std.specs.Prelude.{All, ⊤, fold, map, take, if◌then◌else◌}
+use Rattle.std.proofs.Common.{◌≡◌, ℕ, suc, ◌+◌, ◌-◌, ◌≤◌, ◌==◌, not, Bool, true, false, Option, Some, None, List, [], ◌∷◌, ◌++◌, replicate, refl, sym, ap, subst, ◌∙◌, append_assoc, arith}
+use Rattle.std.specs.Prelude.{⊤, map, take, if◌then◌else◌}
 use Rattle.std.proofs.lemmas.Bool.{eqb-true}
-use Rattle.std.proofs.lemmas.List.Sums.{fold-append}
 use Rattle.ble_base.specs.declared.roles.Side.{Side}
 use Rattle.journal_controls.specs.controller_model.Facts.{Facts}
 use Rattle.journal_controls.specs.controller_model.Heard.{has_room}
@@ -23,18 +22,20 @@ use Rattle.journal_controls.specs.run_model.LinkEnds.{HaveAddresses}
 use Rattle.journal_controls.specs.run_model.Links.{links_of}
 use Rattle.journal_controls.specs.run_model.Run.{Given, GoesOn, after_call, after_feed, after_octets, facts_at, hearings_of, history_of, octets_left, run_of, setup_at, step_of}
 use Rattle.journal_controls.proofs.EventMoves.{turn_still as keyed_still}
+use Rattle.journal_controls.proofs.KeptControls.{turn_is}
 use Rattle.journal_controls.proofs.RunControls.{keyed_before_turn}
 use Rattle.journal_controls.proofs.journal_acks.Counting.{facts_event}
 use Rattle.journal_controls.proofs.journal_acks.Exchanging.{number_at, number_called, number_other, number_quiet, number_sent}
 use Rattle.journal_controls.proofs.journal_acks.HeardLines.{turn_heard}
 use Rattle.journal_controls.proofs.journal_acks.KeptCounts.{own_at}
+use Rattle.journal_controls.proofs.journal_acks.PassedLinks.{passed_or_new}
 use Rattle.journal_controls.proofs.journal_acks.Standing.{PhasedBy, phased_at}
 use Rattle.journal_controls.proofs.journal_acks.TwoStations.{IsOfTwo}
 use Rattle.journal_controls.proofs.journal_acks.link_calls.CallNotes.{OpensNone, begin_noted, end_noted, octet_noted, opening_none}
-use Rattle.journal_controls.proofs.journal_acks.link_calls.LinkCalls.{IsOpenedNow, begins_under, passes_under, phase_quiet}
+use Rattle.journal_controls.proofs.journal_acks.link_calls.LinkCalls.{begins_under}
 use Rattle.journal_controls.proofs.journal_acks.link_calls.UnderHandles.{end_under, host_under}
 use Rattle.journal_controls.proofs.journal_ends.EndsKnown.{begun_at}
-use Rattle.journal_controls.proofs.journal_ends.KeptSeen.{octet_next}
+use Rattle.journal_controls.proofs.journal_ends.KeptSeen.{fold_then, octet_next}
 use Rattle.journal_controls.proofs.journal_ends.StandingLinks.{older_at}
 use Rattle.journal_controls.proofs.journal_ends.RunSeen.{seen_before_turn}
 use Rattle.journal_controls.proofs.journal_ends.run_laws.DistinctAccess.{AreApart}
@@ -58,15 +59,10 @@ use Rattle.journal_leaving.specs.Reasons.{due_begun}
 use Rattle.journal_leaving.proofs.DueBegun.{AreIn, IsNotDue, air_due, air_in, due_begun_at, none_in, none_not_due, not_due_grown, not_due_now, not_due_turn, still_due, still_links, turn_due, turn_in}
 use Rattle.journal_leaving.proofs.EventMoves.{turn_still}
 use Rattle.journal_leaving.proofs.HostDue.{octet_due as link_due}
-use Rattle.journal_leaving.proofs.KeptLeavings.{AreLeftAt, all_left, leavings_first, leavings_kept, turn_is}
+use Rattle.journal_leaving.proofs.KeptLeavings.{AreLeftAt, all_left, leavings_first, leavings_kept}
 use Rattle.journal_leaving.proofs.OtherLines.{call_reads, feed_reads, host_reads}
 use Rattle.journal_leaving.proofs.Timeouts.{end_timed}
 use Rattle.journal_leaving.proofs.RunLeavings.{TellsDue, due_by_lines, heard_by_lines}
-
--- one call more
-fold_then : {A B : Type 0} (f : B → A → B) (start mid last : B) (past : List A) (x : A) → fold f start past ≡ mid → f mid x ≡ last
-    → fold f start (past ++ x ∷ []) ≡ last
-fold_then f start mid last past x is then_is = fold-append f start past (x ∷ []) ∙ ap (λ one. f one x) is ∙ then_is
 
 -- ---- what is kept
 
@@ -347,15 +343,9 @@ module _ (words : Words) (heard_whole : IsHeardWhole) (understood : IsUnderstood
         due_called words given station (step_of received) history station handle number ∙ has.due station handle base in_it was
 
     passes_none : (handle : ℕ) (link : OpenLink) → link_at handle (facts_at given station passed_on).links ≡ Some link → IsNone handle
-    passes_none handle link at = by (phase_quiet (setup_at given station) facts received handle)
-      where
-        by : All (OpensNone handle) (notes_after (setup_at given station) (facts_at given station history) (step_of (packet_received station history)))
-            ⊎ ((one : OpenLink) → link_at handle (facts_after (setup_at given station) (facts_at given station history) (step_of (packet_received station history))).links ≡ Some one
-            → IsOpenedNow (facts_at given station history).turn.slot one) → IsNone handle
-        by (inl quiet) =
-            passed_none handle link at (number_called given station (step_of received) history handle quiet)
-            (passes_under (setup_at given station) facts received handle link phased.uses.in_turn.listens (own_at given station (step_of received) history handle link at))
-        by (inr new) = new_none handle link at (new link (own_at given station (step_of received) history handle link at)).opened
+    passes_none handle link at =
+        passed_or_new given station history phased.uses.in_turn.listens (IsNone handle) handle link at (passed_none handle link at)
+        (λ new. new_none handle link at new.opened)
 
   -- ---- each step
 

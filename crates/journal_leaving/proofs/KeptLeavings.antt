@@ -1,6 +1,6 @@
 -- Each step of a run of two stations keeps that each open end is, by the journal, to leave its link as the end holds it.
-use Rattle.std.proofs.Common.{◌≡◌, ℕ, zero, suc, ◌+◌, ◌-◌, ◌==◌, inl, inr, Bool, true, false, not, Option, Some, None, List, [], ◌∷◌, ◌++◌, length, replicate, refl, sym, ap, subst, ◌∙◌, append_assoc}
-use Rattle.std.specs.Prelude.{◌&&◌, ◌⊎◌, map, take, if◌then◌else◌}
+use Rattle.std.proofs.Common.{◌≡◌, ℕ, suc, ◌-◌, ◌==◌, Bool, true, false, not, Option, Some, None, List, [], ◌∷◌, ◌++◌, replicate, refl, sym, ap, subst, ◌∙◌, append_assoc}
+use Rattle.std.specs.Prelude.{◌&&◌, map, take, if◌then◌else◌}
 use Rattle.std.proofs.lemmas.Bool.{eqb-true}
 use Rattle.ble_base.specs.declared.roles.Side.{Side}
 use Rattle.journal_controls.specs.Withheld.{withheld_by}
@@ -10,6 +10,7 @@ use Rattle.journal_controls.specs.controller_model.Step.{Step as Call, HostOctet
 use Rattle.journal_controls.specs.controller_model.declared.doing.Doing.TheVariants.{Rests}
 use Rattle.journal_controls.specs.controller_model.declared.doing.Turn.{Turn}
 use Rattle.journal_controls.specs.host_masks.Masks.{view_masks}
+use Rattle.journal_controls.proofs.PassedControls.{no_octet}
 use Rattle.journal_controls.proofs.host_masks.LineMasks.{line_masks}
 use Rattle.radio_replay.specs.declared.fates.Fate.{Fate}
 use Rattle.journal_controls.specs.journal_acks.Exchange.{is_number}
@@ -22,17 +23,15 @@ use Rattle.journal_controls.specs.link_model.Step.{PacketSent}
 use Rattle.journal_controls.specs.open_links.OpenLinks.{OpenLink, facts_in, link_after, link_at}
 use Rattle.journal_controls.specs.open_links.Turns.{ending_in}
 use Rattle.journal_controls.specs.run_model.Due.{Each, packet_in}
-use Rattle.journal_controls.specs.run_model.Feeding.{is_octet}
 use Rattle.journal_controls.specs.run_model.History.{Event, TurnBegan, HostFed, Called, Hearing, Noted, Transmitted, packet_received, past_of, turns_begun}
 use Rattle.journal_controls.specs.run_model.Journal.{journal_of, side_of}
 use Rattle.journal_controls.specs.run_model.LinkEnds.{HaveAddresses}
 use Rattle.journal_controls.specs.run_model.Links.{is_advertising}
-use Rattle.journal_controls.specs.run_model.Readers.{station_of, turns_of}
 use Rattle.journal_controls.specs.run_model.Run.{Given, after_call, after_feed, after_octets, facts_at, hearings_of, history_of, octets_left, run_of, setup_at, step_of, use_at}
 use Rattle.journal_controls.proofs.ControlledEnds.{AreControlledSo}
 use Rattle.journal_controls.proofs.EventMoves.{air_line, drawn_at, turn_at, withholds_at}
 use Rattle.journal_controls.proofs.FixedEnds.{fixed_in}
-use Rattle.journal_controls.proofs.KeptControls.{AreControlledAt, IsControlledBefore, controls_first, controls_kept}
+use Rattle.journal_controls.proofs.KeptControls.{AreControlledAt, IsControlledBefore, controls_first, controls_kept, there_and_back, turn_is}
 use Rattle.journal_controls.proofs.RunControls.{keyed_before_call}
 use Rattle.journal_controls.proofs.journal_acks.Counting.{IsBegun, apart_numbers, facts_event, moved as count_moved}
 use Rattle.journal_controls.proofs.journal_acks.Exchanging.{exchange_at, number_at, number_called, number_quiet, number_sent}
@@ -40,14 +39,13 @@ use Rattle.journal_controls.proofs.journal_acks.KeptCounts.{unsent}
 use Rattle.journal_controls.proofs.journal_acks.KeptLines.{AreLinedAt}
 use Rattle.journal_controls.proofs.journal_acks.Known.{known_of}
 use Rattle.journal_controls.proofs.journal_acks.Standing.{PhasedBy, last_phase, listens_wanted, other_sends, phased_at, sends_on, sends_other, silent_sends}
-use Rattle.journal_controls.proofs.journal_acks.TwoStations.{IsOfTwo, hearing_of, one_hearing, other_is, other_of, same_number, side_same}
+use Rattle.journal_controls.proofs.journal_acks.TwoStations.{IsOfTwo, hearing_of, one_hearing, other_is, same_number, side_same}
 use Rattle.journal_controls.proofs.journal_acks.link_calls.CallNotes.{OpensNone, begin_noted, end_noted, opening_none}
 use Rattle.journal_controls.proofs.journal_ends.EndsKnown.{AreLined, begun_at, lined_at}
 use Rattle.journal_controls.proofs.journal_ends.KeptSeen.{AreFed as AreSeenFed, AreSeenAt, apart_from, begin_fed, first_fed, lined_next, lined_octet, octet_asks, octet_fed as seen_fed, octet_next}
 use Rattle.journal_controls.proofs.journal_ends.SeenCalls.{IsSeenAt, held_at, moved as seen_moved, whole as seen_whole}
-use Rattle.journal_controls.proofs.journal_ends.run_laws.ByCalls.{last_turn}
 use Rattle.journal_controls.proofs.journal_ends.run_laws.DistinctAccess.{AreApart}
-use Rattle.journal_controls.proofs.journal_ends.run_laws.Hearings.{own_facts, wanted_is}
+use Rattle.journal_controls.proofs.journal_ends.run_laws.Hearings.{own_facts}
 use Rattle.journal_controls.proofs.journal_ends.run_laws.OpenSteps.{none_open, open_has}
 use Rattle.journal_controls.proofs.journal_ends.run_laws.TurnPlaces.{Between, Within, at_stage, stands_at, turned}
 use Rattle.journal_controls.proofs.journal_ends.run_laws.TurnSteps.{octet_turn}
@@ -56,12 +54,12 @@ use Rattle.journal_controls.proofs.journal_packets.AccessOrder.{AreNth}
 use Rattle.journal_controls.proofs.journal_packets.SoFar.{IsBelongingSoFar, sends_on_its_link}
 use Rattle.journal_controls.proofs.link_model.Hearing.{IsHeardWhole}
 use Rattle.journal_controls.proofs.run_model.Calls.{same_station}
-use Rattle.journal_controls.proofs.run_model.Fates.{turns_are}
 use Rattle.journal_controls.proofs.run_model.Fronts.{front_at}
-use Rattle.journal_controls.proofs.run_model.LinkEnds.{AreTaken, IsUnderstood, received_by, received_event}
+use Rattle.journal_controls.proofs.run_model.LinkEnds.{AreTaken, IsUnderstood, received_by, received_event, wanted_is}
 use Rattle.journal_controls.proofs.run_model.Places.{each_called, each_event}
 use Rattle.journal_controls.proofs.run_model.Stations.{among, in_more_other, in_more_same, is_in, not_before}
 use Rattle.journal_controls.proofs.run_model.Walk.{AtBegins, AtEnds, AtFeeds, AtListening, AtPackets, IsKept, NoTurn, Place}
+use Rattle.journal_data.proofs.OneCall.{far_side}
 use Rattle.journal_leaving.specs.Hearing.{leaving_next}
 use Rattle.journal_leaving.specs.Leaving.{is_own_packet, leaving_sent_if}
 use Rattle.journal_leaving.proofs.AskedLeavings.{call_asks, end_asked}
@@ -144,21 +142,6 @@ any_passes given history station None = tt
 any_passes given history station (Some octets) = tt
 
 -- ---- small steps
-
-there_and_back : (station : ℕ) → (station ≡ 0) ⊎ (station ≡ 1) → station_of (side_of station) ≡ station
-there_and_back station (inl is) = ap (λ n. station_of (side_of n)) is ∙ sym is
-there_and_back station (inr is) = ap (λ n. station_of (side_of n)) is ∙ sym is
-
-no_octet : (received : Option (List ℕ)) → is_octet (step_of received) ≡ false
-no_octet None = refl
-no_octet (Some octets) = refl
-
-pub turn_is : (history : List Event) (slot : ℕ) → turns_begun history ≡ slot + 1 → turn_at history ≡ slot
-turn_is history slot is = last_turn (length (turns_of (journal_of history))) slot (turns_are history ∙ is)
-
-sender_apart : (station : ℕ) → is_side (side_of station) (side_of (other_of station)) ≡ false
-sender_apart zero = refl
-sender_apart (suc station) = refl
 
 abbrev NoneReceived : ℕ → Option (List ℕ)
 NoneReceived station = None
@@ -348,7 +331,7 @@ module _ (words : Words) (heard_whole : IsHeardWhole) (understood : IsUnderstood
     other_is_none : (one number : ℕ) → is_in one given.stations ≡ true → (one == station) ≡ false → own_test (side_of one) number ≡ false
     other_is_none one number in_one differs =
         ap (λ n. own_test (side_of n) number) (other_is given are_two station one in_it in_one differs)
-        ∙ ap (λ b. (not (is_advertising channel) && is_number (link_of_packet (journal_of history) (side_of station) octets) number) && b) (sender_apart station)
+        ∙ ap (λ b. (not (is_advertising channel) && is_number (link_of_packet (journal_of history) (side_of station) octets) number) && b) (far_side station)
         ∙ and_none (not (is_advertising channel) && is_number (link_of_packet (journal_of history) (side_of station) octets) number)
 
     module _ (seen : AreSeenAt words given place_after after) (lined : AreLinedAt given (IsBelongingSoFar given) place_after after)

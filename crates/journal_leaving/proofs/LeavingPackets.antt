@@ -21,10 +21,12 @@ use Rattle.journal_controls.specs.run_model.Journal.{journal_of}
 use Rattle.journal_controls.proofs.ControlPackets.{taking_counts}
 use Rattle.journal_controls.proofs.Counted.{told_by}
 use Rattle.journal_controls.proofs.EventMoves.{air_line, aired}
-use Rattle.journal_controls.proofs.GoodPackets.{forged_is, good_has}
+use Rattle.journal_controls.proofs.GoodPackets.{good_has}
 use Rattle.journal_controls.proofs.link_model.KeyedSteps.{forged_none}
+use Rattle.journal_controls.proofs.journal_acks.AirCounts.{listener_off}
 use Rattle.journal_controls.proofs.journal_acks.Counting.{IsEndCounted, plain}
 use Rattle.journal_controls.proofs.journal_acks.Exchanging.{exchange_at}
+use Rattle.journal_controls.proofs.journal_acks.HandedOn.{forged_is}
 use Rattle.journal_controls.proofs.journal_acks.KeptLines.{IsLined}
 use Rattle.journal_controls.proofs.journal_acks.SentLines.{sent_line_at}
 use Rattle.journal_controls.proofs.journal_acks.Standing.{listener_sends}
@@ -36,11 +38,6 @@ use Rattle.journal_leaving.specs.Leaving.{is_own_packet, leaving_sent_if}
 use Rattle.journal_leaving.proofs.EndLeaving.{hearing_told}
 use Rattle.journal_leaving.proofs.EventMoves.{forged_still, heard_moves, other_still, own_moves}
 use Rattle.journal_leaving.proofs.LeavingEnds.{IsLeftAt, and_none, left_taking, whole}
-
--- who sends does not listen
-sender_deaf : (handle : ℕ) (turn : Turn) → sends_under handle turn.doing ≡ true → (listens : Bool) → listens_under handle turn.doing ≡ listens → listens ≡ false
-sender_deaf handle turn on true is = absurd (let h : true ≡ false = sym on ∙ listener_sends handle turn.doing is in absurd cc)
-sender_deaf handle turn on false is = refl
 
 -- ---- one end
 
@@ -54,7 +51,7 @@ module _ (words : Words) (number : ℕ) (side : Side) (history : List Event) (st
   pub own_left : is_own_packet side number (journal_of history) (air_line station channel octets hearing) ≡ true → unsent ≡ true → unsent_too ≡ false
       → sends_under handle turn.doing ≡ true → IsLeftAt words unsent_too received_too handle turn link number side after
   own_left own before now sends =
-      let deaf = sender_deaf handle turn sends (listens_under handle turn.doing) refl in record {
+      let deaf = listener_off handle turn sends (listens_under handle turn.doing) refl in record {
         leaving = leaving_sent was.leaving;
         on = own_moves words number side history station channel octets hearing was.leaving own was.on;
         is = ap (λ b. leaving_sent_if (b && sends_under handle turn.doing) (leaving_sent was.leaving)) now
@@ -100,9 +97,6 @@ module _ (words : Words) (number : ℕ) (side : Side) (history : List Event) (st
 
       taking_is : left_taking listens received_too turn.slot link ≡ leaving_hearing link.setup.link.role turn.slot (good_pdu link.setup (facts_in link) got) (facts_in link)
       taking_is = λ i. left_taking (on i) (some i) turn.slot link
-
-      before_is : left_taking listens received turn.slot link ≡ (facts_in link).leaving
-      before_is = λ i. left_taking (on i) (silent on i) turn.slot link
 
       good_then : (pdu : List ℕ) → verdict_of link.setup (facts_in link) got ≡ Good → good_pdu link.setup (facts_in link) got ≡ Some pdu
           → IsLeftAt words unsent_too received_too handle turn link number side after

@@ -47,10 +47,11 @@ use Rattle.journal_controls.specs.open_links.Turns.{enters_in}
 use Rattle.journal_controls.proofs.AtCentral.{said_alike, taking_alike}
 use Rattle.journal_controls.proofs.EndMoves.{KeepsRole, role_stays}
 use Rattle.journal_controls.proofs.FixedEnds.{begun_past, grown_facts}
+use Rattle.journal_controls.proofs.journal_acks.HandedOn.{forged_is}
 use Rattle.journal_controls.proofs.journal_acks.link_calls.LinkCalls.{turn_begun_under}
 use Rattle.journal_controls.proofs.journal_acks.link_calls.UnderHandles.{ended_under}
 use Rattle.journal_controls.proofs.GivenAlike.{gives_alike}
-use Rattle.journal_controls.proofs.GoodPackets.{forged_is, good_has, good_keyed}
+use Rattle.journal_controls.proofs.GoodPackets.{good_has, good_keyed}
 use Rattle.journal_controls.proofs.LinkMoves.{forged_after, taken_past, taken_setup, worded_hearing}
 use Rattle.journal_controls.proofs.Refusing.{first_some, refused, refused_fold, refused_notes}
 use Rattle.journal_controls.proofs.SendsAlike.{before_worded}

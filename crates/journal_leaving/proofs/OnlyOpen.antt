@@ -16,6 +16,7 @@ use Rattle.journal_controls.specs.controller_model.Facts.{Facts, Setup}
 use Rattle.journal_controls.specs.controller_model.Notes.{is_opening}
 use Rattle.journal_controls.specs.controller_model.Side.{facts_after, notes_after}
 use Rattle.journal_controls.specs.controller_model.Step.{Step as Call}
+use Rattle.journal_controls.specs.host_answers.Flows.{most_received_on}
 use Rattle.journal_controls.specs.LineSteps.{control_on, keyed_begun, keyed_in_line, keyed_on}
 use Rattle.journal_controls.specs.journal_ends.Asked.{Words}
 use Rattle.journal_controls.specs.journal_links.Begun.{link_numbered}
@@ -317,7 +318,7 @@ module _ (words : Words) (given : Given) (station : ℕ) (step : Call) (history 
             ∙ ap (λ all. keyed_at words number side (called ++ map (Noted station) all)) (sym notes_are) ∙ is_then)
 
         next_is : keyed_at words number side (called ++ Noted station first ∷ [])
-            ≡ (if is_side (side_of station) side && last == number then keyed_begun side (link_numbered number (journal_of called)) else keyed_at words number side called)
+            ≡ (if is_side (side_of station) side && last == number then keyed_begun (most_received_on side (journal_of called)) side (link_numbered number (journal_of called)) else keyed_at words number side called)
         next_is =
             ap (keyed_on words side number) (journal_event called (Noted station first)) ∙ keyed_more words side number (journal_of called) (Opened (side_of station) last handle role)
 
@@ -358,7 +359,7 @@ module _ (words : Words) (given : Given) (station : ℕ) (step : Call) (history 
                   number_is = number_then ∙ eqb-true last number (right_of (is_side (side_of station) side) (last == number) test);
                 }
             by false test =
-                let before = sym (next_is ∙ ap (λ b. if b then keyed_begun side (link_numbered number (journal_of called)) else keyed_at words number side called) test) ∙ at_next.is in
+                let before = sym (next_is ∙ ap (λ b. if b then keyed_begun (most_received_on side (journal_of called)) side (link_numbered number (journal_of called)) else keyed_at words number side called) test) ∙ at_next.is in
                 let was = was_of (record { keyed = at_next.keyed; is = before }) in
                 keep was (λ equal on.
                 let apart : (handle == was.handle) ≡ false = false_from_ne_true (handle == was.handle) (λ same.

@@ -1,12 +1,11 @@
 -- A phase passes at a station: how its ends are to leave their links then, by the journal.
-use Rattle.std.proofs.Common.{◌≡◌, ℕ, ◌⊎◌, inl, inr, Bool, true, false, Option, Some, None, List, [], ◌∷◌, refl, sym, ap, subst, ◌∙◌}
-use Rattle.std.specs.Prelude.{◌&&◌, All}
+use Rattle.std.proofs.Common.{◌≡◌, ℕ, Bool, true, false, Option, Some, None, List, [], refl, sym, ap, subst, ◌∙◌}
+use Rattle.std.specs.Prelude.{◌&&◌}
 use Rattle.ble_base.specs.declared.roles.Side.{Side}
 use Rattle.journal_controls.specs.Withheld.{Withheld, withheld_by}
 use Rattle.journal_controls.specs.controller_model.Facts.{Facts}
 use Rattle.journal_controls.specs.controller_model.Heard.{has_room}
-use Rattle.journal_controls.specs.controller_model.Links.{note_opened}
-use Rattle.journal_controls.specs.controller_model.Side.{facts_after, notes_after}
+use Rattle.journal_controls.specs.controller_model.Side.{facts_after}
 use Rattle.journal_controls.proofs.controller_model.Always.{IsInTurn}
 use Rattle.journal_controls.proofs.host_answers.LineAnswers.{turn_quiet}
 use Rattle.journal_controls.specs.host_masks.Masks.{view_masks}
@@ -14,8 +13,6 @@ use Rattle.journal_controls.specs.journal_acks.link_calls.Phases.{HasPassed, IsN
 use Rattle.journal_controls.specs.journal_acks.link_calls.Uses.{listens_under, sends_under}
 use Rattle.journal_controls.specs.journal_ends.Asked.{Words}
 use Rattle.journal_controls.specs.journal_ends.GivenWords.{AreKept, words_next}
-use Rattle.journal_controls.specs.journal_ends.Seen.{Says, seen_of}
-use Rattle.journal_controls.specs.journal_links.LinkLines.{line_of}
 use Rattle.journal_controls.specs.link_model.End.{facts_of}
 use Rattle.journal_controls.specs.link_model.Facts.{keyed_of, stays}
 use Rattle.journal_controls.specs.open_links.OpenLinks.{OpenLink, facts_in, link_at}
@@ -27,16 +24,15 @@ use Rattle.journal_controls.specs.Hearing.{keyed_if}
 use Rattle.journal_controls.proofs.ControlledEnds.{AreControlledSo, keyed_taking, whole as keyed_whole}
 use Rattle.journal_controls.proofs.EventMoves.{drawn_at, turn_at, withholds_at}
 use Rattle.journal_controls.proofs.FixedEnds.{sends_replying}
-use Rattle.journal_controls.proofs.PassedControls.{reaching_keeps, worded_response}
+use Rattle.journal_controls.proofs.PassedControls.{first_said, reaching_keeps, worded_response}
 use Rattle.journal_controls.proofs.EarlyAnswers.{none_answered}
 use Rattle.journal_controls.proofs.journal_acks.Counting.{IsBegun}
 use Rattle.journal_controls.proofs.journal_ends.WordedLinks.{worded_as}
-use Rattle.journal_controls.proofs.journal_acks.Exchanging.{number_at, number_called}
+use Rattle.journal_controls.proofs.journal_acks.Exchanging.{number_at}
+use Rattle.journal_controls.proofs.journal_acks.PassedLinks.{passed_or_new}
 use Rattle.journal_controls.proofs.journal_acks.Standing.{PhasedBy}
-use Rattle.journal_controls.proofs.journal_acks.link_calls.CallNotes.{OpensNone}
-use Rattle.journal_controls.proofs.journal_acks.link_calls.LinkCalls.{IsOpenedNow, passes_under, phase_quiet}
 use Rattle.journal_controls.proofs.journal_ends.EndsKnown.{AreLined}
-use Rattle.journal_controls.proofs.journal_ends.SeenCalls.{AreSeenSo, held_at, seen_in_link, whole as seen_whole}
+use Rattle.journal_controls.proofs.journal_ends.SeenCalls.{AreSeenSo, whole as seen_whole}
 use Rattle.journal_controls.proofs.journal_ends.run_laws.Hearings.{own_facts}
 use Rattle.journal_controls.proofs.journal_ends.run_laws.TurnPlaces.{Within, at_stage}
 use Rattle.journal_controls.proofs.run_model.Calls.{same_station}
@@ -49,12 +45,6 @@ use Rattle.journal_leaving.specs.Leaving.{leaving_sent_if}
 use Rattle.journal_leaving.proofs.LineFolds.{sent_stays}
 use Rattle.journal_leaving.proofs.LinkLeaves.{LeavesTo, redrawn, same_leaves, taken_as, worded_leaves}
 use Rattle.journal_leaving.proofs.OpenedLeavings.{opened_stays}
-
--- an end to which nothing happened yet
-first_said : (number station : ℕ) (link : OpenLink) → link.past ≡ []
-    → seen_in_link number (side_of station) link ≡ Says (line_of (side_of station) number (note_opened link.setup.link)) ∷ []
-unfolding seen_of
-first_said number station link none = ap (λ past. seen_of (side_of station) number link.setup past) none
 
 first_leaving : (link : OpenLink) → link.past ≡ [] → stays ≡ (facts_in link).leaving
 unfolding facts_of
@@ -162,14 +152,6 @@ module _ (words : Words) (given : Given) (station : ℕ) (history : List Event) 
       (left.on ∙ ap Some (ap (λ b. leaving_sent_if b left.leaving) (sym (none_sent handle)) ∙ left.is ∙ (λ i. left_taking (on i) (some i) slot base)))
 
   pub passes_own : (handle : ℕ) (link : OpenLink) → link_at handle (facts_at given station next).links ≡ Some link → IsNow handle link
-  passes_own handle link at = by (phase_quiet (setup_at given station) facts received handle)
-    where
-      by : All (OpensNone handle) (notes_after (setup_at given station) (facts_at given station history) (step_of (packet_received station history)))
-          ⊎ ((one : OpenLink) → link_at handle (facts_after (setup_at given station) (facts_at given station history) (step_of (packet_received station history))).links ≡ Some one
-          → IsOpenedNow (facts_at given station history).turn.slot one) → IsNow handle link
-      by (inl quiet) =
-          passed handle link at (number_called given station (step_of received) history handle quiet)
-          (passes_under (setup_at given station) facts received handle link phased.uses.in_turn.listens (held_at words given station (step_of received) history in_it lined lined_after handle link at))
-      by (inr new) =
-          let now = new link (held_at words given station (step_of received) history in_it lined lined_after handle link at) in
-          fresh handle link at now.past now.opened
+  passes_own handle link at =
+      passed_or_new given station history phased.uses.in_turn.listens (IsNow handle link) handle link at (passed handle link at)
+      (λ new. fresh handle link at new.past new.opened)

@@ -18,7 +18,7 @@ use Rattle.journal_controls.specs.run_model.LinkEnds.{HaveAddresses}
 use Rattle.journal_controls.specs.run_model.Journal.{journal_of, side_of}
 use Rattle.journal_controls.specs.run_model.Run.{Given, GoesOn, facts_at, history_of, run_of}
 use Rattle.journal_controls.proofs.EventMoves.{keyed_at, turn_at}
-use Rattle.journal_controls.proofs.KeptControls.{AreControlled}
+use Rattle.journal_controls.proofs.KeptControls.{AreControlled, turn_is}
 use Rattle.journal_controls.proofs.RunControls.{control_of, keyed_at_end, keyed_before_call, keyed_before_turn}
 use Rattle.journal_controls.proofs.journal_acks.GoodLinks.{slot_of}
 use Rattle.journal_controls.proofs.journal_ends.PastSeen.{past_slot}
@@ -39,7 +39,7 @@ use Rattle.journal_controls.proofs.run_model.Stations.{is_in}
 use Rattle.journal_controls.proofs.run_model.Walk.{Ends, IsStopped, IsWhole, ends_whole, ends_with, run_kept}
 use Rattle.journal_leaving.proofs.EventMoves.{leaving_at}
 use Rattle.journal_leaving.proofs.DueReasons.{due_is}
-use Rattle.journal_leaving.proofs.KeptLeavings.{AllStay, AreLeft, AreLeftAt, BegunBefore, IsLeftBefore, LeftBefore, all_left, all_stay, leavings_first, leavings_kept, turn_is}
+use Rattle.journal_leaving.proofs.KeptLeavings.{AllStay, AreLeft, AreLeftAt, BegunBefore, IsLeftBefore, LeftBefore, all_left, all_stay, leavings_first, leavings_kept}
 use Rattle.journal_leaving.proofs.StayingLinks.{none_ends}
 use Rattle.journal_leaving.specs.Reasons.{due_on, due_with, ending_on, ending_with}
 

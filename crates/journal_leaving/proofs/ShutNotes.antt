@@ -9,7 +9,7 @@ use Rattle.ble_base.specs.declared.notes.Note.TheVariants.{Up, Shut}
 use Rattle.hci_evt.specs.Event.{mask_bit_of, written}
 use Rattle.hci_evt.specs.declared.event.Event.TheVariants.{DisconnectionComplete}
 use Rattle.host_view.specs.View.{View}
-use Rattle.journal_controls.specs.controller_model.Data.{acl_packet, event_completed, facts_handed, note_received}
+use Rattle.journal_controls.specs.controller_model.Data.{acl_packet, event_completed, facts_handed, notes_pieces, pieces_handed}
 use Rattle.journal_controls.specs.controller_model.Entering.{events_entering, notes_all_entering}
 use Rattle.journal_controls.specs.controller_model.Events.{notes_of_events, passes}
 use Rattle.journal_controls.specs.controller_model.Facts.{Facts, Setup}
@@ -146,11 +146,11 @@ begins_ascend setup facts slot on =
 pub ends_ascending : (setup : Setup) (facts : Facts) → Ascend 0 (notes_after setup facts TurnEnds)
 ends_ascending setup facts =
     let handed = facts_handed facts in
-    let pieces = map note_received facts.received in
+    let pieces = notes_pieces facts in
     let events = map event_completed (completed_from 0 facts.links) in
     let leaves = notes_leaving handed in
     subst (Ascend 0) (sym (append_assoc pieces (notes_of_events facts.view events) leaves))
-    (packets_ascend acl_packet facts.received 0 (notes_of_events facts.view events ++ leaves)
+    (packets_ascend acl_packet (pieces_handed facts) 0 (notes_of_events facts.view events ++ leaves)
     (packets_ascend written (filter (λ event. passes facts.view (mask_bit_of event)) events) 0 leaves
     (subst (Ascend 0) (append-nil leaves)
     (ends_then handed.view 0 (ends_for ending_in handed) [] (ends_ascend ending_in 0 handed.links) (All-nil ShutsNone)))))

@@ -151,7 +151,7 @@ event_begun links (Transmitted sender channel octets hearings) are = by (begins_
     }
     by false = are
 
-noted_count : (links : Links) (station : ℕ) (note : Note) → links.begun ≤ (links_noted station note links).begun
+pub noted_count : (links : Links) (station : ℕ) (note : Note) → links.begun ≤ (links_noted station note links).begun
 noted_count links station (Opened handle role own peer) = omega arith
 noted_count links station note = omega arith
 

@@ -34,7 +34,7 @@ use Rattle.run_laws.specs.run_model.Readers.{of_side}
 use Rattle.run_laws.specs.run_model.Run.{Given, after_call, after_feed, after_octets, facts_at, hearings_of, history_of, octets_left, run_of, setup_at, step_of, use_at}
 use Rattle.run_laws.proofs.run_model.Calls.{fold_called, fold_event, past_other}
 use Rattle.run_laws.proofs.run_model.Handing.{IsHanded, IsUnforged, WasForged, WasNot, WasReceived, initiator_unforged}
-use Rattle.run_laws.proofs.run_model.LinkEnds.{IsUnderstood, is_listener, packet_handed, received_by}
+use Rattle.run_laws.proofs.run_model.LinkEnds.{IsUnderstood, is_listener, packet_handed, received_by, wanted_is}
 use Rattle.run_laws.proofs.run_model.Places.{each_at, each_called, each_event}
 use Rattle.run_laws.proofs.run_model.Stations.{is_in, among, not_before}
 use Rattle.run_laws.proofs.run_model.Walk.{Place, NoTurn, AtBegins, AtPackets, AtListening, IsKept, IsWhole, IsStopped, ends_with, run_kept}
@@ -42,7 +42,7 @@ use Rattle.run_laws.proofs.ByCalls.{StandsBy, at_turn, first_hears, last_turn}
 use Rattle.run_laws.proofs.ChSel.{one_channel}
 use Rattle.run_laws.proofs.ConnectInds.{no_advertising, on_channel}
 use Rattle.run_laws.proofs.Entering.{IsInTurn}
-use Rattle.run_laws.proofs.Hearings.{AreHearing, hearing_kept, other_facts, own_facts, unforged_same, use_same, use_sent_at, wanted_is}
+use Rattle.run_laws.proofs.Hearings.{AreHearing, hearing_kept, other_facts, own_facts, unforged_same, use_same, use_sent_at}
 use Rattle.run_laws.proofs.SentPackets.{HasChSel, IsUseSent, Says}
 use Rattle.run_laws.proofs.TurnPlaces.{Between, Within, at_stage, event_past, stands_first}
 use Rattle.run_laws.proofs.TurnSteps.{FitsChannel, IsListening, begins_may, initiates, may_pending, octet_turn, pending, phase_turn}

@@ -78,7 +78,7 @@ record HaveValues (setup : Setup) (stage : Stage) (begun : ℕ) (facts : Facts) 
 may_open : AreTaken → (setup : Setup) (phases begun : ℕ) (facts : Facts) → IsInTurn setup (Within phases) begun facts → MayOpen HasValues values_open facts
 may_open taken setup phases begun facts in_turn = record {
   made = λ channel link doing.
-      let made = subst (MakesWell setup facts.connections) doing in_turn.makes in record { fields = range_of_test link.fields made.in_range; maps = tt };
+      let made = subst (MakesWell setup facts.view facts.connections) doing in_turn.makes in record { fields = range_of_test link.fields made.in_range; maps = tt };
   taken = λ pdu on fields handle takes. record { fields = taken_in_range taken on.params facts.view.accepted pdu fields takes; maps = tt };
 }
 

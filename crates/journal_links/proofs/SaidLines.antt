@@ -84,10 +84,6 @@ module _ (side : Side) (number : ℕ) where
   abbrev pub said : List Note → List Note
   said notes = flat_map note_said (map (line_of side number) notes)
 
-  same_said : (role : Role) (note other : Note) (event : ℕ) (xs ys : List Taking) → indication_noted role note ≡ indication_noted role other → xs ≡ ys
-      → taking_if event (indication_noted role note) ++ xs ≡ taking_if event (indication_noted role other) ++ ys
-  same_said role note other event xs ys is more = λ i. taking_if event (is i) ++ more i
-
   sent_says : (role : Role) (one handle count llid : ℕ) (body : _) → indication_noted role (Sent one count llid (record { items = body.items })) ≡ indication_noted role (Sent handle count llid body)
   sent_says Central one handle count llid body = refl
   sent_says Peripheral one handle count llid body = refl
@@ -95,9 +91,6 @@ module _ (side : Side) (number : ℕ) where
   took_says : (role : Role) (one handle count llid : ℕ) (body : _) → indication_noted role (Took one count llid (record { items = body.items })) ≡ indication_noted role (Took handle count llid body)
   took_says Central one handle count llid body = refl
   took_says Peripheral one handle count llid body = refl
-
-  both_none : (role : Role) (note other : Note) → indication_noted role note ≡ None → indication_noted role other ≡ None → indication_noted role note ≡ indication_noted role other
-  both_none role note other one two = one ∙ sym two
 
   nothing_said : (role : Role) (note : Note) (event : ℕ) (xs ys : List Taking) → kind_said note ≡ [] → xs ≡ ys → xs ≡ taking_if event (indication_noted role note) ++ ys
   nothing_said role note event xs ys is more = more ∙ (λ i. taking_if event (sym (says_none role note is) i) ++ ys)

@@ -33,8 +33,10 @@ use Rattle.journal_crossing.specs.run_model.Run.{Given, history_of, run_of}
 use Rattle.journal_crossing.proofs.journal_links.LinkLines.{lines_append, named_here}
 use Rattle.journal_crossing.proofs.journal_links.LinksBegun.{number_stays}
 use Rattle.journal_crossing.proofs.run_model.LinkEnds.{AreTaken, IsUnderstood}
+use Rattle.journal_crossing.proofs.journal_collisions.CollidingLines.{same_kind}
 use Rattle.journal_crossing.specs.journal_collisions.Collisions.{any_line, control_in, kind_begun}
 use Rattle.journal_crossing.specs.link_outcomes.Answered.{IsAnsweredIn as IsAnsweredAmong, begins as begins_note, ends as ends_note, kind_answered, kind_begun as read_begun}
+use Rattle.journal_crossing.proofs.journal_data.NumberedEnds.{same_link}
 use Rattle.journal_outcomes.specs.Done.{AllDoneAreAnswered, IsAnsweredIn, begins, ends, kind_completed}
 use Rattle.journal_outcomes.proofs.NamedEnds.{HasEnd, among, end_of, far_role, some_number}
 use Rattle.journal_outcomes.proofs.NotDone.{AllAreOnLinks}
@@ -57,9 +59,6 @@ record IsFirst (llid : ℕ) (body : List ℕ) (kind : Kind) : Type 0 where
   q_is : kind_of q ≡ kind
   three : llid ≡ 3
   begun : read_begun (ctrl_of body) ≡ Some q
-
-same_kind : (one other : Kind) → Some one ≡ Some other → one ≡ other
-same_kind one other is = cc
 
 known_first : (llid : ℕ) (body : List ℕ) (kind : Kind) (read : CtrlRead) → llid ≡ 3 → ctrl_of body ≡ read → kind_begun (Some read) ≡ Some kind → IsFirst llid body kind
 known_first llid body kind (Known (ConnectionParamReq min max latency timeout periodicity reference offsets)) three says is =
@@ -187,9 +186,6 @@ plain_done kind = record { under = λ handle. refl; opening = λ handle. refl; s
 
 pub plain_sent : (count llid : ℕ) (body : List ℕ) → IsPlain (λ handle. SentNote handle count llid (record { items = body }))
 plain_sent count llid body = record { under = λ handle. refl; opening = λ handle. refl; shutting = λ handle. refl }
-
-same_link : (one other : LinkBegun) → Some one ≡ Some other → one ≡ other
-same_link one other is = cc
 
 module _ (understood : IsUnderstood) (taken : AreTaken) (given : Given) (are_two : given.stations ≡ 0 ∷ 1 ∷ []) (six : HaveAddresses given) where
   abbrev journal : List Entry

@@ -97,11 +97,6 @@ abbrev side_in : Side → Entry → Side
 side_in side (Took other number count llid body) = other
 side_in side line = side
 
--- ---- orders that cannot be
-
-too_many : (X : Type 0) (few more most : ℕ) → few + 1 ≤ more → more ≤ most → most ≡ few → X
-too_many X few more most less grown same = absurd (omega (arith, less, grown, same))
-
 -- ---- the links of PDUs that are sent
 
 -- the link with this number began before

@@ -2,11 +2,9 @@
 -- that packet.
 use Rattle.std.proofs.Common.{◌≡◌, ◌≢◌, ℕ, zero, suc, ◌+◌, ◌-◌, ◌^◌, ◌<◌, ◌≤◌, ◌==◌, ◌⊎◌, inl, inr, ◌&&◌, Bool, true, false, Option, Some, List, [], ◌∷◌, ◌++◌, take, refl, sym, ap, subst, ◌∙◌, arith}
 use Rattle.std.specs.Prelude.{IfSome, slice_get, if◌then◌else◌}
-use Rattle.std.specs.Int.{from_le_bytes, w32}
 use Rattle.std.specs.Str.{bytes_eq}
 use Rattle.std.proofs.Math.Nat.{mod-lt}
 use Rattle.std.proofs.lemmas.Bool.{eqb-true}
-use Rattle.std.proofs.lemmas.Nat.{from_le_bytes-to_le_bytes_4}
 use Rattle.std.proofs.lemmas.Slice.Eq.{bytes_eq-Decides}
 use Rattle.ble_base.specs.declared.addresses.Address.{Address}
 use Rattle.ble_base.specs.declared.roles.Side.{Side}
@@ -25,6 +23,7 @@ use Rattle.journal_links.specs.run_model.Run.{Given, setup_at}
 use Rattle.journal_links.specs.run_laws.Access.{connects_in, connects_sent}
 use Rattle.journal_links.proofs.run_laws.ConnectInds.{TakenInOrder, count_event}
 use Rattle.journal_links.proofs.run_laws.DistinctAccess.{AreApart, found_at}
+use Rattle.journal_links.proofs.run_laws.OwnLinks.{same_access}
 use Rattle.journal_links.specs.Begun.{LinkBegun, begun_by}
 use Rattle.journal_packets.specs.Addresses.{AreInOrder}
 use Rattle.journal_packets.specs.Belonging.{first_number, fits, is_side}
@@ -45,17 +44,13 @@ access_below nth cursor number access is =
     let fact = subst (λ may. IfSome may (λ pair. IsNthAccess cursor number pair.0 pair.1)) found.is (nth cursor number) in
     subst (λ n. n < 2 ^ 32) (sym fact.address) (below_32 cursor (found.after - 1))
 
-same_octets : (one other : ℕ) → one < 2 ^ 32 → other < 2 ^ 32 → access_octets one ≡ access_octets other → one ≡ other
-same_octets one other below below_too same =
-    sym (from_le_bytes-to_le_bytes_4 one below) ∙ ap (from_le_bytes w32) same ∙ from_le_bytes-to_le_bytes_4 other below_too
-
 differ_before : AreNth → AreApart → (cursor m n a b : ℕ) → m < n → access_found (nth_access cursor m) ≡ Some a → access_found (nth_access cursor n) ≡ Some b
     → access_octets a ≢ access_octets b
 differ_before nth apart cursor m n a b less is is_too = λ same.
     let one = found_at (nth_access cursor m) a is in
     let other = found_at (nth_access cursor n) b is_too in
     apart cursor m n a b one.after other.after less one.is other.is
-    (same_octets a b (access_below nth cursor m a is) (access_below nth cursor n b is_too) same)
+    (same_access a b (access_below nth cursor m a is) (access_below nth cursor n b is_too) same)
 
 -- ---- the links of one side
 

@@ -21,14 +21,14 @@ use Rattle.journal_links.specs.run_model.Links.{is_advertising}
 use Rattle.journal_links.specs.run_model.Run.{Given, setup_at, facts_at, use_at, octets_left, after_call, after_feed, hearings_of, step_of, unseen_in}
 use Rattle.journal_links.proofs.run_model.Calls.{past_other}
 use Rattle.journal_links.proofs.run_model.Handing.{IsHanded, IsUnforged, WasForged, WasNot, WasReceived}
-use Rattle.journal_links.proofs.run_model.LinkEnds.{IsUnderstood, is_listener, packet_handed, received_by}
+use Rattle.journal_links.proofs.run_model.LinkEnds.{IsUnderstood, is_listener, packet_handed, received_by, wanted_is}
 use Rattle.journal_links.proofs.run_model.Places.{each_event}
 use Rattle.journal_links.proofs.run_model.Stations.{is_in, among, in_more_other, in_more_same, not_before}
 use Rattle.journal_links.proofs.run_model.Walk.{Place, NoTurn, AtFeeds, AtBegins, AfterPhases, AtPackets, AtListening, AtEnds, IsKept}
 use Rattle.journal_links.proofs.run_laws.ByCalls.{at_turn, first_hears}
 use Rattle.journal_links.proofs.run_laws.ChSel.{one_channel}
 use Rattle.journal_links.proofs.run_laws.ConnectInds.{AreCounted, counted_kept, first_counts, no_advertising}
-use Rattle.journal_links.proofs.run_laws.Hearings.{AreHearing, hearing_kept, own_facts, unforged_same, use_same, wanted_is}
+use Rattle.journal_links.proofs.run_laws.Hearings.{AreHearing, hearing_kept, own_facts, unforged_same, use_same}
 use Rattle.journal_links.proofs.run_laws.TurnPlaces.{event_past, stands_first}
 use Rattle.journal_links.proofs.run_laws.TurnSteps.{IsListening}
 use Rattle.journal_links.proofs.OfTwo.{are_distinct, of_two_stations}

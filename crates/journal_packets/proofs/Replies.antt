@@ -153,7 +153,7 @@ change_at : (handle : ℕ) (change : OpenLink → OpenLink) (links : Links) (lin
     → link_at handle (with_change handle change links) ≡ Some (change link)
 change_at handle change links link at = changed_is (option_map change) 0 handle links refl ∙ ap (option_map change) at
 
-receiving_setup : (handle : ℕ) (room : Bool) (octets : List ℕ) (facts : Facts) (link : OpenLink) → (link_receiving handle room octets facts link).setup ≡ link.setup
+pub receiving_setup : (handle : ℕ) (room : Bool) (octets : List ℕ) (facts : Facts) (link : OpenLink) → (link_receiving handle room octets facts link).setup ≡ link.setup
 receiving_setup handle room octets facts link = by (refusal_at handle room octets facts)
   where
     by : (refusal : Option EndStep) → (refused_if refusal (link_after (PacketReceived facts.turn.slot octets room) link)).setup ≡ link.setup

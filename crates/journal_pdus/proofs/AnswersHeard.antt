@@ -1,6 +1,6 @@
 -- In every run of two stations, each answer on a link that passes is heard.
-use Rattle.std.proofs.Common.{◌≡◌, ◌<◌, ℕ, zero, suc, ◌+◌, ◌==◌, nat_le, Bool, true, false, Some, List, [], ◌∷◌, ◌++◌, length, take, refl, sym, ap, subst, ◌∙◌, arith, if◌then◌else◌}
-use Rattle.std.specs.Prelude.{⊤}
+use Rattle.std.proofs.Common.{◌≡◌, ◌<◌, ◌≤◌, ℕ, zero, suc, ◌+◌, ◌==◌, nat_le, Bool, true, false, Some, List, [], ◌∷◌, ◌++◌, length, take, refl, sym, ap, subst, ◌∙◌, arith, if◌then◌else◌}
+use Rattle.std.specs.Prelude.{⊤, min}
 use Rattle.std.specs.Str.{bytes_eq}
 use Rattle.std.proofs.lemmas.Bool.Decides.{nat_tests}
 use Rattle.air_frame.specs.Hearing.{heard_in}
@@ -8,10 +8,13 @@ use Rattle.air_frame.specs.Packet.{access_octets, is_packet, pdu_in}
 use Rattle.air_frame.specs.declared.Heard.{Heard}
 use Rattle.air_frame.specs.declared.Heard.TheVariants.{Broken as Faulty, NotOurs, Whole}
 use Rattle.ble_base.specs.Limits.{payload_octets}
+use Rattle.ble_base.specs.Side.{other_side}
 use Rattle.ble_base.specs.declared.roles.Role.{Role}
 use Rattle.ble_base.specs.declared.roles.Role.TheVariants.{Central, Peripheral}
 use Rattle.ble_base.specs.declared.verdicts.Verdict.TheVariants.{Broken, Forged, Good}
+use Rattle.host_view.specs.declared.view.HostFlow.{HostFlow}
 use Rattle.journal.specs.declared.entries.Mark.TheVariants.{Pass as Passed}
+use Rattle.journal_sending.specs.journal_controls.host_answers.Flows.{most_received_on}
 use Rattle.journal_sending.specs.journal_data.link_model.Facts.{Facts as EndFacts}
 use Rattle.journal_sending.specs.journal_data.link_model.Hearing.{air_octets}
 use Rattle.journal_sending.specs.journal_data.link_model.Packets.{heard_of, is_forged_pdu, verdict_of as end_verdict}
@@ -29,22 +32,24 @@ use Rattle.journal_sending.specs.controller_model.declared.doing.Doing.TheVarian
 use Rattle.journal_sending.specs.controller_model.Facts.{Facts, Use, Sends, Listens}
 use Rattle.journal_sending.specs.controller_model.Packets.{channel_listened, listens_on, verdict_doing, verdict_of, verdict_of_link}
 use Rattle.journal_sending.specs.controller_model.Sent.{SendsOn}
-use Rattle.journal_sending.specs.run_model.Feeding.{AreDistinct}
+use Rattle.journal_sending.specs.run_model.Feeding.{AreDistinct, is_note}
 use Rattle.journal_sending.specs.run_model.History.{Event, Hearing, Transmitted, is_handed, packet_received, turns_begun}
 use Rattle.journal_sending.specs.run_model.Journal.{journal_of, mark_of, side_of}
 use Rattle.journal_sending.specs.run_model.LinkEnds.{HaveAddresses}
 use Rattle.journal_sending.specs.run_model.Links.{is_advertising}
-use Rattle.journal_sending.specs.run_model.Run.{Given, facts_at, hearing_at, history_of, reaches, run_of, use_at, verdict_where}
+use Rattle.journal_sending.specs.run_model.Run.{Given, facts_at, hearing_at, history_of, reaches, run_of, setup_at, use_at, verdict_where}
 use Rattle.journal_sending.proofs.run_model.EntryEvents.{is_aired}
-use Rattle.journal_sending.proofs.run_model.LinkEnds.{AreTaken, IsUnderstood}
+use Rattle.journal_sending.proofs.journal_leaving.journal_controls.host_answers.FlowHeld.{flow_so_far}
+use Rattle.journal_sending.proofs.run_model.LinkEnds.{AreTaken, IsUnderstood, wanted_is}
 use Rattle.journal_sending.proofs.run_model.OfStations.{OfStations, run_of_stations}
 use Rattle.journal_sending.proofs.run_model.Places.{each_at}
 use Rattle.journal_sending.proofs.run_model.Stations.{is_in, among}
 use Rattle.journal_sending.proofs.run_model.Walk.{AtPackets}
 use Rattle.journal_sending.specs.journal_data.run_laws.Ends.{HaveOneConnectInd}
 use Rattle.journal_sending.proofs.journal_data.run_laws.DistinctAccess.{AreApart}
-use Rattle.journal_sending.proofs.journal_data.run_laws.Hearings.{sends_deaf, wanted_is}
+use Rattle.journal_sending.proofs.journal_data.run_laws.Hearings.{sends_deaf}
 use Rattle.journal_sending.proofs.journal_data.run_laws.LinkPhases.{HasRole, IsInPhase}
+use Rattle.journal_sending.proofs.journal_data.run_laws.MostReceived.{max_received}
 use Rattle.journal_sending.proofs.journal_data.run_laws.OwnLinks.{sent_begins}
 use Rattle.journal_sending.proofs.journal_data.run_laws.TurnPlaces.{Within, at_stage}
 use Rattle.journal_sending.proofs.journal_data.run_laws.TurnSteps.{IsListening}
@@ -118,11 +123,10 @@ whole_is channel access init octets pdu = by (bytes_eq (take 4 octets) (access_o
     by true false is = absurd (let h : Faulty ≡ Whole (record { items = pdu }) = is in absurd cc)
     by false found is = absurd (let h : NotOurs ≡ Whole (record { items = pdu }) = is in absurd cc)
 
-no_room : (most code count : ℕ) → most ≡ payload_octets → nat_le count (2 + (most + code)) ≡ false → payload_octets + 2 < count
-no_room most code count is none = let all = is in grind (arith, nat_tests)
+no_room : (most code count : ℕ) → nat_le count (2 + (most + code)) ≡ false → most + 2 < count
+no_room most code count none = grind (arith, nat_tests)
 
-module _ (to : Setup) (listener : EndFacts) (octets pdu : List ℕ) (heard : heard_of to listener octets ≡ Whole (record { items = pdu }))
-    (most : to.link.max_rx ≡ payload_octets) where
+module _ (to : Setup) (listener : EndFacts) (octets pdu : List ℕ) (heard : heard_of to listener octets ≡ Whole (record { items = pdu })) where
   abbrev forged : Bool
   forged = is_forged_pdu listener pdu
 
@@ -133,19 +137,19 @@ module _ (to : Setup) (listener : EndFacts) (octets pdu : List ℕ) (heard : hea
   unfolding end_verdict
   verdict_is = ap (verdict_by to.link.max_rx (opens_now listener.encryption.end) (is_forged_pdu listener)) heard
 
-  heard_as : IsHeardAs listener.event.channel octets (end_verdict to listener octets)
-  heard_as = subst (IsHeardAs listener.event.channel octets) (sym verdict_is) (by (has_room_for to.link.max_rx (opens_now listener.encryption.end) pdu) refl)
+  heard_as : IsHeardAs to.link.max_rx listener.event.channel octets (end_verdict to listener octets)
+  heard_as = subst (IsHeardAs to.link.max_rx listener.event.channel octets) (sym verdict_is) (by (has_room_for to.link.max_rx (opens_now listener.encryption.end) pdu) refl)
     where
       handed : (wrong : Bool) → is_handed (if wrong then Forged else Good) ≡ true
       handed true = refl
       handed false = refl
 
       by : (room : Bool) → has_room_for to.link.max_rx (opens_now listener.encryption.end) pdu ≡ room
-          → IsHeardAs listener.event.channel octets (if room then (if forged then Forged else Good) else Broken)
+          → IsHeardAs to.link.max_rx listener.event.channel octets (if room then (if forged then Forged else Good) else Broken)
       by true has = IsRead (handed forged)
       by false none =
-          IsTooLong refl (subst (λ (xs : List ℕ). payload_octets + 2 < length xs)
-          (whole_is listener.event.channel to.link.fields.access to.link.fields.crc_init octets pdu heard) (no_room to.link.max_rx code (length pdu) most none))
+          IsTooLong refl (subst (λ (xs : List ℕ). to.link.max_rx + 2 < length xs)
+          (whole_is listener.event.channel to.link.fields.access to.link.fields.crc_init octets pdu heard) (no_room to.link.max_rx code (length pdu) none))
 
 record ListensFor (facts : Facts) (channel : ℕ) (octets : List ℕ) (far : OpenLink) : Type 0 where
   wants : facts.wanted ≡ Listens channel
@@ -167,7 +171,8 @@ judges_so given channel octets history listener far listens =
     (sym (wanted_is given listener history) ∙ listens.wants)
     ∙ judged_where (channel == channel) facts octets (same_number channel) ∙ listens.judges
 
-module _ (whole : IsHeardWhole) (understood : IsUnderstood) (taken : AreTaken) (nth : AreNth) (apart : AreApart) (given : Given) (pair : IsOfTwo given) (six : HaveAddresses given) where
+module _ (whole : IsHeardWhole) (understood : IsUnderstood) (taken : AreTaken) (nth : AreNth) (apart : AreApart) (given : Given) (pair : IsOfTwo given) (six : HaveAddresses given)
+    (few : (station : ℕ) → (setup_at given station).links ≤ 6) where
   distinct : AreDistinct given.stations
   distinct = are_distinct given pair
 
@@ -261,8 +266,8 @@ module _ (whole : IsHeardWhole) (understood : IsUnderstood) (taken : AreTaken) (
 
   -- ---- at a time of a run
 
-  module _ (before rest : List Event) (at : history_of (run_of given) ≡ before ++ rest) (station channel : ℕ) (octets : List ℕ) (in_it : is_in station given.stations ≡ true)
-      (awaited : IsAwaited given before station channel octets) where
+  module _ (before later : List Event) (event : Event) (no_note : is_note event ≡ false) (at : history_of (run_of given) ≡ before ++ event ∷ later)
+      (station channel : ℕ) (octets : List ℕ) (in_it : is_in station given.stations ≡ true) (awaited : IsAwaited given before station channel octets) where
     abbrev far_side : ℕ
     far_side = other_of station
 
@@ -272,16 +277,21 @@ module _ (whole : IsHeardWhole) (understood : IsUnderstood) (taken : AreTaken) (
     abbrev far : OpenLink
     far = awaited.asker.far
 
-    heard : IsHeardAs channel octets (end_verdict far.setup (facts_in far) octets)
+    heard : IsHeardAs far.setup.link.max_rx channel octets (end_verdict far.setup (facts_in far) octets)
     heard =
         let sender = awaited.sent.link in
         let ranges = sent_ranges true awaited.sent.slot sender
-        (ranges_in given before rest station awaited.sent.handle (link_after (PacketSent awaited.sent.slot) sender) distinct in_it at awaited.sent.is_open) in
-        let far_ranges = ranges_in given before rest far_side awaited.asker.handle far distinct far_in at awaited.asker.is_open in
+        (ranges_in given before (event ∷ later) station awaited.sent.handle (link_after (PacketSent awaited.sent.slot) sender) distinct in_it at awaited.sent.is_open) in
         let whole_there = ap (heard_of far.setup (facts_in far)) awaited.sent.packet
         ∙ heard_there whole sender.setup far.setup (facts_in sender) (facts_in far) (sent_readable sender ranges) awaited.one.fields (sym awaited.sent.channel_is ∙ awaited.channel_is) in
-        subst (λ n. IsHeardAs n octets (end_verdict far.setup (facts_in far) octets)) (sym awaited.channel_is)
-        (heard_as far.setup (facts_in far) octets (air_octets (facts_in sender)) whole_there far_ranges.max_rx)
+        subst (λ n. IsHeardAs far.setup.link.max_rx n octets (end_verdict far.setup (facts_in far) octets)) (sym awaited.channel_is)
+        (heard_as far.setup (facts_in far) octets (air_octets (facts_in sender)) whole_there)
+
+    -- it receives as many octets as its host takes
+    most_is : far.setup.link.max_rx ≡ most_received_on (side_of far_side) (journal_of before)
+    most_is =
+        max_received given before (event ∷ later) far_side awaited.asker.handle far distinct far_in (few far_side) at awaited.asker.is_open
+        ∙ ap (λ (flow : HostFlow). min payload_octets flow.acl_length) (flow_so_far given pair far_side far_in before later event at no_note)
 
     is_heard : ListensFor (facts_at given far_side before) channel octets far
     is_heard =
@@ -304,9 +314,14 @@ module _ (whole : IsHeardWhole) (understood : IsUnderstood) (taken : AreTaken) (
       let one = one_of_list aired.hearing (hearing_of given aired.is_due.plan.fates station channel octets before) aired.others
       (aired.is_due.hearings_are ∙ one_hearing given pair aired.is_due.plan.fates station channel octets before in_it) in
       let passes = pass_mark _ (aired.fate_is ∙ ap (λ (h : Hearing). mark_of h.fate) one) in
-      let rest_of = event ∷ aired.after in
       let judged : verdict ≡ end_verdict awaited.asker.far.setup (facts_in awaited.asker.far) octets =
       aired.verdict_is ∙ ap (λ (h : Hearing). h.verdict) one
       ∙ ap (λ (fate : Fate). (hearing_at given fate channel octets before (other_of station)).verdict) passes
-      ∙ judges_so given channel octets before (other_of station) awaited.asker.far (is_heard before rest_of aired.is_at station channel octets in_it awaited) in
-      subst (IsHeardAs channel octets) (sym judged) (heard before rest_of aired.is_at station channel octets in_it awaited)
+      ∙ judges_so given channel octets before (other_of station) awaited.asker.far (is_heard before aired.after event refl aired.is_at station channel octets in_it awaited) in
+      let side_is : side_of (other_of station) ≡ other_side side = side_other station ∙ ap other_side (sym aired.side_is) in
+      let most : awaited.asker.far.setup.link.max_rx ≡ most_received_on (other_side side) front =
+      most_is before aired.after event refl aired.is_at station channel octets in_it awaited
+      ∙ ap (λ own. most_received_on own (journal_of before)) side_is ∙ ap (most_received_on (other_side side)) (sym aired.front_is) in
+      subst (λ n. IsHeardAs n channel octets verdict) most
+      (subst (IsHeardAs awaited.asker.far.setup.link.max_rx channel octets) (sym judged)
+      (heard before aired.after event refl aired.is_at station channel octets in_it awaited))

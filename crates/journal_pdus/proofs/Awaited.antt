@@ -23,11 +23,11 @@ use Rattle.journal_sending.specs.run_model.History.{Event, Hearing, Transmitted,
 use Rattle.journal_sending.specs.run_model.LinkEnds.{HaveAddresses}
 use Rattle.journal_sending.specs.run_model.Links.{is_advertising}
 use Rattle.journal_sending.specs.run_model.Run.{Given, after_call, facts_at, hearings_of, setup_at, step_of, use_at}
-use Rattle.journal_sending.proofs.run_model.LinkEnds.{AreTaken, IsUnderstood, is_listener}
+use Rattle.journal_sending.proofs.run_model.LinkEnds.{AreTaken, IsUnderstood, is_listener, wanted_is}
 use Rattle.journal_sending.proofs.run_model.Stations.{is_in, among, in_more_other, in_more_same, not_before}
 use Rattle.journal_sending.proofs.run_model.Walk.{Place, NoTurn, AtFeeds, AtBegins, AfterPhases, AtPackets, AtListening, AtEnds, IsKept}
 use Rattle.journal_sending.proofs.journal_data.run_laws.ConnectInds.{on_channel}
-use Rattle.journal_sending.proofs.journal_data.run_laws.Hearings.{other_facts, own_facts, use_same, use_sent_at, wanted_is}
+use Rattle.journal_sending.proofs.journal_data.run_laws.Hearings.{other_facts, own_facts, use_same, use_sent_at}
 use Rattle.journal_sending.proofs.journal_data.run_laws.InAgreement.{differs_back}
 use Rattle.journal_sending.proofs.journal_data.run_laws.LinkPhases.{IsInPhase}
 use Rattle.journal_sending.proofs.journal_data.run_laws.OwnLinks.{sent_begins}
@@ -43,10 +43,10 @@ use Rattle.journal_sending.proofs.journal_acks.TwoStations.{IsOfTwo, other_is, o
 use Rattle.journal_sending.specs.journal_acks.link_calls.Phases.{HasPassed, IsNew, Stays, Takes, link_receiving}
 use Rattle.journal_sending.specs.journal_acks.link_calls.Turns.{sent_if}
 use Rattle.journal_sending.specs.journal_acks.link_calls.Uses.{sends_under}
+use Rattle.journal_sending.proofs.journal_acks.link_calls.Exchanging.{uses_either as either}
 use Rattle.journal_sending.proofs.journal_acks.link_calls.LinkCalls.{off_sends, phase_under, receiving_event}
 use Rattle.journal_sending.proofs.journal_acks.link_calls.UnderHandles.{same_base}
 use Rattle.journal_slots.proofs.ExchangeSlots.{event_after_receiving, event_after_sending, event_received}
-use Rattle.journal_slots.proofs.OnAir.{either}
 
 -- ---- a central that asked
 

@@ -1,4 +1,6 @@
 -- The lemmas of this crate.
+mod FullLines
+mod HandedUp
 mod SettledEnds
 mod SettledRuns
 mod SettledShut
@@ -14,3 +16,4 @@ mod ResetsLeaveNone
 -- what the crates above use of those below
 pub use Rattle.journal_sending.proofs.journal_leaving as journal_leaving
 pub use Rattle.journal_sending.proofs.run_model as run_model
+pub use Rattle.journal_sending.proofs.journal_hosts as journal_hosts

@@ -23,6 +23,7 @@ without_mixing words mixed a b script journal unmixed is = record {
   to_open = is.to_open;
   entered = is.entered;
   events = is.events;
+  none_missed = is.none_missed;
   follows_central = λ front rest side number event channel link at none.
       is.follows_central front rest side number event channel link at (unmixed number front (Enter side number event channel ∷ rest) at);
   alike = λ front rest later last side other number event channel too link at at_too none none_too.
@@ -62,5 +63,7 @@ without_mixing words mixed a b script journal unmixed is = record {
   credits = is.credits;
   due = is.due;
   sealed = is.sealed;
+  host_flow = is.host_flow;
+  host_order = is.host_order;
   arrives = λ front rest at side link none. is.arrives front rest at side link (unmixed link front rest at);
 }

@@ -26,7 +26,7 @@ use Rattle.hci_evt.specs.declared.event.Event.TheVariants.{CommandComplete, Disc
 use Rattle.host_view.specs.Noted.{two_octets}
 use Rattle.host_view.specs.OnLinks.{asks_links}
 use Rattle.host_view.specs.View.{View}
-use Rattle.host_view.specs.Unbuilt.{status_of}
+use Rattle.host_view.specs.Status.{status_of}
 use Rattle.journal_sending.specs.journal_data.open_links.OpenLinks.{Links, handles_from, without_links}
 use Rattle.journal_sending.specs.journal_data.open_links.declared.offers.Offer.{Offer}
 use Rattle.journal_sending.specs.journal_data.open_links.declared.offers.Offer.TheVariants.{NoLink, Empty, Overflow, Kept}

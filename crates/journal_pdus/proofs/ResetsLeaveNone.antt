@@ -1,5 +1,5 @@
 -- In every run of a pair, no link is open at a side by the lines before the answer to a Reset that is done.
-use Rattle.std.proofs.Common.{◌≡◌, ℕ, ◌+◌, ◌≤◌, ◌==◌, Bool, true, false, Option, None, List, [], ◌∷◌, ◌++◌, map, cond, refl, sym, ap, subst, ◌∙◌, append-nil, append_assoc, arith}
+use Rattle.std.proofs.Common.{◌≡◌, ℕ, ◌≤◌, Bool, true, false, Option, List, [], ◌∷◌, ◌++◌, map, refl, sym, ap, subst, ◌∙◌, append-nil, append_assoc, arith}
 use Rattle.std.specs.Prelude.{⊤, is_some, take}
 use Rattle.std.specs.List.{AllByRecursion, sum_by}
 use Rattle.std.proofs.lemmas.List.Sums.{sum_by-cons}
@@ -10,13 +10,14 @@ use Rattle.ble_base.specs.declared.roles.Side.{Side}
 use Rattle.journal.specs.declared.entries.Entry.{Entry}
 use Rattle.journal.specs.declared.entries.Entry.TheVariants.{Up}
 use Rattle.journal_sending.proofs.journal_data.link_model.Hearing.{IsHeardWhole}
-use Rattle.journal_sending.specs.journal_data.open_links.OpenLinks.{Links, OpenLink, handles_from, link_at, link_from, without_links}
+use Rattle.journal_sending.specs.journal_data.open_links.OpenLinks.{OpenLink, handles_from, link_at}
 use Rattle.journal_sending.specs.controller_model.Facts.{Facts}
 use Rattle.journal_sending.specs.controller_model.Links.{note_shut, notes_reset}
 use Rattle.journal_sending.specs.controller_model.Side.{facts_after, notes_after}
 use Rattle.journal_sending.specs.controller_model.Step.{Step, HostOctet, TurnBegins, TurnEnds}
 use Rattle.journal_sending.proofs.controller_model.Always.{IsInTurn}
 use Rattle.journal_sending.proofs.controller_model.Handles.{own_handles}
+use Rattle.journal_sending.proofs.controller_model.Sent.{shut_from}
 use Rattle.journal_sending.specs.run_model.Due.{Each}
 use Rattle.journal_sending.specs.run_model.Feeding.{AreDistinct}
 use Rattle.journal_sending.specs.run_model.History.{Event, TurnBegan, HostFed, Called, Noted, Transmitted, past_of, packet_received}
@@ -51,14 +52,6 @@ use Rattle.journal_pdus.specs.Resetting.{ResetsLeaveNoLink, answers_reset}
 use Rattle.journal_pdus.proofs.ResetAnswers.{IsAnsweredSo, IsQuiet, Quiet, Resets, octet_so, turn_calls_quiet}
 
 -- ---- no link is open
-
-without_none : (first handle : ℕ) (links : Links) → link_from first handle (without_links links) ≡ None
-without_none first handle [] = refl
-without_none first handle (place ∷ links) = by (first == handle) (without_none (first + 1) handle links)
-  where
-    by : (test : Bool) → link_from (first + 1) handle (without_links links) ≡ None → cond test None (link_from (first + 1) handle (without_links links)) ≡ None
-    by true rest = refl
-    by false rest = rest
 
 none_there : (links : List OpenUnder) → sum_by (λ (one : OpenUnder). 1) links ≡ 0 → links ≡ []
 none_there [] none = refl
@@ -133,7 +126,7 @@ module _ (given : Given) (station : ℕ) where
       ∙ sym (append_assoc called (map (Noted station) shuts) (Noted station (UpNote packet) ∷ [])) in
       let closed : (handle : ℕ) → is_open (facts_at given station after).links handle ≡ false =
       λ handle. ap (λ (held : Facts). is_open held.links handle) (own_facts given station step history)
-      ∙ ap (λ links. is_some (link_at handle links)) links_are ∙ ap (λ (place : Option OpenLink). is_some place) (without_none 0 handle facts.links) in
+      ∙ ap (λ links. is_some (link_at handle links)) links_are ∙ ap (λ (place : Option OpenLink). is_some place) (shut_from 0 handle facts.links) in
       let none = no_links setup.links (lines_at station after).links (numbers_at station after) (is_open (facts_at given station after).links) booked.links closed in
       let before = sym (up_links station (called ++ map (Noted station) shuts) packet) ∙ ap (λ (all : List Event). (lines_at station all).links) (sym is_after) ∙ none in (
         tt,

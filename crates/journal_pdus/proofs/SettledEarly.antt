@@ -1,7 +1,8 @@
--- Before the first packet of each turn of a run of two stations, each host has received all data that its side took, and all
--- its packets that are complete are reported to it.
+-- Before the first packet of each turn of a run of two stations, all packets of each host that are complete are reported to
+-- it.
 use Rattle.std.proofs.Common.{◌≡◌, ℕ, ◌&&◌, Bool, true, false, Option, Some, None, List, ◌∷◌, ◌++◌, refl, sym, ap, subst, ◌∙◌}
 use Rattle.ble_base.specs.declared.roles.Side.{Side}
+use Rattle.journal_sending.proofs.AtRest.{by_side}
 use Rattle.journal_sending.proofs.journal_data.link_model.Hearing.{IsHeardWhole}
 use Rattle.journal_sending.proofs.journal_data.link_model.Sending.{past_together}
 use Rattle.journal_sending.specs.journal_data.open_links.OpenLinks.{OpenLink, facts_in, link_at}
@@ -35,9 +36,9 @@ use Rattle.journal_sending.proofs.journal_data.FewLinks.{HaveFewLinks}
 use Rattle.journal_sending.proofs.journal_hosts.Calm.{IsCalm, calm_under}
 use Rattle.journal_sending.proofs.journal_hosts.QuietTurns.{AreQuiet, IsSilent, quiet_first, quiet_kept}
 use Rattle.journal_pdus.specs.AtOnce.{AllAreCreditedAtOnce}
-use Rattle.journal_pdus.specs.Settled.{AreSettled, IsSettled}
-use Rattle.journal_pdus.proofs.SettledEnds.{settled_end}
-use Rattle.journal_pdus.proofs.SettledRuns.{by_side, open_in}
+use Rattle.journal_pdus.specs.Settled.{AreCredited, IsCredited}
+use Rattle.journal_pdus.proofs.SettledEnds.{credited_end}
+use Rattle.journal_pdus.proofs.SettledRuns.{open_in}
 use Rattle.journal_sending.proofs.Together.{IsKnownAt, known_first, known_kept}
 
 -- ---- what is acknowledged to an end that heard nothing in the turn
@@ -63,32 +64,31 @@ acked_unheard unsent received handle turn link end none counted =
 module _ (given : Given) (Q : Place → List Event → Type 0) (are_two : IsOfTwo given) (few_links : HaveFewLinks given) (eight : (station : ℕ) → (setup_at given station).host_buffers ≡ 8)
     (phases : ℕ) (done left : List ℕ) (history : List Event) (is : IsKnownAt given Q (AtPackets phases done left) history)
     (quiet : AreQuiet given (AtPackets phases done left) history) (silent : IsSilent history) where
-  settled_on : (station handle : ℕ) → is_in station given.stations ≡ true → (link : OpenLink) → link_at handle (facts_at given station history).links ≡ Some link
-      → IsSettled (number_at station handle history) (side_of station) (journal_of history)
-  settled_on station handle in_it link at =
+  credited_on : (station handle : ℕ) → is_in station given.stations ≡ true → (link : OpenLink) → link_at handle (facts_at given station history).links ≡ Some link
+      → IsCredited (number_at station handle history) (side_of station) (journal_of history)
+  credited_on station handle in_it link at =
       let facts = facts_at given station history in
       let own = quiet.each station in_it in
       let calm : IsCalm facts = own.calm silent in
-      settled_end (number_at station handle history) (side_of station) (journal_of history) (facts_in link) (data_waiting handle facts.received)
+      credited_end (number_at station handle history) (side_of station) (journal_of history) (facts_in link) (data_waiting handle facts.received)
       (sound given station handle history link (few_links.links station) (eight station) (is.data_is.are.well station in_it) at).booked
-      (ap (data_waiting handle) calm.received)
       (past_together link.setup link.past)
       (calm_under facts handle link calm at)
       (is.lined.lines station handle link in_it at)
       (acked_unheard _ (packet_received station history) handle facts.turn link (exchange_at (number_at station handle history) history (side_of station)) (own.unheard silent)
       (is.data_is.counted.counted station handle link in_it at))
 
-  abbrev IsSettledSide : Side → Type 0
-  IsSettledSide side = (before after : List OpenUnder) (one : OpenUnder) → (lines_of 8 side (journal_of history)).links ≡ before ++ one ∷ after
-      → IsSettled one.link side (journal_of history)
+  abbrev IsCreditedSide : Side → Type 0
+  IsCreditedSide side = (before after : List OpenUnder) (one : OpenUnder) → (lines_of 8 side (journal_of history)).links ≡ before ++ one ∷ after
+      → IsCredited one.link side (journal_of history)
 
-  settled_side : (station : ℕ) → is_in station given.stations ≡ true → IsSettledSide (side_of station)
-  settled_side station in_it = λ before after one are.
+  credited_side : (station : ℕ) → is_in station given.stations ≡ true → IsCreditedSide (side_of station)
+  credited_side station in_it = λ before after one are.
       let found = open_in given station history before after one (is.data_is.are.well station in_it).booked are in
-      subst (λ n. IsSettled n (side_of station) (journal_of history)) (sym found.number_is) (settled_on station found.handle in_it found.link found.at)
+      subst (λ n. IsCredited n (side_of station) (journal_of history)) (sym found.number_is) (credited_on station found.handle in_it found.link found.at)
 
-  settled_early : AreSettled (journal_of history)
-  settled_early = λ side before after one are. by_side given are_two IsSettledSide settled_side side before after one are
+  credited_early : AreCredited (journal_of history)
+  credited_early = λ side before after one are. by_side given are_two IsCreditedSide credited_side side before after one are
 
 -- ---- in a run
 
@@ -139,19 +139,19 @@ module _ (whole : IsHeardWhole) (understood : IsUnderstood) (taken : AreTaken) (
         on_ended = λ history has. record { is = one.on_ended history has.is; quiet = two.on_ended history has.quiet };
       }
 
-  abbrev IsSettledIfSilent : List Event → ℕ → ℕ → List ℕ → Type 0
-  IsSettledIfSilent history station channel octets = IsSilent history → AreSettled (journal_of history)
+  abbrev IsCreditedIfSilent : List Event → ℕ → ℕ → List ℕ → Type 0
+  IsCreditedIfSilent history station channel octets = IsSilent history → AreCredited (journal_of history)
 
-  sees : IsSeen given IsKnownQuiet (λ history. Unit {0}) IsSettledIfSilent
+  sees : IsSeen given IsKnownQuiet (λ history. Unit {0}) IsCreditedIfSilent
   sees = record {
     turn = λ history has. tt;
     packet = λ phases done left station channel octets history are wanted has silent.
-        settled_early given Q are_two few_links eight phases done (station ∷ left) history has.is has.quiet silent;
+        credited_early given Q are_two few_links eight phases done (station ∷ left) history has.is has.quiet silent;
   }
 
   pub credited_at_once : AllAreCreditedAtOnce (journal_of (history_of (run_of given)))
   credited_at_once = λ front rest side channel octets fate verdict is none.
       let aired = is_aired given front rest side channel octets fate verdict is in
-      subst AreSettled (sym aired.front_is)
-      (seen_packet given IsKnownQuiet both_kept (λ history. Unit {0}) IsSettledIfSilent sees (record { is = known_first given; quiet = quiet_first given })
+      subst AreCredited (sym aired.front_is)
+      (seen_packet given IsKnownQuiet both_kept (λ history. Unit {0}) IsCreditedIfSilent sees (record { is = known_first given; quiet = quiet_first given })
       aired.before aired.after aired.station channel octets (aired.hearing ∷ aired.others) aired.is_at (ap turn_packets (sym aired.front_is) ∙ none))

@@ -23,9 +23,9 @@ use Rattle.journal_sending.specs.journal_packets.Belonging.{is_side}
 use Rattle.journal_sending.specs.journal_acks.Carried.{SentLine, sent_line_after, sent_line_from, sent_line_of}
 use Rattle.journal_sending.specs.journal_acks.Exchange.{exchange_of}
 use Rattle.journal_sending.proofs.journal_acks.KeptLines.{IsLined}
-use Rattle.journal_sending.specs.journal_data.Lines.{Lines, PduLine, data_on, line_after, lines_after, lines_of, no_lines, pdus_on, received_on}
+use Rattle.journal_sending.specs.journal_data.Lines.{Lines, PduLine, accepted_on, data_on, line_after, lines_after, lines_of, no_lines, pdus_on, received_on}
 use Rattle.journal_sending.proofs.journal_data.Arriving.{IsEndBooked, data_nonempty, lines_data, pdu_lines}
-use Rattle.journal_pdus.specs.Settled.{IsSettled, acked_on, count_out}
+use Rattle.journal_pdus.specs.Settled.{IsCredited, acked_on, count_out}
 use Rattle.journal_sending.specs.Outgoing.{data_of_lines}
 
 -- ---- the last line of a new PDU
@@ -161,11 +161,19 @@ module _ (ack : Acknowledgement) (last_sent : EndsIn ack.sent ack.last) (sent_on
 data_booked : (link : ℕ) (pdus : List Pdu) → data_of_lines (pdu_lines link 1 (nonempty is_empty pdus)) ≡ data_of pdus
 data_booked link pdus = lines_data link 1 (nonempty is_empty pdus) ∙ data_nonempty pdus
 
--- nothing waits for its host, and all its complete packets are reported
-pub settled_end : (link : ℕ) (side : Side) (front : List Entry) (facts : EndFacts) (waiting : List Marked) → IsEndBooked link (lines_of 8 side front) facts waiting
-    → waiting ≡ [] → IsTogether facts.acknowledgement facts.outgoing → facts.outgoing.complete ≡ 0 → IsLined (sent_line_of link front side) facts.acknowledgement
-    → (exchange_of link front side).acked ≡ facts.acknowledgement.acked → IsSettled link side front
-settled_end link side front facts waiting booked nothing holds none lined count =
+-- nothing waits for its host
+pub received_end : (link : ℕ) (side : Side) (front : List Entry) (facts : EndFacts) (waiting : List Marked) → IsEndBooked link (lines_of 8 side front) facts waiting
+    → waiting ≡ [] → received_on link (lines_of 8 side front) ≡ accepted_on link (lines_of 8 side front)
+received_end link side front facts waiting booked nothing =
+    let lines = lines_of 8 side front in
+    sym (append-nil (received_on link lines)) ∙ ap (λ octets. received_on link lines ++ octets) (sym nothing) ∙ booked.received
+    ∙ sym (ap data_of_lines booked.taken ∙ data_booked link facts.acknowledgement.accepted)
+
+-- all its complete packets are reported
+pub credited_end : (link : ℕ) (side : Side) (front : List Entry) (facts : EndFacts) (waiting : List Marked) → IsEndBooked link (lines_of 8 side front) facts waiting
+    → IsTogether facts.acknowledgement facts.outgoing → facts.outgoing.complete ≡ 0 → IsLined (sent_line_of link front side) facts.acknowledgement
+    → (exchange_of link front side).acked ≡ facts.acknowledgement.acked → IsCredited link side front
+credited_end link side front facts waiting booked holds none lined count =
     let lines = lines_of 8 side front in
     let ack = facts.acknowledgement in
     let pdus = pdus_on link lines.sent in
@@ -178,8 +186,4 @@ settled_end link side front facts waiting booked nothing holds none lined count 
     let counted = (in_order facts holds).counted in
     let whole : whole_packets (data_on link lines) (length (acked_on link side front)) ≡ whole_packets facts.outgoing.given (length (acked_data ack)) =
     (λ i. whole_packets (booked.submitted i) (acked i)) in
-    record {
-      received = sym (append-nil (received_on link lines)) ∙ ap (λ octets. received_on link lines ++ octets) (sym nothing) ∙ booked.received
-          ∙ sym (ap data_of_lines booked.taken ∙ data_booked link ack.accepted);
-      credited = omega (arith, credits, counted, none, whole);
-    }
+    omega (arith, credits, counted, none, whole)

@@ -1,17 +1,18 @@
--- Before each turn of a run of a pair, and at its end, each host has received all data that its side took, and is told of
--- all its packets that are acknowledged.
-use Rattle.std.proofs.Common.{◌≡◌, ℕ, true, Some, List, ◌∷◌, ◌++◌, sym, ap, subst, ◌∙◌}
+-- Before each turn of a run of a pair, and at its end, each host has received all data that its side took, or could take no
+-- more, and is told of all its packets that are acknowledged.
+use Rattle.std.proofs.Common.{◌≡◌, ℕ, true, Some, List, [], ◌∷◌, ◌++◌, inl, inr, sym, ap, subst, ◌∙◌, append-nil}
 use Rattle.ble_base.specs.declared.roles.Side.{Side}
-use Rattle.ble_base.specs.declared.roles.Side.TheVariants.{A, B}
 use Rattle.journal.specs.declared.entries.Entry.TheVariants.{Turn}
+use Rattle.journal_sending.proofs.AtRest.{by_side}
 use Rattle.journal_sending.proofs.journal_data.link_model.Hearing.{IsHeardWhole}
 use Rattle.journal_sending.proofs.journal_data.link_model.Sending.{past_together}
 use Rattle.journal_sending.specs.journal_data.open_links.OpenLinks.{OpenLink, facts_in, link_at}
 use Rattle.journal_sending.specs.controller_model.Between.{is_between_turns}
 use Rattle.journal_sending.specs.controller_model.Since.{data_waiting}
-use Rattle.journal_sending.proofs.controller_model.BetweenTurns.{none_complete, nothing_waits}
+use Rattle.journal_sending.specs.controller_model.Step.{TurnEnds}
+use Rattle.journal_sending.proofs.controller_model.BetweenTurns.{none_complete}
 use Rattle.journal_sending.specs.run_model.Feeding.{AreDistinct}
-use Rattle.journal_sending.specs.run_model.History.{Event, past_of, turns_begun}
+use Rattle.journal_sending.specs.run_model.History.{Event, Called, TurnBegan, past_of, turns_begun}
 use Rattle.journal_sending.specs.run_model.Journal.{journal_of, side_of}
 use Rattle.journal_sending.specs.run_model.LinkEnds.{HaveAddresses}
 use Rattle.journal_sending.specs.run_model.Links.{links_of}
@@ -42,7 +43,8 @@ use Rattle.journal_sending.proofs.journal_data.StationLines.{IsStationBooked}
 use Rattle.journal_hearings.proofs.LinksOpened.{turn_event}
 use Rattle.journal_pdus.specs.Exchanged.{AllAreSettled}
 use Rattle.journal_pdus.specs.Settled.{AreSettled, IsSettled}
-use Rattle.journal_pdus.proofs.SettledEnds.{settled_end}
+use Rattle.journal_pdus.proofs.HandedUp.{AreHanded, IsFullThen, IsHandedOver, handed_first, handed_kept}
+use Rattle.journal_pdus.proofs.SettledEnds.{credited_end, received_end}
 use Rattle.journal_sending.proofs.Together.{IsKnownAt, known_first, known_kept}
 
 -- ---- the links that are open by the lines
@@ -64,10 +66,8 @@ open_in given station history before after one booked are =
 
 -- ---- between two turns
 
--- each side is that of a station
-pub by_side : (given : Given) → IsOfTwo given → (T : Side → Type 0) → ((station : ℕ) → is_in station given.stations ≡ true → T (side_of station)) → (side : Side) → T side
-by_side given are_two T all A = all 0 (ap (is_in 0) are_two)
-by_side given are_two T all B = all 1 (ap (is_in 1) are_two)
+abbrev AreHandedOver : Given → List Event → Type 0
+AreHandedOver given history = (station : ℕ) → is_in station given.stations ≡ true → IsHandedOver given station history
 
 module _ (given : Given) (Q : Place → List Event → Type 0) (are_two : IsOfTwo given) (few_links : HaveFewLinks given) (eight : (station : ℕ) → (setup_at given station).host_buffers ≡ 8)
     (history : List Event) (is : IsKnownAt given Q NoTurn history) where
@@ -76,56 +76,75 @@ module _ (given : Given) (Q : Place → List Event → Type 0) (are_two : IsOfTw
       between_standing (past_of station history) (stands_at NoTurn station (turns_begun history)) (is.data_is.counted.holds.hearing.stand station in_it)
 
   settled_on : (station handle : ℕ) → is_in station given.stations ≡ true → (link : OpenLink) → link_at handle (facts_at given station history).links ≡ Some link
-      → IsSettled (number_at station handle history) (side_of station) (journal_of history)
-  settled_on station handle in_it link at =
+      → IsHandedOver given station history → IsSettled (number_at station handle history) (side_of station) (journal_of history)
+  settled_on station handle in_it link at over =
       let setup = setup_at given station in
       let past = past_of station history in
-      settled_end (number_at station handle history) (side_of station) (journal_of history) (facts_in link) (data_waiting handle (facts_at given station history).received)
-      (sound given station handle history link (few_links.links station) (eight station) (is.data_is.are.well station in_it) at).booked
-      (ap (data_waiting handle) (nothing_waits setup past (rests station in_it)))
-      (past_together link.setup link.past)
-      (none_complete setup past handle link (rests station in_it) at)
-      (is.lined.lines station handle link in_it at)
-      (between_turns given Q history is.data_is.counted station handle link in_it at).acked
+      let number = number_at station handle history in
+      let journal = journal_of history in
+      let waiting = data_waiting handle (facts_at given station history).received in
+      let booked = (sound given station handle history link (few_links.links station) (eight station) (is.data_is.are.well station in_it) at).booked in record {
+        received = elim over [
+          | inl none ↦ inl (received_end number (side_of station) journal (facts_in link) waiting booked (ap (data_waiting handle) none))
+          | inr was ↦ inr was
+        ];
+        credited = credited_end number (side_of station) journal (facts_in link) waiting booked
+            (past_together link.setup link.past)
+            (none_complete setup past handle link (rests station in_it) at)
+            (is.lined.lines station handle link in_it at)
+            (between_turns given Q history is.data_is.counted station handle link in_it at).acked;
+      }
 
   abbrev IsSettledSide : Side → Type 0
   IsSettledSide side = (before after : List OpenUnder) (one : OpenUnder) → (lines_of 8 side (journal_of history)).links ≡ before ++ one ∷ after
       → IsSettled one.link side (journal_of history)
 
-  settled_side : (station : ℕ) → is_in station given.stations ≡ true → IsSettledSide (side_of station)
-  settled_side station in_it = λ before after one are.
+  settled_side : AreHandedOver given history → (station : ℕ) → is_in station given.stations ≡ true → IsSettledSide (side_of station)
+  settled_side over station in_it = λ before after one are.
       let found = open_in given station history before after one (is.data_is.are.well station in_it).booked are in
-      subst (λ n. IsSettled n (side_of station) (journal_of history)) (sym found.number_is) (settled_on station found.handle in_it found.link found.at)
+      subst (λ n. IsSettled n (side_of station) (journal_of history)) (sym found.number_is) (settled_on station found.handle in_it found.link found.at (over station in_it))
 
-  settled_between : AreSettled (journal_of history)
-  settled_between = λ side before after one are. by_side given are_two IsSettledSide settled_side side before after one are
-
--- ---- the event of a line
+  settled_between : AreHandedOver given history → AreSettled (journal_of history)
+  settled_between over = λ side before after one are. by_side given are_two IsSettledSide (settled_side over) side before after one are
 
 -- ---- in a run
 
 module _ (whole : IsHeardWhole) (understood : IsUnderstood) (taken : AreTaken) (nth : AreNth) (apart : AreApart) (given : Given) (are_two : IsOfTwo given) (few_links : HaveFewLinks given)
-    (six : HaveAddresses given) (distinct : AreDistinct given.stations) (eight : (station : ℕ) → (setup_at given station).host_buffers ≡ 8) where
+    (six : HaveAddresses given) (distinct : AreDistinct given.stations) (eight : (station : ℕ) → (setup_at given station).host_buffers ≡ 8)
+    (full : (station : ℕ) (before rest : List Event) → history_of (run_of given) ≡ before ++ Called station TurnEnds ∷ rest → IsFullThen given before station) where
   abbrev P : Place → List Event → Type 0
   P place history = IsKnownAt given (IsBelongingSoFar given) place history
 
   run_kept : IsKept given P
   run_kept = known_kept whole given (IsBelongingSoFar given) (known_of understood taken nth apart given are_two six) are_two few_links six distinct eight
 
-  sees : IsSeen given P (λ history. AreSettled (journal_of history)) (λ history station channel octets. Unit {0})
+  abbrev IsSettledIf : List Event → Type 0
+  IsSettledIf history = AreHandedOver given history → AreSettled (journal_of history)
+
+  abbrev IsAny : List Event → ℕ → ℕ → List ℕ → Type 0
+  IsAny history station channel octets = Unit {0}
+
+  sees : IsSeen given P IsSettledIf IsAny
   sees = record {
     turn = settled_between given (IsBelongingSoFar given) are_two few_links eight;
     packet = λ phases done left station channel octets history are wanted is. tt;
   }
 
+  sees_handed : IsSeen given (AreHanded given full) (AreHanded given full NoTurn) IsAny
+  sees_handed = record { turn = λ history has. has; packet = λ phases done left station channel octets history are wanted has. tt }
+
   pub settled_lines : AllAreSettled (journal_of (history_of (run_of given)))
   settled_lines = λ front rest slot a_on b_on is.
       let one = is_of_event (history_of (run_of given)) front rest (Turn slot a_on b_on) is in
       let turn = turn_event (links_of one.before) one.event slot a_on b_on one.entry_is in
+      let at = one.is_at ∙ ap (λ event. one.before ++ event ∷ one.after) turn.is in
       subst AreSettled (sym one.front_is)
-      (seen_turn given P run_kept (λ history. AreSettled (journal_of history)) (λ history station channel octets. Unit {0}) sees (known_first given)
-      one.before one.after turn.slot turn.radios (one.is_at ∙ ap (λ event. one.before ++ event ∷ one.after) turn.is))
+      (seen_turn given P run_kept IsSettledIf IsAny sees (known_first given) one.before one.after turn.slot turn.radios at
+      (seen_turn given (AreHanded given full) (handed_kept given full) (AreHanded given full NoTurn) IsAny sees_handed (handed_first given full)
+      one.before one.after turn.slot turn.radios at (TurnBegan turn.slot turn.radios ∷ one.after) at))
 
   pub settled_last : (history : List Event) → run_of given ≡ GoesOn history → AreSettled (journal_of history)
   settled_last history goes =
-      seen_last given P run_kept (λ history. AreSettled (journal_of history)) (λ history station channel octets. Unit {0}) sees (known_first given) history goes
+      seen_last given P run_kept IsSettledIf IsAny sees (known_first given) history goes
+      (seen_last given (AreHanded given full) (handed_kept given full) (AreHanded given full NoTurn) IsAny sees_handed (handed_first given full) history goes
+      [] (ap (λ run. history_of run) goes ∙ sym (append-nil history)))

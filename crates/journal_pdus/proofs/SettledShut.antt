@@ -1,29 +1,31 @@
--- Where a link is shut after the packets of a turn, its host has received all that its side took, and is told of all its packets
--- that are acknowledged.
-use Rattle.std.proofs.Common.{◌≡◌, ℕ, Bool, true, false, nat_lt, Option, Some, None, List, [], ◌∷◌, ◌++◌, refl, sym, ap, subst, ◌∙◌, append_assoc, arith, if◌then◌else◌}
+-- Where a link is shut after the packets of a turn, its host has received all that its side took, or could take no more, and is
+-- told of all its packets that are acknowledged.
+use Rattle.std.proofs.Common.{◌≡◌, ℕ, Bool, true, false, nat_lt, Option, Some, None, List, [], ◌∷◌, ◌++◌, inl, inr, refl, sym, ap, subst, ◌∙◌, append_assoc, arith, if◌then◌else◌}
 use Rattle.std.specs.Prelude.{All, map, ⊤}
 use Rattle.std.proofs.lemmas.Bool.Decides.{nat_tests}
-use Rattle.std.proofs.lemmas.List.Elements.{All-cons, All-head, All-nil, All-tail}
 use Rattle.ble_base.specs.declared.error_codes.ErrCode.{ErrCode}
 use Rattle.ble_base.specs.declared.notes.Note.{Note}
 use Rattle.ble_base.specs.declared.notes.Note.TheVariants.{Shut as ShutNote}
 use Rattle.ble_base.specs.declared.roles.Side.{Side}
+use Rattle.host_view.specs.Flow.{left_of}
 use Rattle.hci_cmd.specs.declared.command.Command.TheVariants.{Reset}
 use Rattle.journal.specs.declared.entries.Entry.{Entry}
 use Rattle.journal.specs.declared.entries.Entry.TheVariants.{Shut}
-use Rattle.journal_sending.specs.controller_model.Data.{facts_handed, notes_handed}
+use Rattle.journal_sending.specs.controller_model.Data.{event_completed, facts_handed, notes_handed, notes_pieces}
+use Rattle.journal_sending.specs.controller_model.Events.{notes_of_events}
 use Rattle.journal_sending.specs.controller_model.Facts.{Facts}
 use Rattle.journal_sending.specs.controller_model.Host.{commands_accepted_after}
 use Rattle.journal_sending.specs.controller_model.Links.{notes_leaving}
 use Rattle.journal_sending.specs.controller_model.Shutting.{IsShut, leaving as shut_leaving, overdue as shut_overdue, reset as shut_reset}
 use Rattle.journal_sending.specs.controller_model.Side.{notes_after}
+use Rattle.journal_sending.specs.controller_model.Since.{data_waiting}
 use Rattle.journal_sending.specs.controller_model.Step.{Step, HostOctet, TurnBegins, PacketHeard, NothingHeard, TurnEnds}
 use Rattle.journal_sending.proofs.journal_data.link_model.Hearing.{IsHeardWhole}
 use Rattle.journal_sending.proofs.journal_data.link_model.Sending.{past_together}
 use Rattle.journal_sending.specs.journal_data.link_model.Acknowledgement.{Acknowledgement}
 use Rattle.journal_sending.specs.journal_data.link_model.Facts.{Facts as EndFacts}
 use Rattle.journal_sending.specs.journal_data.link_model.Step.{DataReported}
-use Rattle.journal_sending.specs.journal_data.open_links.Data.{complete_in, link_reported}
+use Rattle.journal_sending.specs.journal_data.open_links.Data.{complete_in, completed_from, link_reported}
 use Rattle.journal_sending.specs.journal_data.open_links.OpenLinks.{OpenLink, facts_in, link_after, link_at}
 use Rattle.journal_sending.specs.run_model.Due.{Each}
 use Rattle.journal_sending.specs.run_model.Feeding.{AreDistinct}
@@ -41,6 +43,7 @@ use Rattle.journal_sending.proofs.run_model.Walk.{Place, AtEnds}
 use Rattle.journal_sending.proofs.journal_data.run_laws.Agreed.{ack_of, step_facts}
 use Rattle.journal_sending.proofs.journal_data.run_laws.DistinctAccess.{AreApart}
 use Rattle.journal_sending.proofs.journal_data.run_laws.TurnPlaces.{Between, Within, at_stage}
+use Rattle.journal_sending.proofs.journal_acks.NewPdus.{first_part}
 use Rattle.journal_sending.proofs.journal_acks.link_calls.CallNotes.{HasNoData, SendsNone, all_more, end_noted, no_data}
 use Rattle.journal_sending.proofs.journal_packets.AccessOrder.{AreNth}
 use Rattle.journal_sending.proofs.journal_packets.SoFar.{IsBelongingSoFar}
@@ -53,6 +56,7 @@ use Rattle.journal_sending.proofs.journal_acks.SentLines.{line_in_call as sent_l
 use Rattle.journal_sending.proofs.journal_acks.Standing.{PhasedBy, last_phase, phased_at}
 use Rattle.journal_sending.proofs.journal_acks.TwoStations.{IsOfTwo}
 use Rattle.journal_sending.proofs.journal_data.Arriving.{IsEndBooked}
+use Rattle.journal_sending.specs.journal_data.Lines.{lines_of}
 use Rattle.journal_sending.proofs.journal_data.EachLine.{lines_at}
 use Rattle.journal_sending.proofs.journal_data.EndedLinks.{booked_within, reported_ack}
 use Rattle.journal_sending.proofs.journal_data.Ends.{IsWell}
@@ -64,16 +68,12 @@ use Rattle.journal_sending.proofs.journal_leaving.QuietTurns.{in_call_passed, is
 use Rattle.journal_sending.proofs.journal_leaving.ShutCalls.{handed}
 use Rattle.journal_sending.proofs.journal_leaving.ShutLines.{shut_in}
 use Rattle.journal_pdus.specs.Exchanged.{AllAreSettledAsShut}
-use Rattle.journal_pdus.specs.Settled.{IsSettled}
-use Rattle.journal_pdus.proofs.SettledEnds.{settled_end}
+use Rattle.journal_pdus.specs.Settled.{IsSettled, was_full}
+use Rattle.journal_pdus.proofs.HandedUp.{IsFullThen, left_or_full}
+use Rattle.journal_pdus.proofs.SettledEnds.{credited_end, received_end}
 use Rattle.journal_sending.proofs.Together.{IsKnownAt, known_first, known_kept}
 
 -- ---- notes of two parts
-
-all_front : (P : Note → Type 0) (notes later : List Note) → All P (notes ++ later) → All P notes
-all_front P [] later all = All-nil P
-all_front P (note ∷ notes) later all =
-    All-cons P note notes (All-head P note (notes ++ later) all) (all_front P notes later (All-tail P note (notes ++ later) all))
 
 -- a note is in the second part, where it is of a kind that is not in the first one
 record IsInSecond (first second earlier : List Note) (note : Note) (later : List Note) : Type 0 where
@@ -126,29 +126,38 @@ module _ (given : Given) (few_links : HaveFewLinks given) (eight : (station : �
   called_then notes = history ++ Called station TurnEnds ∷ map (Noted station) notes
 
   -- a link that is shut in the call, before the line of that
-  settled_leaving : (handle : ℕ) (reason : ErrCode) (link : OpenLink) → link_at handle facts.links ≡ Some link → (earlier later : List Note)
-      → notes_after (setup_at given station) facts TurnEnds ≡ earlier ++ ShutNote handle reason ∷ later
+  settled_leaving : IsFullThen given history station → (handle : ℕ) (reason : ErrCode) (link : OpenLink) → link_at handle facts.links ≡ Some link
+      → (earlier later : List Note) → notes_after (setup_at given station) facts TurnEnds ≡ earlier ++ ShutNote handle reason ∷ later
       → IsSettled (number_at station handle history) side (journal_of (called_then earlier))
-  settled_leaving handle reason link at earlier later are =
+  settled_leaving full handle reason link at earlier later are =
       let number = number_at station handle history in
+      let journal = journal_of (called_then earlier) in
       let reported = link_reported link in
+      let reports = notes_of_events facts.view (map event_completed (completed_from 0 facts.links)) in
+      let left = left_of facts.view facts.received in
       let parts = in_second is_shutting (notes_handed facts) (notes_leaving (facts_handed facts)) earlier (ShutNote handle reason) later
       (handed_not is_shutting (λ octets. refl) facts) refl are in
       let none : All SendsNone earlier =
-      all_front SendsNone earlier (ShutNote handle reason ∷ later)
+      first_part SendsNone earlier (ShutNote handle reason ∷ later)
       (subst (All SendsNone) are
       (all_more HasNoData SendsNone (λ note has_none. has_none.sends) _ (end_noted HasNoData no_data.feeds (setup_at given station) facts))) in
       let same = sym (reported_ack link) in
-      settled_end number side (journal_of (called_then earlier)) (facts_in reported) []
-      (subst (λ notes. IsEndBooked number (lines_at station (called_then notes)) (facts_in reported) []) (sym parts.earlier_is)
-      (booked_within given station history (few_links.links station) known.own known.well (eight station) handle link at parts.part (ShutNote handle reason ∷ later) parts.second_is))
-      refl
-      (past_together reported.setup reported.past)
-      (none_complete link)
-      (subst (λ line. IsLined line (ack_of reported)) (sym (sent_line_in_call number station TurnEnds history side earlier none))
-      (subst (λ ack. IsLined (sent_line_at number history side) ack) same (known.lined handle link at)))
-      (sym (ap (λ before. (exchange_at number before side).acked) (append_assoc history (Called station TurnEnds ∷ []) (map (Noted station) earlier)))
-      ∙ (notes_counts number station TurnEnds history side earlier).acked ∙ known.acked handle link at ∙ ap (λ (ack : Acknowledgement). ack.acked) same)
+      let booked : IsEndBooked number (lines_of 8 side journal) (facts_in reported) (data_waiting handle left) =
+      subst (λ notes. IsEndBooked number (lines_at station (called_then notes)) (facts_in reported) (data_waiting handle left)) (sym parts.earlier_is)
+      (booked_within given station history (few_links.links station) known.own known.well (eight station) handle link at parts.part (ShutNote handle reason ∷ later) parts.second_is) in record {
+        received = elim (left_or_full given history station full (reports ++ parts.part)) [
+          | inl waits ↦ inl (received_end number side journal (facts_in reported) (data_waiting handle left) booked (ap (data_waiting handle) waits))
+          | inr was ↦ inr (subst (λ notes. was_full side (journal_of (called_then notes)) ≡ true)
+              (sym (parts.earlier_is ∙ append_assoc (notes_pieces facts) reports parts.part)) was)
+        ];
+        credited = credited_end number side journal (facts_in reported) (data_waiting handle left) booked
+            (past_together reported.setup reported.past)
+            (none_complete link)
+            (subst (λ line. IsLined line (ack_of reported)) (sym (sent_line_in_call number station TurnEnds history side earlier none))
+            (subst (λ ack. IsLined (sent_line_at number history side) ack) same (known.lined handle link at)))
+            (sym (ap (λ before. (exchange_at number before side).acked) (append_assoc history (Called station TurnEnds ∷ []) (map (Noted station) earlier)))
+            ∙ (notes_counts number station TurnEnds history side earlier).acked ∙ known.acked handle link at ∙ ap (λ (ack : Acknowledgement). ack.acked) same);
+      }
 
 -- ---- in a run
 
@@ -200,7 +209,8 @@ resets_early facts NothingHeard is = absurd cc
 resets_early facts TurnEnds is = absurd cc
 
 module _ (whole : IsHeardWhole) (understood : IsUnderstood) (taken : AreTaken) (nth : AreNth) (apart : AreApart) (given : Given) (are_two : IsOfTwo given) (few_links : HaveFewLinks given)
-    (six : HaveAddresses given) (distinct : AreDistinct given.stations) (eight : (station : ℕ) → (setup_at given station).host_buffers ≡ 8) where
+    (six : HaveAddresses given) (distinct : AreDistinct given.stations) (eight : (station : ℕ) → (setup_at given station).host_buffers ≡ 8)
+    (full : (station : ℕ) (before rest : List Event) → history_of (run_of given) ≡ before ++ Called station TurnEnds ∷ rest → IsFullThen given before station) where
   run_ending : Each (OfCall given (AreKnownEnding given)) [] (history_of (run_of given))
   run_ending =
       let Q = IsBelongingSoFar given in
@@ -233,7 +243,9 @@ module _ (whole : IsHeardWhole) (understood : IsUnderstood) (taken : AreTaken) (
         as_ending given call.base station step ends
         (each_at (OfCall given (AreKnownEnding given)) (history_of (run_of given)) call.base call.after (Called station step) run_ending call.called) in
         let so : IsSettled own (side_of station) (journal_of (call.base ++ Called station TurnEnds ∷ map (Noted station) call.earlier)) =
-        settled_leaving given few_links eight station call.base known call.handle reason was.link was.was call.earlier call.later
+        settled_leaving given few_links eight station call.base known
+        (full station call.base call.after (call.called ∙ ap (λ one. call.base ++ Called station one ∷ call.after) ends))
+        call.handle reason was.link was.was call.earlier call.later
         (ap (notes_after (setup_at given station) facts) (sym ends) ∙ call.notes_are) in
         to_line given front line call (λ one entries of. IsSettled one of entries)
         (subst (λ n. IsSettled n (side_of station) (journal_of call.before)) (number_then given front line call (ap ends_phase ends) ∙ sym call.number_is)

@@ -7,11 +7,10 @@ use Rattle.journal.specs.declared.entries.Entry.{Entry}
 use Rattle.journal.specs.declared.entries.Entry.TheVariants.{Air}
 use Rattle.journal.specs.declared.entries.Mark.{Mark}
 use Rattle.journal_sending.specs.run_model.Readers.{turn_packets}
-use Rattle.journal_pdus.specs.Settled.{AreSettled}
+use Rattle.journal_pdus.specs.Settled.{AreCredited}
 
--- before the first packet of each turn all that is complete is reported, also what the hosts sent in this turn, and all
--- that is taken is handed up
+-- before the first packet of each turn all that is complete is reported, also what the hosts sent in this turn
 abbrev pub AllAreCreditedAtOnce : List Entry → Type 0
 AllAreCreditedAtOnce journal = (front rest : List Entry) (side : Side) (channel : ℕ) (octets : List ℕ) (fate : Mark)
     (verdict : Verdict) → journal ≡ front ++ Air side channel octets fate verdict ∷ rest → turn_packets front ≡ 0
-    → AreSettled front
+    → AreCredited front

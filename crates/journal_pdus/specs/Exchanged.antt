@@ -21,13 +21,14 @@ AllAreNew journal = (front rest : List Entry) (side : Side) (link count llid : �
     → journal ≡ front ++ Sent side link count llid body ∷ rest
     → IsNewPdu link front side (record { llid = llid; body = body })
 
--- before each turn all that is taken is handed up, and all that is complete is reported
+-- before each turn all that is taken is handed up, or as much of it as its host can take, and all that is complete is
+-- reported
 abbrev pub AllAreSettled : List Entry → Type 0
 AllAreSettled journal = (front rest : List Entry) (slot : ℕ) (a_on : Bool) (b_on : Option Bool)
     → journal ≡ front ++ Turn slot a_on b_on ∷ rest → AreSettled front
 
--- where a link is shut after the packets of a turn, all that is taken on it is handed up before, and all that is complete
--- is reported
+-- where a link is shut after the packets of a turn, all that is taken is handed up before, or as much of it as its host can
+-- take, and all that is complete is reported
 abbrev pub AllAreSettledAsShut : List Entry → Type 0
 AllAreSettledAsShut journal = (front rest : List Entry) (side : Side) (link : ℕ) (reason : ErrCode)
     → journal ≡ front ++ Shut side link reason ∷ rest → packets_passed front ≡ true → IsSettled link side front

@@ -27,8 +27,11 @@ use Rattle.journal_sending.specs.journal_hosts.Answered.{AllAreAnswered}
 use Rattle.journal_sending.specs.journal_hosts.Credits.{AllCreditsAreOfOne, AllCreditsAreOfSome, AllCreditsAscend}
 use Rattle.journal_sending.specs.journal_hosts.Credits.{AllEarlyCreditsComeAtOnce, AllLateCreditsComeLast}
 use Rattle.journal_sending.specs.journal_hosts.Ends.{AllLateEndsAreReported}
+use Rattle.journal_sending.specs.journal_hosts.HostFlow.{KeepsHostFlow}
+use Rattle.journal_sending.specs.journal_hosts.HostOrder.{AllComeInOrder}
 use Rattle.journal_sending.specs.journal_leaving.Reasons.{AllAreShutAs, AllEndInTime, AllStayOpen}
 use Rattle.journal_sending.specs.Resting.{IsAtRest}
+use Rattle.journal_anchors.specs.Anchors.{NoEventIsMissed, NoEventsAreMissed}
 use Rattle.journal_seals.specs.journal_sealing.Mixed.{is_mixed}
 use Rattle.journal_slots.specs.SecondSlot.{AllAreContinued}
 use Rattle.journal_turns.specs.Follows.{FollowsSchedule}
@@ -96,6 +99,8 @@ pub record IsLawfulWith (words : Words) (mixed : Mixed) (a b : List ℕ) (script
   pub to_open : OpenedLinksWereToOpen journal
   pub entered : AllAreEntered journal
   pub events : AllAreInOrder journal
+  -- each open end enters each event of its link, unless it ended that
+  pub none_missed : NoEventsAreMissed words journal
   -- each end lets the indications hold that its central sent, and both ends enter an event in one turn, on one channel and
   -- with equal parameters wherever the same number of them is in force
   pub follows_central : AllFollowCentral mixed journal
@@ -130,6 +135,10 @@ pub record IsLawfulWith (words : Words) (mixed : Mixed) (a b : List ℕ) (script
   pub due : PdusAreDue words journal
   -- the packets of links are sealed and judged as the keys and the counters of their ends say
   pub sealed : PacketsAreSealed words journal
+  -- a host whose flow control is on never holds more packets of data than it can take, and none is longer than its buffers
+  pub host_flow : KeepsHostFlow journal
+  -- and each packet of data to a host is of the first piece that waits for it, of whichever link
+  pub host_order : AllComeInOrder journal
   -- data arrives in order, and is credited only as it is accepted
   pub arrives : AllDataArrives mixed journal
 
@@ -138,12 +147,14 @@ abbrev pub IsLawful : (a b : List ℕ) (script : Script) → List Entry → Type
 IsLawful a b script journal = IsLawfulWith (words_by script) (is_mixed (words_by script)) a b script journal
 
 -- the journal of a whole run: all turns of the script begin, and at the end nothing is under way, nothing waits for a
--- host, no link was to end, no line of a procedure is due, and each CONNECT_IND has opened its link at both sides
+-- host, no link was to end, no event of a link was missed, no line of a procedure is due, and each CONNECT_IND has opened
+-- its link at both sides
 pub record IsWhole (script : Script) (journal : List Entry) : Type 0 where
   pub turns : AreAllTurns script journal
   pub at_rest : IsAtRest (words_by script) journal
   pub settled : AreSettled journal
   pub in_time : AllStayOpen (words_by script) journal
+  pub none_missed : NoEventIsMissed (words_by script) journal
   pub procedure_lines : NoneIsDue (words_by script) journal
   pub begun : AreOpened journal
   pub taken : HeardLinksAreOpened journal

@@ -1,17 +1,47 @@
 -- What a host has received of a link, and what is reported to it, between the turns of a run (Core 5.2, volume 4
 -- part E, section 7.7.19; when it is done is our choice).
-use Rattle.std.specs.Prelude.{◌≡◌, ℕ, ◌+◌, ◌-◌, ◌==◌, List, ◌∷◌, ◌++◌, length, take, Option, Some, None, if◌then◌else◌}
+use Rattle.std.specs.Prelude.{◌≡◌, ◌⊎◌, ℕ, ◌+◌, ◌-◌, ◌==◌, ◌&&◌, ◌||◌, not, Bool, true, false, List, [], ◌∷◌, ◌++◌, length, take, Option, Some, None, if◌then◌else◌}
 use Rattle.ble_base.specs.declared.roles.Side.{Side}
 use Rattle.acl_banks.specs.History.{whole_packets}
 use Rattle.acl_banks.specs.Packets.{Marked}
 use Rattle.journal.specs.declared.entries.Entry.{Entry}
+use Rattle.journal.specs.declared.entries.Entry.TheVariants.{Air, Fed, Turn}
 use Rattle.journal_sending.specs.journal_acks.Carried.{SentLine, sent_line_of}
 use Rattle.journal_sending.specs.journal_acks.Exchange.{exchange_of}
 use Rattle.journal_sending.specs.journal_data.Delivered.{host_buffers}
 use Rattle.journal_sending.specs.journal_data.HostLines.{OpenUnder}
-use Rattle.journal_sending.specs.journal_data.Lines.{accepted_on, credited_on, data_on, empties_on, lines_of, pdus_on}
-use Rattle.journal_sending.specs.journal_data.Lines.{received_on}
+use Rattle.journal_sending.specs.journal_data.Lines.{accepted_on, credited_on, data_on, empties_on, lines_of, pdus_on, received_on}
+use Rattle.journal_sending.specs.journal_hosts.HostFlow.{is_host_full}
+use Rattle.journal_sending.specs.journal_packets.Belonging.{is_side}
 use Rattle.journal_sending.specs.Outgoing.{data_of_lines}
+
+-- ---- what is handed up
+
+-- a turn begins, a packet is on the air, or the host of a side gives octets
+abbrev pub goes_on : Side → Entry → Bool
+goes_on side (Turn slot a_on b_on) = true
+goes_on side (Air sender channel octets fate verdict) = true
+goes_on side (Fed other octets) = is_side other side
+goes_on side line = false
+
+-- these lines come after `front`
+abbrev pub full_from : Side → List Entry → Bool → List Entry → Bool
+full_from side front full [] = full
+full_from side front full (line ∷ lines) =
+    full_from side (front ++ line ∷ []) ((full && not (goes_on side line)) || is_host_full side (front ++ line ∷ [])) lines
+
+-- the host of a side could take no more at one of the lines since such a line, or at that: so as the turn ended. The
+-- packets of a link that is shut then count as taken only from then on
+unfoldable pub was_full : Side → List Entry → Bool
+was_full side journal = full_from side [] false journal
+
+-- the host has received all data of a link that its side took, or could take no more
+abbrev pub IsHandedUp : ℕ → Side → List Entry → Type 0
+IsHandedUp link side front =
+    (received_on link (lines_of host_buffers side front) ≡ accepted_on link (lines_of host_buffers side front))
+    ⊎ (was_full side front ≡ true)
+
+-- ---- what is credited
 
 -- 1 where the PDU of the last `sent` line is not acknowledged: no PDU of its side was, since that line
 abbrev pub count_out : Option SentLine → ℕ → ℕ
@@ -25,14 +55,23 @@ acked_on link side front =
     data_of_lines
     (take (length lines - count_out (sent_line_of link front side) (exchange_of link front side).acked) lines)
 
--- the host of a side has received all data that its side took; and of its own packets those are reported that had no
--- octet, and those whose last octet is acknowledged
+-- of the packets of its host those are reported that had no octet, and those whose last octet is acknowledged
+abbrev pub IsCredited : ℕ → Side → List Entry → Type 0
+IsCredited link side front =
+    credited_on link (lines_of host_buffers side front)
+    ≡ empties_on link (lines_of host_buffers side front)
+    + whole_packets (data_on link (lines_of host_buffers side front)) (length (acked_on link side front))
+
+-- on each link that a side has open
+abbrev pub AreCredited : List Entry → Type 0
+AreCredited front = (side : Side) (before after : List OpenUnder) (one : OpenUnder)
+    → (lines_of host_buffers side front).links ≡ before ++ one ∷ after → IsCredited one.link side front
+
+-- ---- both
+
 pub record IsSettled (link : ℕ) (side : Side) (front : List Entry) : Type 0 where
-  pub received : received_on link (lines_of host_buffers side front)
-      ≡ accepted_on link (lines_of host_buffers side front)
-  pub credited : credited_on link (lines_of host_buffers side front)
-      ≡ empties_on link (lines_of host_buffers side front)
-      + whole_packets (data_on link (lines_of host_buffers side front)) (length (acked_on link side front))
+  pub received : IsHandedUp link side front
+  pub credited : IsCredited link side front
 
 -- so it is on each link that a side has open
 abbrev pub AreSettled : List Entry → Type 0

@@ -7,10 +7,10 @@ ghost use Rattle.journal_sending.specs.run_model.LinkEnds.{HaveAddresses};
 ghost use Rattle.journal_sending.specs.run_model.Run.{Given, history_of, run_of, setup_at};
 
 /// In the journal of a run of two stations, with any number of links each, before the first packet
-/// of a turn, on each link that a side has open, its host has received all data that the side took,
-/// and all packets of the host that are complete are reported to it: those whose last octet is
-/// acknowledged and those without octets, also those that came in this turn (Core 5.2, volume 4
-/// part E, section 7.7.19; when they are reported is our choice).
+/// of a turn, on each link that a side has open, all packets of its host that are complete are
+/// reported to it: those whose last octet is acknowledged and those without octets, also those that
+/// came in this turn (Core 5.2, volume 4 part E, section 7.7.19; when they are reported is our
+/// choice).
 pub fn each_complete_packet_is_reported_at_once()
     ensures { (given : Given) → given.stations ≡ 0 ∷ 1 ∷ [] → HaveAddresses given
         → ((station : ℕ) → (setup_at given station).links ≤ 4096)

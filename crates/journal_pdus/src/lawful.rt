@@ -29,12 +29,15 @@ use crate::links::{
 /// is taken, no indication comes of it, and it is never done (`journal_collisions`,
 /// `journal_outcomes`); no link ends with 0x07, 0x23 or 0x2A (`journal_endings`), and one ends with
 /// 0x3D only where its side judged a packet of it forged (`journal_failures`); an answer on a link
-/// that passes is heard: it is judged good or forged, or broken where its payload has more than 251
-/// octets; requests on the advertising channels that pass are heard too; a side opens a link as its
-/// peripheral exactly where it heard the CONNECT_IND and is to open it (`journal_hearings`); each
-/// command is answered once, and complete packets are reported in their order (`journal_hosts`); and
-/// data arrives in order (`journal_data::data_arrives_in_order_in_every_journal`). The packet at which
-/// damage ends a run is due as those before it are.
+/// that passes is heard: it is judged good or forged, or broken where its payload has more octets
+/// than that side receives; requests on the advertising channels that pass are heard too; a side
+/// opens a link as its peripheral exactly where it heard the CONNECT_IND and is to open it
+/// (`journal_hearings`); each command is answered once, complete packets are reported in their order,
+/// a host whose flow control is on never holds more packets of data than it can take, none of them
+/// longer than its buffers, and each packet of data to a host is of the first piece that waits for
+/// it, of whichever link (`journal_hosts`); and data arrives in order
+/// (`journal_sending::data_arrives_in_order_in_every_journal`). The packet at which damage ends a run
+/// is due as those before it are.
 ///
 /// Links encrypt. What is said of one end holds in all phases, by the keys and the counters that the
 /// lines give it, with the words of the script as what its side draws. What is said of both ends of a
@@ -73,8 +76,9 @@ use crate::links::{
 ///   LL_TERMINATE_IND is acknowledged there;
 /// - before each turn, and at the end of a whole run, the packet of each line of a new PDU was on
 ///   the air, and what reached a side was taken; and the host of each side has received all data
-///   that its side took, and each of its packets that the other side acknowledged whole is reported
-///   to it. So it is of a link that is shut after a packet of its turn, before that line.
+///   that its side took, or could take no more as the turn ended, and each of its packets that the
+///   other side acknowledged whole is reported to it. So it is of a link that is shut after a packet
+///   of its turn, before that line.
 pub fn each_journal_is_lawful()
     ensures lawful { (a b : List ℕ) (script : Script) → length script.a.public ≡ 6
         → length script.b.public ≡ 6
@@ -125,6 +129,7 @@ pub fn each_journal_is_lawful()
     journal_sending::the_line_of_each_new_pdu_is_just_before_its_packet();
     journal_sending::each_pdu_is_taken_at_once();
     journal_sending::nothing_is_under_way_between_turns();
+    journal_anchors::no_end_misses_an_event();
     journal_slots::each_second_slot_has_its_reason();
     journal_sending::each_command_is_answered();
     journal_sending::each_credit_is_of_some_packets();
@@ -132,6 +137,8 @@ pub fn each_journal_is_lawful()
     journal_sending::credits_of_a_turn_are_in_the_order_of_handles();
     journal_sending::each_late_credit_comes_as_its_turn_ends();
     journal_sending::each_late_end_is_reported_at_once();
+    journal_sending::data_fits_the_buffers_of_its_host();
+    journal_sending::data_of_all_links_comes_in_one_order();
     journal_hearings::each_request_is_heard();
     journal_hearings::each_heard_link_is_opened();
     journal_hearings::each_opened_link_was_to_open();

@@ -11,14 +11,15 @@ ghost use Rattle.journal_sending.specs.run_model.Journal.{journal_of};
 ghost use Rattle.journal_sending.specs.run_model.LinkEnds.{HaveAddresses};
 ghost use Rattle.journal_sending.specs.run_model.Run.{Given, GoesOn, history_of, run_of, setup_at};
 
-/// In the journal of a run of two stations, with any number of links each and whatever phases they
-/// are in, each answer on a link that passes is heard: it is judged good, or forged where its
-/// integrity code is wrong for the end that hears it, or broken where its payload has more than 251
-/// octets and that end has no room for it. Who sends first listens for the answer, on the channel of
-/// the event, and knows its access address (Core 5.2, volume 6 part B, sections 2.1.2, 4.5.1, 4.5.10
-/// and 5.1.3.1).
+/// In the journal of a run of two stations, with up to six links each and whatever phases they are
+/// in, each answer on a link that passes is heard: it is judged good, or forged where its
+/// integrity code is wrong for the end that hears it, or broken where its payload has more octets
+/// than that end receives, which are 251, or as many as its host takes in a packet where these are
+/// fewer. Who sends first listens for the answer, on the channel of the event, and knows its access
+/// address (Core 5.2, volume 6 part B, sections 2.1.2, 4.5.1, 4.5.10 and 5.1.3.1).
 pub fn each_answer_on_a_link_is_heard()
     ensures { (given : Given) → given.stations ≡ 0 ∷ 1 ∷ [] → HaveAddresses given
+        → ((station : ℕ) → (setup_at given station).links ≤ 6)
         → AllAnswersAreHeard (journal_of (history_of (run_of given))) }
 {
     journal_sending::a_pdu_is_understood();

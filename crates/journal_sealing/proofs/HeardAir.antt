@@ -5,7 +5,7 @@ use Rattle.std.specs.Prelude.{map, take, if◌then◌else◌}
 use Rattle.std.proofs.lemmas.Bool.{eqb-true}
 use Rattle.ble_base.specs.declared.notes.Note.{Note}
 use Rattle.journal_controls.specs.controller_model.Facts.{Facts, Sends, Setup}
-use Rattle.journal_controls.specs.controller_model.Side.{facts_after, facts_of, notes_after}
+use Rattle.journal_controls.specs.controller_model.Side.{facts_after, notes_after}
 use Rattle.journal_controls.specs.controller_model.Step.{Step, HostOctet, NothingHeard, PacketHeard, TurnBegins, TurnEnds}
 use Rattle.journal_controls.specs.run_model.Due.{Each, IsPacketDue}
 use Rattle.journal_controls.specs.run_model.Feeding.{AreDistinct}
@@ -14,7 +14,7 @@ use Rattle.journal_controls.specs.run_model.LinkEnds.{HaveAddresses}
 use Rattle.journal_controls.specs.run_model.Links.{is_advertising}
 use Rattle.journal_controls.specs.run_model.Run.{Given, after_call, after_feed, after_octets, facts_at, hearings_of, history_of, octets_left, run_of, setup_at, step_of, use_at}
 use Rattle.journal_acks.proofs.run_laws.ByCalls.{first_hears}
-use Rattle.journal_acks.proofs.run_laws.Hearings.{AreHearing, Hears, IsUseInPhase, hearing_kept, own_facts, own_hears, sender_links, sends_deaf, use_in_phase, use_same}
+use Rattle.journal_acks.proofs.run_laws.Hearings.{AreHearing, Hears, IsUseInPhase, facts_same, hearing_kept, own_facts, own_hears, sender_links, sends_deaf, use_in_phase, use_same}
 use Rattle.journal_acks.proofs.run_laws.SentPackets.{IsUseSent}
 use Rattle.journal_acks.proofs.run_laws.TurnPlaces.{event_past, stands_first}
 use Rattle.journal_controls.proofs.journal_acks.AirCounts.{advertises}
@@ -81,9 +81,6 @@ handed_before before station octets (hearing ∷ hearings) got is =
     handed_if ((station == hearing.listener) && is_handed hearing.verdict) (damaged_packet hearing.fate octets) got
     (handed_or before station octets hearings) (handed_or None station octets hearings) before (handed_before before station octets hearings got) is
 
-same_facts : (given : Given) (station : ℕ) (history after : List Event) → past_of station after ≡ past_of station history → facts_at given station after ≡ facts_at given station history
-same_facts given station history after same = ap (facts_of (setup_at given station)) same
-
 -- more events, in which neither the station is called nor the links of the sender change
 later : (given : Given) (history more : List Event) (station : ℕ) (octets : List ℕ) (air : IsFromAir given history station octets)
     → facts_at given station (history ++ more) ≡ facts_at given station history
@@ -133,15 +130,15 @@ module _ (given : Given) (station channel : ℕ) (octets : List ℕ) (hearings :
           is_one = is;
           is_due = due;
           handed = now;
-          own = same_facts given other history next (past other);
-          far = λ off. ap (λ (f : Facts). f.links) (same_facts given station history next (past station));
+          own = facts_same given other history next (past other);
+          far = λ off. ap (λ (f : Facts). f.links) (facts_same given station history next (past station));
         };
         wanted = λ not_called. use_same given station history next (past station) ∙ due.is_wanted;
       }
       by got (inr earlier) =
           let from = comes got earlier in record {
-            air = later given history (event ∷ []) other got from.air (same_facts given other history next (past other))
-                (λ off. ap (λ (f : Facts). f.links) (same_facts given from.air.sender history next (past from.air.sender)));
+            air = later given history (event ∷ []) other got from.air (facts_same given other history next (past other))
+                (λ off. ap (λ (f : Facts). f.links) (facts_same given from.air.sender history next (past from.air.sender)));
             wanted = λ not_called. use_same given from.air.sender history next (past from.air.sender) ∙ from.wanted not_called;
           }
 
@@ -172,7 +169,7 @@ module _ (given : Given) (phases : ℕ) (done : List ℕ) (station : ℕ) (histo
   call = Called station (step_of received) ∷ map (Noted station) notes
 
   other_same : (other : ℕ) → (other == station) ≡ false → facts_at given other called ≡ facts_at given other history
-  other_same other differs = same_facts given other history called (past_other other station (step_of received) notes history differs)
+  other_same other differs = facts_same given other history called (past_other other station (step_of received) notes history differs)
 
   -- that of the station itself, if it is the sender
   sender_stays : (sender channel : ℕ) (octets : List ℕ) (same : Bool) → (sender == station) ≡ same

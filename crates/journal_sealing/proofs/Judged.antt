@@ -31,11 +31,10 @@ use Rattle.journal_controls.specs.link_model.Verdicts.{has_room_for, pdu_of, ver
 use Rattle.journal_controls.specs.link_model.enc_phase.Sealing.{EncEnd, is_right}
 use Rattle.journal_controls.specs.open_links.OpenLinks.{facts_in}
 use Rattle.journal_controls.specs.run_model.History.{is_handed}
-use Rattle.journal_controls.specs.run_model.Journal.{journal_of, mark_of, side_of}
+use Rattle.journal_controls.specs.run_model.Journal.{journal_of, side_of}
 use Rattle.journal_controls.specs.run_model.Run.{Given}
+use Rattle.journal_controls.proofs.journal_ends.ForgedLinks.{left_is}
 use Rattle.radio_replay.specs.Damage.{damaged_packet}
-use Rattle.radio_replay.specs.declared.fates.Fate.{Fate}
-use Rattle.radio_replay.specs.declared.fates.Fate.TheVariants.{Pass, Lost, Damage}
 use Rattle.journal_sealing.specs.Forged.{counts_by, is_forged_for, is_wrong, is_wrong_in, is_wrong_on}
 use Rattle.journal_sealing.specs.Judged.{IsJudgedByLines}
 
@@ -80,11 +79,6 @@ end_judges setup facts end octets counted handed =
     heard_as setup.link.max_rx (opens_now facts.encryption.end) end facts (heard_of setup facts octets) counted handed
 
 -- ---- a line
-
-pub left_is : (fate : Fate) (octets : List ℕ) → left_of (mark_of fate) octets ≡ damaged_packet fate octets
-left_is Pass octets = refl
-left_is Lost octets = refl
-left_is (Damage at pattern) octets = refl
 
 pub judged_by_lines : (words : Words) (given : Given) (front : List Entry) (side : Side) (channel : ℕ) (octets : List ℕ) (fate : Mark) (verdict : Verdict)
     (line : IsHeardLine given front side channel octets fate verdict)

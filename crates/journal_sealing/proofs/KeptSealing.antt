@@ -1,5 +1,5 @@
 -- Each step of a run of two stations keeps that the lines give the payload of each open end.
-use Rattle.std.proofs.Common.{◌≡◌, ℕ, ◌+◌, ◌==◌, Bool, true, false, Option, Some, None, List, [], ◌∷◌, ◌++◌, ◌⊎◌, inl, inr, length, replicate, refl, sym, ap, subst, ◌∙◌, arith}
+use Rattle.std.proofs.Common.{◌≡◌, ℕ, ◌+◌, ◌==◌, Bool, true, false, Option, Some, None, List, [], ◌∷◌, ◌++◌, length, replicate, refl, sym, ap, subst, ◌∙◌, arith}
 use Rattle.std.specs.Prelude.{All, map, take}
 use Rattle.std.proofs.lemmas.Bool.{eqb-true, ne_eqb}
 use Rattle.ble_base.specs.declared.roles.Side.{Side}
@@ -32,7 +32,7 @@ use Rattle.journal_controls.specs.run_model.LinkEnds.{HaveAddresses}
 use Rattle.journal_controls.specs.run_model.Links.{is_advertising}
 use Rattle.journal_controls.specs.run_model.Run.{Given, Stop, Stops, after_call, after_feed, after_octets, facts_at, hearings_of, history_of, octets_left, run_of, setup_at, step_of, use_at}
 use Rattle.journal_acks.proofs.link_calls.CallNotes.{HasNoData, OpensNone, SendsNone, all_more, begin_noted, end_noted, no_data, notes_starting, octet_noted, opening_none, start_noted}
-use Rattle.journal_acks.proofs.link_calls.LinkCalls.{IsOpenedNow, begins_under, passes_under, phase_quiet, received_noted, taking_opens, taking_sends}
+use Rattle.journal_acks.proofs.link_calls.LinkCalls.{begins_under, received_noted, taking_opens, taking_sends}
 use Rattle.journal_acks.proofs.link_calls.UnderHandles.{end_under, octet_under}
 use Rattle.journal_acks.proofs.run_laws.Agreed.{ack_of, ack_sent, step_facts}
 use Rattle.journal_acks.proofs.run_laws.DistinctAccess.{AreApart}
@@ -48,6 +48,7 @@ use Rattle.journal_controls.proofs.journal_acks.Exchanging.{number_at, number_ca
 use Rattle.journal_controls.proofs.journal_acks.FixedPdus.{sent_out}
 use Rattle.journal_controls.proofs.journal_acks.Known.{known_of}
 use Rattle.journal_controls.proofs.journal_acks.LinkPackets.{link_packet}
+use Rattle.journal_controls.proofs.journal_acks.PassedLinks.{passed_or_new}
 use Rattle.journal_controls.proofs.journal_acks.run_laws.Payloads.{payload_out}
 use Rattle.journal_controls.proofs.journal_acks.PhaseNotes.{IsOnLink, IsPhaseOf, IsPlainPhase, phase_of}
 use Rattle.journal_controls.proofs.journal_acks.Seen.{seen_packet, seen_stop}
@@ -232,17 +233,10 @@ module _ (words : Words) (heard_whole : IsHeardWhole) (understood : IsUnderstood
         (taken_led (sends_under handle (facts_after setup facts (step_of received)).turn.doing) setup handle (has_room setup facts) octets facts base link same) was at number
 
     passes_own : AreNow words given station after
-    passes_own handle link at = by (phase_quiet (setup_at given station) (facts_at given station history) (packet_received station history) handle)
-      where
-        by : All (OpensNone handle) (notes_after (setup_at given station) (facts_at given station history) (step_of (packet_received station history)))
-            ⊎ ((one : OpenLink) → link_at handle (facts_after (setup_at given station) (facts_at given station history) (step_of (packet_received station history))).links ≡ Some one
-            → IsOpenedNow (facts_at given station history).turn.slot one)
-            → IsNow words given station (after_call given station (step_of (packet_received station history)) history) handle link
-        by (inl quiet) =
-            let phased = phased_at given (AtListening phases done (station ∷ left)) history has.control.seen.holds.hearing.stand station in_it in
-            passed handle link at (number_called given station (step_of received) history handle quiet)
-            (passes_under setup facts received handle link phased.uses.in_turn.listens (held_at words given station (step_of received) history handle link at))
-        by (inr new) = fresh handle link at (new link (held_at words given station (step_of received) history handle link at)).past
+    passes_own handle link at =
+        let phased = phased_at given (AtListening phases done (station ∷ left)) history has.control.seen.holds.hearing.stand station in_it in
+        passed_or_new given station history phased.uses.in_turn.listens (IsNow words given station after handle link) handle link at (passed handle link at)
+        (λ new. fresh handle link at new.past)
 
   -- ---- each step
 

@@ -1,23 +1,23 @@
 -- While an end sends no new PDU, and the last one is not acknowledged, its payload stays, in all phases of encryption.
-use Rattle.std.proofs.Common.{◌≡◌, ℕ, ◌≤◌, ◌&&◌, not, Bool, true, false, Option, Some, None, List, [], ◌∷◌, ◌++◌, fold, length, refl, sym, ap, ◌∙◌, arith}
+use Rattle.std.proofs.Common.{◌≡◌, ℕ, ◌≤◌, Bool, true, false, Option, Some, None, List, [], ◌∷◌, ◌++◌, fold, length, refl, sym, ap, ◌∙◌, arith}
 use Rattle.std.proofs.lemmas.List.{length_push}
-use Rattle.std.proofs.lemmas.List.Sums.{fold-append}
-use Rattle.ack_bit.specs.AckBits.{acknowledges}
 use Rattle.ble_base.specs.declared.roles.Role.{Role}
 use Rattle.data_pdu.specs.Header.{header_in}
-use Rattle.journal_controls.specs.link_model.Acknowledgement.{Acknowledgement, Pdu, bits_of, is_acked, next_sent, received_by}
+use Rattle.journal_controls.specs.link_model.Acknowledgement.{Acknowledgement, Pdu, is_acked, next_sent}
 use Rattle.journal_controls.specs.link_model.Controls.{pdu_fixed}
-use Rattle.journal_controls.specs.link_model.End.{facts_after, facts_of}
-use Rattle.journal_controls.specs.link_model.Facts.{Facts, first_facts}
+use Rattle.journal_controls.specs.link_model.End.{facts_after}
+use Rattle.journal_controls.specs.link_model.Facts.{Facts}
 use Rattle.journal_controls.specs.link_model.Packets.{good_pdu, is_forged}
-use Rattle.journal_controls.specs.link_model.Receiving.{accepts, facts_before_taking, facts_received}
+use Rattle.journal_controls.specs.link_model.Receiving.{facts_received}
 use Rattle.journal_controls.specs.link_model.Setup.{Setup}
 use Rattle.journal_controls.specs.link_model.Step.{Step, PacketReceived, PacketSent}
 use Rattle.journal_controls.specs.link_model.Verdicts.{pdu_of}
 use Rattle.journal_controls.specs.open_links.OpenLinks.{OpenLink, facts_in}
+use Rattle.journal_controls.proofs.FixedEnds.{grown_facts}
 use Rattle.journal_controls.proofs.link_model.Acknowledging.{ack_heard, ack_sent, forged_leaves}
 use Rattle.journal_controls.proofs.link_model.Agreeing.{others_leave}
 use Rattle.journal_controls.proofs.link_model.Repeating.{payload_kept}
+use Rattle.journal_acks.proofs.run_laws.Payloads.{heard_out}
 
 -- ---- a step
 
@@ -43,22 +43,6 @@ received_sent : (role : Role) (slot : ℕ) (room : Bool) (pdu : Option (List ℕ
 received_sent role slot room None facts = refl
 received_sent role slot room (Some octets) facts =
     ap (λ (ack : Acknowledgement). ack.sent) (ack_heard role slot room (header_in octets) (pdu_of octets) facts)
-
--- what is acknowledged stays so until a new PDU is sent
-received_out : (all says accepted : Bool) (pdu : Pdu) (ack : Acknowledgement) → is_acked ack ≡ all → is_acked (received_by (not all && says) accepted pdu ack) ≡ false
-    → is_acked ack ≡ false
-received_out true says accepted pdu ack is out = out
-received_out false says accepted pdu ack is out = is
-
-heard_out : (role : Role) (slot : ℕ) (room : Bool) (pdu : Option (List ℕ)) (facts : Facts) → is_acked (facts_received role slot room pdu facts).acknowledgement ≡ false
-    → is_acked facts.acknowledgement ≡ false
-heard_out role slot room None facts out = out
-heard_out role slot room (Some octets) facts out =
-    let header = header_in octets in
-    let pdu = pdu_of octets in
-    let ack = facts.acknowledgement in
-    received_out (is_acked ack) (acknowledges (bits_of ack) header) (accepts room header pdu (facts_before_taking role slot header facts)) pdu ack refl
-    (ap is_acked (sym (ack_heard role slot room header pdu facts)) ∙ out)
 
 module _ (setup : Setup) where
   step_grows : (facts : Facts) (step : Step) → sent_count facts ≤ sent_count (facts_after setup facts step)
@@ -106,15 +90,9 @@ module _ (setup : Setup) where
 
 -- ---- a link to which more happened
 
-steps_facts : (base after : OpenLink) (steps : List Step) → after.setup ≡ base.setup → after.past ≡ base.past ++ steps
-    → facts_in after ≡ fold (facts_after base.setup) (facts_in base) steps
-unfolding facts_of
-steps_facts base after steps setup past =
-    (λ i. facts_of (setup i) (past i)) ∙ fold-append (facts_after base.setup) (first_facts base.setup) base.past steps
-
 module _ (base after : OpenLink) (steps : List Step) (setup_is : after.setup ≡ base.setup) (past_is : after.past ≡ base.past ++ steps) where
   same : facts_in after ≡ fold (facts_after base.setup) (facts_in base) steps
-  same = steps_facts base after steps setup_is past_is
+  same = grown_facts base after steps setup_is past_is
 
   pub link_grows : length (facts_in base).acknowledgement.sent ≤ length (facts_in after).acknowledgement.sent
   link_grows =

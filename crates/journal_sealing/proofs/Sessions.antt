@@ -15,7 +15,7 @@ use Rattle.journal.specs.declared.entries.Entry.TheVariants.{Air, Enter, Opened,
 use Rattle.journal_controls.specs.KeyedLines.{Accepts, Does, Forges, LineStep, answer_by, given_by, answering, does_if, does_some, has_next, keyed_by, keyed_by_all}
 use Rattle.journal_controls.specs.LineSteps.{anchor_begun, answers_with, is_coming, is_more_acked, keyed_begun, keyed_in_line, keyed_on, moved_in_line, steps_asking, steps_said, steps_seen, steps_in_line, turn_now, withholds}
 use Rattle.journal_controls.specs.Withheld.{Withheld, answer_to, first_answer, key_answer, step_if, withheld_answer}
-use Rattle.journal_controls.specs.controller_model.Heard.{most_received}
+use Rattle.journal_controls.specs.host_answers.Flows.{most_received_on}
 use Rattle.journal_controls.specs.host_answers.Answered.{accepted_in}
 use Rattle.journal_controls.specs.journal_acks.Carried.{carried_of}
 use Rattle.journal_controls.specs.journal_acks.Exchange.{exchange_of}
@@ -322,10 +322,10 @@ module _ (words : Words) (side : Side) (number : ℕ) (front : List Entry) where
   same_end : (one next : Keyed) → one ≡ next → 0 < next.end.sent → IsOnward one next
   same_end one next is some = onward one next (GoesOn (ap (λ (k : Keyed). k.end.key) (sym is)) (ap (λ (k : Keyed). k.end.iv) (sym is)) (ap (λ (k : Keyed). k.end.sent) (sym is))) some
 
-  begun_clear : (found : Option LinkBegun) (next : Keyed) → keyed_begun side found ≡ Some next → next.end.sent ≡ 0
+  begun_clear : (found : Option LinkBegun) (next : Keyed) → keyed_begun (most_received_on side front) side found ≡ Some next → next.end.sent ≡ 0
   begun_clear None next is = absurd cc
   begun_clear (Some link) next is =
-      let first = first_keyed (role_on link side) most_received (first_params link.fields) (anchor_begun link) in
+      let first = first_keyed (role_on link side) (most_received_on side front) (first_params link.fields) (anchor_begun link) in
       let same : first ≡ next = cc in
       ap (λ (k : Keyed). k.end.sent) (sym same)
 
@@ -346,7 +346,7 @@ module _ (words : Words) (side : Side) (number : ℕ) (front : List Entry) where
   other_line : (line : Entry) (k next : Keyed) → says_sent number side line ≡ false → keyed_in_line words side number front (Some k) line ≡ Some next
       → 0 < next.end.sent → IsOnward k next
   other_line (Opened other link handle role) k next none is some =
-      opens_or_shuts (is_side other side && link == number) (keyed_begun side (link_numbered number front)) k next (begun_clear (link_numbered number front) next) is some
+      opens_or_shuts (is_side other side && link == number) (keyed_begun (most_received_on side front) side (link_numbered number front)) k next (begun_clear (link_numbered number front) next) is some
   other_line (Shut other link reason) k next none is some = opens_or_shuts (is_side other side && link == number) None k next (shut_none next) is some
   other_line line k next none is some = moved_on line k next none is some
 

@@ -1,5 +1,5 @@
 -- While no line of a link is mixed, no packet is that an end of it hears, by what both ends hold as it comes.
-use Rattle.std.proofs.Common.{◌≡◌, ℕ, ◌+◌, ◌<◌, ◌==◌, ◌&&◌, not, Bool, true, false, Some, None, List, [], ◌∷◌, ◌++◌, refl, sym, ap, subst, ◌∙◌, append_assoc}
+use Rattle.std.proofs.Common.{◌≡◌, ℕ, ◌<◌, ◌==◌, ◌&&◌, not, Bool, true, false, Some, None, List, [], ◌∷◌, ◌++◌, refl, sym, ap, subst, ◌∙◌, append_assoc}
 use Rattle.std.specs.Prelude.{if◌then◌else◌}
 use Rattle.std.specs.List.{Contains}
 use Rattle.std.proofs.lemmas.Bool.{eq-eqb, eqb-true}
@@ -39,7 +39,6 @@ use Rattle.run_pairs.specs.InTurns.{HearsNoMixed}
 use Rattle.journal_acks.proofs.run_laws.ChSel.{one_channel}
 use Rattle.journal_acks.proofs.run_laws.DistinctAccess.{AreApart}
 use Rattle.journal_acks.proofs.run_laws.EachCall.{IsPhase, call_at}
-use Rattle.journal_acks.proofs.run_laws.Hearings.{wanted_is}
 use Rattle.journal_acks.proofs.run_laws.InAgreement.{differs_back}
 use Rattle.journal_acks.proofs.run_laws.OwnLinks.{listens_for}
 use Rattle.journal_controls.proofs.controller_model.DataChannels.{link_channel}
@@ -49,15 +48,15 @@ use Rattle.journal_controls.proofs.journal_acks.TwoStations.{IsOfTwo, IsReached,
 use Rattle.journal_controls.proofs.journal_links.OfTwo.{are_distinct}
 use Rattle.journal_controls.proofs.journal_packets.AccessOrder.{AreNth}
 use Rattle.journal_controls.proofs.link_model.Hearing.{IsHeardWhole}
-use Rattle.journal_controls.proofs.run_model.LinkEnds.{AreTaken, IsUnderstood}
+use Rattle.journal_controls.proofs.run_model.LinkEnds.{AreTaken, IsUnderstood, wanted_is}
 use Rattle.journal_controls.proofs.run_model.Numbers.{numbered_at}
 use Rattle.journal_controls.proofs.run_model.Parts.{journal_more}
 use Rattle.journal_controls.proofs.run_model.Stations.{contains_in}
+use Rattle.journal_controls.proofs.journal_ends.ForgedLinks.{left_is}
 use Rattle.run_pairs.proofs.FarPackets.{listens_is}
 use Rattle.journal_sealing.specs.Mixed.{counts_in, counts_on, is_mixed, mixes, mixes_keys}
 use Rattle.journal_sealing.proofs.HeardAir.{IsFromAir, from_air}
 use Rattle.journal_sealing.proofs.HeardMixed.{unmixed_by}
-use Rattle.journal_sealing.proofs.Judged.{left_is}
 use Rattle.journal_sealing.proofs.Mixed.{unmixed_at}
 
 -- ---- the one hearing of a packet

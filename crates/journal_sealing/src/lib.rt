@@ -20,3 +20,8 @@ pub use crate::runs::{
     each_packet_has_the_payload_of_the_lines, each_verdict_is_that_of_the_lines,
     ends_hear_no_mixed_packet_while_their_journal_is_not_mixed,
 };
+
+// What the crates above call of those below.
+pub use journal_acks::links_of_two_stations_keep_to_the_journal;
+pub use journal_controls::{a_pdu_is_understood, the_keys_by_lines_are_those_that_the_end_holds};
+pub use link_runs::a_sealed_packet_is_opened;

@@ -1,5 +1,4 @@
 -- The lemmas of this crate.
 pub mod SealedSo
-pub mod OnAirEnds
-pub mod PacketEnds
+pub mod OnAirSeals
 pub mod SealedPackets

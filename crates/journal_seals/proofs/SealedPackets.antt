@@ -1,8 +1,7 @@
 -- A line of a packet that brings a new PDU to the other side unchanged: it was sealed exactly where that opens what it hears.
-use Rattle.std.proofs.Common.{◌≡◌, ℕ, ◌+◌, ◌&&◌, ◌⊎◌, inl, inr, not, Bool, true, false, Option, Some, List, [], ◌∷◌, ◌++◌, length, refl, sym, ap, subst, ◌∙◌, arith}
+use Rattle.std.proofs.Common.{◌≡◌, ℕ, ◌+◌, Bool, true, false, Some, List, ◌∷◌, ◌++◌, length, refl, sym, ap, ◌∙◌, arith}
 use Rattle.std.specs.List.{Contains}
 use Rattle.std.specs.Str.{bytes_eq}
-use Rattle.std.proofs.lemmas.Bool.{eqb-true}
 use Rattle.std.proofs.lemmas.Slice.Eq.{bytes_eq-Decides}
 use Rattle.air_frame.specs.Hearing.{heard_in}
 use Rattle.air_frame.specs.Packet.{on_air}
@@ -37,44 +36,32 @@ use Rattle.journal_forgeries.specs.journal_controls.run_model.Journal.{journal_o
 use Rattle.journal_forgeries.specs.journal_controls.run_model.LinkEnds.{HaveAddresses}
 use Rattle.journal_forgeries.specs.journal_controls.run_model.Links.{is_advertising, links_of}
 use Rattle.journal_forgeries.specs.journal_controls.run_model.Run.{Given, facts_at, history_of, run_of}
-use Rattle.journal_forgeries.specs.link_calls.run_laws.Ends.{AreEnds, OpenEnd, link_listened}
+use Rattle.journal_forgeries.specs.link_calls.run_laws.Ends.{OpenEnd, link_listened}
 use Rattle.radio_replay.specs.Damage.{damaged_packet}
-use Rattle.journal_forgeries.specs.run_pairs.InTurns.{HasSentNow, HearEachInTurn, HearNoMixed}
+use Rattle.journal_forgeries.specs.run_pairs.InTurns.{HasSentNow}
 use Rattle.journal_forgeries.proofs.journal_acks.run_laws.Agreed.{step_facts}
 use Rattle.journal_forgeries.proofs.journal_acks.run_laws.DistinctAccess.{AreApart}
 use Rattle.journal_forgeries.proofs.journal_controls.journal_acks.TwoStations.{IsOfTwo}
-use Rattle.journal_forgeries.proofs.journal_controls.journal_links.OfTwo.{are_distinct, of_two_stations}
+use Rattle.journal_forgeries.proofs.journal_controls.journal_links.OfTwo.{are_distinct}
 use Rattle.journal_forgeries.proofs.journal_controls.link_model.Hearing.{IsHeardWhole}
 use Rattle.journal_forgeries.proofs.journal_controls.run_model.LinkEnds.{AreTaken, IsUnderstood}
 use Rattle.journal_forgeries.proofs.journal_controls.run_model.Stations.{contains_in, is_in}
+use Rattle.journal_forgeries.proofs.journal_controls.journal_ends.ForgedLinks.{left_is}
 use Rattle.journal_forgeries.specs.journal_sealing.Mixed.{counts_in, counts_on, is_mixed}
 use Rattle.journal_forgeries.specs.journal_sealing.SealedLines.{HasPayload, payload_carried}
-use Rattle.journal_forgeries.proofs.journal_sealing.Judged.{counts_as, left_is}
+use Rattle.journal_forgeries.proofs.journal_sealing.Judged.{counts_as}
 use Rattle.journal_forgeries.proofs.journal_sealing.UnmixedEnds.{KeysAreGiven}
+use Rattle.journal_forgeries.proofs.journal_data.Followed.{is_of_two}
+use Rattle.journal_forgeries.proofs.ForgedLines.{AllHear, AllPure, HavePayloads, Heard as AllAreHeard, on_data, one_number}
+use Rattle.journal_forgeries.proofs.PacketEnds.{of_both}
 use Rattle.journal_forgeries.proofs.SentNow.{IsSentNow, sends_one, sent_now}
-use Rattle.link_pairs.proofs.HasSent.{has_sent}
-use Rattle.link_pairs.proofs.Understanding.{IsOpenedThere}
+use Rattle.journal_forgeries.proofs.link_runs.link_pairs.HasSent.{has_sent}
+use Rattle.journal_forgeries.proofs.link_runs.link_pairs.Understanding.{IsOpenedThere}
 use Rattle.journal_forgeries.proofs.run_pairs.FarPackets.{listens_is}
 use Rattle.journal_forgeries.proofs.run_pairs.LinkSteps.{AsksMayCome}
 use Rattle.journal_seals.specs.Seals.{AllAreSealedAsOpened, code_expected}
-use Rattle.journal_seals.proofs.OnAirEnds.{sealed_at_central, sealed_at_peripheral}
-use Rattle.journal_seals.proofs.PacketEnds.{of_both}
+use Rattle.journal_seals.proofs.OnAirSeals.{sealed_at_central, sealed_at_peripheral}
 use Rattle.journal_seals.proofs.SealedSo.{CountsWhole, IsSealedFor}
-
-contains_of : (given : Given) → IsOfTwo given → (station : ℕ) → is_in station given.stations ≡ true → Contains given.stations station
-contains_of given are station found = by (of_two_stations given are station found)
-  where
-    by : (station ≡ 0) ⊎ (station ≡ 1) → Contains given.stations station
-    by (inl is) = subst (λ xs. Contains xs station) (sym are) (subst (Contains (0 ∷ 1 ∷ [])) (sym is) (0, omega arith, refl))
-    by (inr is) = subst (λ xs. Contains xs station) (sym are) (subst (Contains (0 ∷ 1 ∷ [])) (sym is) (1, omega arith, refl))
-
-on_data : (on named : Bool) → (not on && named) ≡ true → (on ≡ false) × (named ≡ true)
-on_data false true is = (refl, refl)
-on_data false false is = absurd cc
-on_data true named is = absurd cc
-
-one_number : (found : Option ℕ) (number n : ℕ) → found ≡ Some n → is_number found number ≡ true → n ≡ number
-one_number found number n is named = eqb-true n number (ap (λ may. is_number may number) (sym is) ∙ named)
 
 -- ---- what an end hears counts, by the lines and by what it holds
 
@@ -110,40 +97,17 @@ packet_length longer front side channel octets packet =
 -- ---- what the laws of runs give
 
 module _ (words : Words) (given : Given) where
-  abbrev pub Heards : Type 0
-  Heards =
-      (front rest : List Entry) (side : Side) (channel : ℕ) (octets : List ℕ) (fate : Mark) (verdict : Verdict)
-      → journal_of (history_of (run_of given)) ≡ front ++ Air side channel octets fate verdict ∷ rest → is_advertising channel ≡ false
-      → is_handed verdict ≡ true → IsHeardLine given front side channel octets fate verdict
-
   abbrev pub Payloads : Type 0
   Payloads =
       (front rest : List Entry) (side : Side) (channel : ℕ) (octets : List ℕ) (fate : Mark) (verdict : Verdict)
       → journal_of (history_of (run_of given)) ≡ front ++ Air side channel octets fate verdict ∷ rest → is_advertising channel ≡ false
       → HasPayload words front side channel octets
 
-  abbrev pub OfEnds : Type 0
-  OfEnds =
-      (before rest : List Event) (station channel : ℕ) (octets : List ℕ) (hearings : List Hearing)
-      → history_of (run_of given) ≡ before ++ Transmitted station channel octets hearings ∷ rest → is_advertising channel ≡ false
-      → HasPayloadOfEnd given before station channel octets
-
-  abbrev pub AllHear : Type 0
-  AllHear =
-      (before rest : List Event) → history_of (run_of given) ≡ before ++ rest → (central peripheral : OpenEnd) → Contains given.stations central.station
-      → Contains given.stations peripheral.station → AreEnds before central peripheral → HearEachInTurn given before central peripheral
-
-  abbrev pub AllPure : Type 0
-  AllPure =
-      (before rest : List Event) (number : ℕ) → history_of (run_of given) ≡ before ++ rest → is_mixed words number (journal_of before) ≡ false
-      → (central peripheral : OpenEnd) (ends : AreEnds before central peripheral) → Contains given.stations central.station
-      → Contains given.stations peripheral.station → number ≡ (links_of ends.of_central.before).begun + 1 → HearNoMixed given before central peripheral
-
 -- ---- a line
 
 module _ (words : Words) (whole : IsHeardWhole) (opens_there : IsOpenedThere) (longer : IsSevenLonger) (understood : IsUnderstood) (taken : AreTaken) (apart : AreApart)
-    (given : Given) (are_two : IsOfTwo given) (six : HaveAddresses given) (asks : AsksMayCome given) (heards : Heards words given) (lines : Payloads words given)
-    (ends : OfEnds words given) (keys : KeysAreGiven words given) (hear : AllHear words given) (pure : AllPure words given)
+    (given : Given) (are_two : IsOfTwo given) (six : HaveAddresses given) (asks : AsksMayCome given) (heards : AllAreHeard words given) (lines : Payloads words given)
+    (ends : HavePayloads words given) (keys : KeysAreGiven words given) (hear : AllHear words given) (pure : AllPure words given)
     (front rest : List Entry) (side : Side) (channel : ℕ) (octets : List ℕ) (fate : Mark) (verdict : Verdict) (number : ℕ)
     (at : journal_of (history_of (run_of given)) ≡ front ++ Air side channel octets fate verdict ∷ rest) (off : is_advertising channel ≡ false)
     (named : is_number (link_of_packet front side octets) number ≡ true) (unchanged : bytes_eq (left_of fate octets) octets ≡ true) (handed : is_handed verdict ≡ true) where
@@ -172,7 +136,7 @@ module _ (words : Words) (whole : IsHeardWhole) (opens_there : IsOpenedThere) (l
   now = sent_now given six (are_distinct given are_two) before line.aired.after station channel octets (hearing ∷ line.aired.others) is_at off
 
   in_station : Contains given.stations station
-  in_station = contains_of given are_two station now.in_it
+  in_station = is_of_two given are_two station now.in_it
 
   same : damaged_packet hearing.fate octets ≡ octets
   same = sym (ap (λ mark. left_of mark octets) line.aired.fate_is ∙ left_is hearing.fate octets) ∙ (bytes_eq-Decides (left_of fate octets) octets).0 unchanged
@@ -312,7 +276,7 @@ module _ (words : Words) (whole : IsHeardWhole) (opens_there : IsOpenedThere) (l
         ∙ (λ i. length (pdu_is i).body + code_expected (one i))
 
 pub sealed_as_opened : (words : Words) → IsHeardWhole → IsOpenedThere → IsSevenLonger → IsUnderstood → AreTaken → AreApart → (given : Given) → IsOfTwo given
-    → HaveAddresses given → AsksMayCome given → Heards words given → Payloads words given → OfEnds words given → KeysAreGiven words given → AllHear words given
+    → HaveAddresses given → AsksMayCome given → AllAreHeard words given → Payloads words given → HavePayloads words given → KeysAreGiven words given → AllHear words given
     → AllPure words given → AllAreSealedAsOpened words (journal_of (history_of (run_of given)))
 sealed_as_opened words whole opens_there longer understood taken apart given are_two six asks heards lines ends keys hear pure =
     λ front rest side channel octets fate verdict number at of_link unchanged handed counts unmixed.

@@ -1,32 +1,32 @@
 -- A PDU of one end that is new to the other and not empty was sealed exactly where the other opens what it hears.
 use Rattle.std.proofs.Common.{◌≡◌, ℕ, ◌+◌, ◌≤◌, Bool, true, false, List, length, Some, inl, inr, refl, ap, ◌∙◌, sym, arith, if◌then◌else◌}
-use Rattle.joint_laws.specs.joint_controls.Joint.{is_running}
-use Rattle.joint_laws.specs.joint_parameters.Turns.{Link}
+use Rattle.joint_keys.specs.joint_laws.joint_controls.Joint.{is_running}
+use Rattle.joint_keys.specs.joint_laws.joint_parameters.Turns.{Link}
 use Rattle.joint_keys.specs.KeyedJoint.{KeyedJoint}
-use Rattle.link_pairs.specs.link_model.enc_phase.Phases.{seals}
-use Rattle.link_pairs.specs.link_model.enc_phase.Sealing.{EncEnd}
-use Rattle.link_pairs.specs.link_model.Acknowledgement.{Pdu, is_acked}
-use Rattle.link_pairs.specs.link_model.Data.{is_empty}
-use Rattle.link_pairs.specs.link_model.Facts.{Facts}
-use Rattle.link_pairs.specs.link_model.Hearing.{air_octets}
-use Rattle.link_pairs.specs.link_model.OneLink.{AreInAgreement}
-use Rattle.link_pairs.specs.link_model.Packets.{counts_here, whole_pdu}
-use Rattle.link_pairs.specs.link_model.Payload.{opens_now, payload_made}
-use Rattle.link_pairs.specs.link_model.Setup.{Setup}
-use Rattle.link_pairs.proofs.link_model.Hearing.{IsHeardWhole}
-use Rattle.link_pairs.specs.Ends.{AreEnds, is_lasting}
-use Rattle.link_pairs.specs.Hearing.{IsPacketOf}
-use Rattle.link_pairs.specs.Parting.{ArePartingFrom}
-use Rattle.link_pairs.specs.Shown.{AreLinked, HaveKeys, Shows, keys_of}
-use Rattle.link_pairs.proofs.Counts.{turned}
-use Rattle.link_pairs.proofs.HasSent.{sent_packet}
-use Rattle.link_pairs.proofs.KeysAt.{can_open_down, can_open_up}
-use Rattle.link_pairs.proofs.LastFits.{fits_down, fits_up}
-use Rattle.link_pairs.proofs.PacketsRead.{expects, fits_listener}
-use Rattle.link_pairs.proofs.Reaching.{IsReached}
-use Rattle.link_pairs.proofs.Sounding.{link_now, reached_now, runs}
-use Rattle.link_pairs.proofs.Understanding.{IsOpenedThere, can_on, some_counted}
-use Rattle.link_pairs.proofs.WholePackets.{FitsListener, longer, made_as, whole}
+use Rattle.journal_forgeries.specs.link_runs.link_pairs.link_model.enc_phase.Phases.{seals}
+use Rattle.journal_forgeries.specs.link_runs.link_pairs.link_model.enc_phase.Sealing.{EncEnd}
+use Rattle.journal_forgeries.specs.link_runs.link_pairs.link_model.Acknowledgement.{Pdu, is_acked}
+use Rattle.journal_forgeries.specs.link_runs.link_pairs.link_model.Data.{is_empty}
+use Rattle.journal_forgeries.specs.link_runs.link_pairs.link_model.Facts.{Facts}
+use Rattle.journal_forgeries.specs.link_runs.link_pairs.link_model.Hearing.{air_octets}
+use Rattle.journal_forgeries.specs.link_runs.link_pairs.link_model.OneLink.{AreInAgreement}
+use Rattle.journal_forgeries.specs.link_runs.link_pairs.link_model.Packets.{counts_here, whole_pdu}
+use Rattle.journal_forgeries.specs.link_runs.link_pairs.link_model.Payload.{opens_now, payload_made}
+use Rattle.journal_forgeries.specs.link_runs.link_pairs.link_model.Setup.{Setup}
+use Rattle.journal_forgeries.proofs.link_runs.link_pairs.link_model.Hearing.{IsHeardWhole}
+use Rattle.journal_forgeries.specs.link_runs.link_pairs.Ends.{AreEnds, is_lasting}
+use Rattle.journal_forgeries.specs.link_runs.link_pairs.Hearing.{IsPacketOf}
+use Rattle.journal_forgeries.specs.link_runs.link_pairs.Parting.{ArePartingFrom}
+use Rattle.journal_forgeries.specs.link_runs.link_pairs.Shown.{AreLinked, HaveKeys, Shows, keys_of}
+use Rattle.journal_forgeries.proofs.link_runs.link_pairs.Counts.{turned}
+use Rattle.journal_forgeries.proofs.link_runs.link_pairs.HasSent.{sent_packet}
+use Rattle.journal_forgeries.proofs.link_runs.link_pairs.KeysAt.{can_open_down, can_open_up}
+use Rattle.journal_forgeries.proofs.link_runs.link_pairs.LastFits.{fits_down, fits_up}
+use Rattle.journal_forgeries.proofs.link_runs.link_pairs.PacketsRead.{expects, fits_listener}
+use Rattle.journal_forgeries.proofs.link_runs.link_pairs.Reaching.{IsReached}
+use Rattle.journal_forgeries.proofs.link_runs.link_pairs.Sounding.{link_now, reached_now, runs}
+use Rattle.journal_forgeries.proofs.link_runs.link_pairs.Understanding.{IsOpenedThere, can_on, some_counted}
+use Rattle.journal_forgeries.proofs.link_runs.link_pairs.WholePackets.{FitsListener, longer, made_as, whole}
 use Rattle.journal_forgeries.specs.run_pairs.Stages.{AreAnsweredEnds, AreBegunEnds, CentralTook, IsForged, IsLate, IsOver, Lasts, PeripheralTook}
 
 -- the PDU in these octets is new for an end, and not empty

@@ -23,7 +23,7 @@ pub fn both_ends_agree_on_what_is_sealed()
     journal_forgeries::ends_hear_no_mixed_packet_while_their_journal_is_not_mixed();
     journal_forgeries::both_ends_hear_each_other_in_turns();
     journal_forgeries::what_hosts_ask_may_come();
-    link_runs::a_sealed_packet_is_opened();
+    journal_forgeries::a_sealed_packet_is_opened();
     journal_forgeries::a_pdu_is_understood();
     advertise::laws::connections_are_taken();
     scan_init::laws::searches_give_each_valid_address();

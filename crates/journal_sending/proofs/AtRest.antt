@@ -1,5 +1,5 @@
 -- Before each turn of a run of a pair, and at its end, no PDU is announced whose packet did not come, and none is to be taken.
-use Rattle.std.proofs.Common.{◌≡◌, ℕ, ◌<◌, true, None, List, ◌∷◌, ◌++◌, sym, ap, subst, ◌∙◌}
+use Rattle.std.proofs.Common.{◌≡◌, ℕ, true, None, List, ◌∷◌, ◌++◌, sym, ap, subst, ◌∙◌}
 use Rattle.ble_base.specs.declared.roles.Side.{Side}
 use Rattle.ble_base.specs.declared.roles.Side.TheVariants.{A, B}
 use Rattle.journal.specs.declared.entries.Entry.TheVariants.{Turn}
@@ -34,13 +34,13 @@ use Rattle.journal_fixing.specs.journal_controls.journal_ends.Asked.{Words}
 use Rattle.journal_fixing.specs.journal_controls.journal_ends.GivenWords.{GivesWords}
 
 -- each side is that of a station
-by_side : (given : Given) → IsOfTwo given → (T : Side → Type 0) → ((station : ℕ) → is_in station given.stations ≡ true → T (side_of station)) → (side : Side) → T side
+pub by_side : (given : Given) → IsOfTwo given → (T : Side → Type 0) → ((station : ℕ) → is_in station given.stations ≡ true → T (side_of station)) → (side : Side) → T side
 by_side given are_two T all A = all 0 (ap (is_in 0) are_two)
 by_side given are_two T all B = all 1 (ap (is_in 1) are_two)
 
 module _ (words : Words) (whole : IsHeardWhole) (understood : IsUnderstood) (taken : AreTaken) (nth : AreNth) (apart : AreApart) (given : Given) (are_two : IsOfTwo given) (few_links : HaveFewLinks given)
     (six : HaveAddresses given) (gives : GivesWords given words) (distinct : AreDistinct given.stations) (eight : (station : ℕ) → (setup_at given station).host_buffers ≡ 8)
-    (some : (station : ℕ) → 0 < (setup_at given station).air_buffers) where
+    (air : (station : ℕ) → (setup_at given station).air_buffers ≡ 8) where
   abbrev Q : Place → List Event → Type 0
   Q place history = IsBelongingSoFar given place history
 
@@ -73,7 +73,7 @@ module _ (words : Words) (whole : IsHeardWhole) (understood : IsUnderstood) (tak
   }
 
   keeps_taken : IsKept given (IsTakenAt words given)
-  keeps_taken = taken_kept words whole understood taken nth apart given are_two few_links six gives distinct eight some
+  keeps_taken = taken_kept words whole understood taken nth apart given are_two few_links six gives distinct eight air
 
   -- ---- in a run
 

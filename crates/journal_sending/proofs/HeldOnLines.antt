@@ -15,9 +15,10 @@ use Rattle.journal_leaving.specs.link_model.Step.{Step, PacketSent}
 use Rattle.journal_leaving.specs.journal_data.open_links.OpenLinks.{OpenLink, facts_in, link_after}
 use Rattle.journal_leaving.proofs.journal_data.Arriving.{IsEndBooked, data_nonempty, lines_data, lines_length, pdu_lines}
 use Rattle.journal_leaving.proofs.journal_data.SameGiven.{own_same}
+use Rattle.journal_leaving.proofs.link_model.Agreeing.{ack_ahead as sent_ack}
 use Rattle.journal_leaving.proofs.link_model.Outgoing.{data-push}
 use Rattle.journal_leaving.proofs.link_model.Sending.{in_order, past_together}
-use Rattle.journal_leaving.proofs.journal_data.run_laws.Agreed.{ack_sent, sent_ack}
+use Rattle.journal_leaving.proofs.journal_data.run_laws.Agreed.{ack_sent}
 use Rattle.journal_fixing.specs.NextPdu.{data_waits, data_waits_after, piece_limit}
 use Rattle.journal_sending.specs.Outgoing.{data_of_lines, octets_sent, octets_wait, piece_after}
 use Rattle.journal_sending.proofs.NextPieces.{piece_cut}

@@ -14,7 +14,8 @@ pub mod Told
 pub mod ToldPackets
 pub mod ToldInRuns
 pub mod WhatWaits
-pub mod RoomForPdus
+mod PieceBooks
+mod WaitingPieces
 pub mod PendingLines
 pub mod TakenNotes
 pub mod TakenPdus

@@ -1,4 +1,4 @@
--- The next piece of the data of an end, by the packets that it was given and by how many octets of them it sent.
+-- The next piece of the data of an end, by the packets that it was given_data and by how many octets of them it sent.
 use Rattle.std.proofs.Common.{◌≡◌, ℕ, ◌+◌, ◌-◌, ◌==◌, ◌&&◌, nat_lt, Bool, true, false, cond, List, [], ◌∷◌, ◌++◌, length, map, take, drop, Option, Some, refl, sym, ap, ◌∙◌, arith, length-append, if◌then◌else◌}
 use Rattle.std.specs.List.{find}
 use Rattle.std.specs.Option.{option_map}
@@ -14,10 +14,8 @@ use Rattle.journal_leaving.specs.link_model.End.{facts_of}
 use Rattle.journal_leaving.specs.link_model.Setup.{Setup}
 use Rattle.journal_leaving.specs.link_model.Step.{Step}
 use Rattle.journal_leaving.proofs.link_model.Sending.{past_of, past_together}
+use Rattle.journal_leaving.proofs.journal_data.Submitting.{given_data}
 use Rattle.journal_sending.specs.Outgoing.{piece_after}
-
-abbrev given : DataPacket → HostData
-given packet = record { start = packet.start; body = packet.body }
 
 -- the next piece of these packets
 abbrev piece_in : ℕ → List DataPacket → Option Piece
@@ -29,13 +27,13 @@ abbrev cut_at : ℕ → HostData → ℕ → Option Piece
 cut_at limit packet sent = Some (record { start = packet.start && (sent == 0); body = record { items = take limit (drop sent packet.body) } })
 
 first_left : (limit : ℕ) (packet : DataPacket) (packets : List DataPacket) (count : ℕ) → sent_length packet ≡ count → nat_lt count (length packet.body) ≡ true
-    → piece_after limit (map given (packet ∷ packets)) count ≡ piece_in limit (packet ∷ packets)
+    → piece_after limit (map given_data (packet ∷ packets)) count ≡ piece_in limit (packet ∷ packets)
 first_left limit packet packets count is left =
-    ap (λ b. if b then cut_at limit (given packet) count else piece_after limit (map given packets) (count - length packet.body)) left
-    ∙ ap (cut_at limit (given packet)) (sym is)
+    ap (λ b. if b then cut_at limit (given_data packet) count else piece_after limit (map given_data packets) (count - length packet.body)) left
+    ∙ ap (cut_at limit (given_data packet)) (sym is)
     ∙ sym (ap (λ b. option_map (piece_of limit) (cond b (Some packet) (find is_unsent packets))) (ap (λ n. nat_lt n (length packet.body)) is ∙ left))
 
-next_fresh : (limit : ℕ) (packets : List DataPacket) → AreFresh packets → piece_after limit (map given packets) 0 ≡ piece_in limit packets
+next_fresh : (limit : ℕ) (packets : List DataPacket) → AreFresh packets → piece_after limit (map given_data packets) 0 ≡ piece_in limit packets
 next_fresh limit [] are = refl
 next_fresh limit (packet ∷ packets) are =
     let some = are.0.some in
@@ -46,17 +44,17 @@ abbrev sent_first : List DataPacket → ℕ
 sent_first [] = 0
 sent_first (packet ∷ packets) = sent_length packet
 
-next_in_order : (limit : ℕ) (packets : List DataPacket) → AreInOrder packets → piece_after limit (map given packets) (sent_first packets) ≡ piece_in limit packets
+next_in_order : (limit : ℕ) (packets : List DataPacket) → AreInOrder packets → piece_after limit (map given_data packets) (sent_first packets) ≡ piece_in limit packets
 next_in_order limit [] order = refl
 next_in_order limit (packet ∷ packets) order = by (is_unsent packet) refl
   where
-    by : (left : Bool) → is_unsent packet ≡ left → piece_after limit (map given (packet ∷ packets)) (sent_length packet) ≡ piece_in limit (packet ∷ packets)
+    by : (left : Bool) → is_unsent packet ≡ left → piece_after limit (map given_data (packet ∷ packets)) (sent_length packet) ≡ piece_in limit (packet ∷ packets)
     by true left = first_left limit packet packets (sent_length packet) refl left
     by false all =
         let within = order.0.within in
         let none : sent_length packet - length packet.body ≡ 0 = omega (arith, within) in
-        ap (λ b. if b then cut_at limit (given packet) (sent_length packet) else piece_after limit (map given packets) (sent_length packet - length packet.body)) all
-        ∙ ap (piece_after limit (map given packets)) none ∙ next_fresh limit packets order.1
+        ap (λ b. if b then cut_at limit (given_data packet) (sent_length packet) else piece_after limit (map given_data packets) (sent_length packet - length packet.body)) all
+        ∙ ap (piece_after limit (map given_data packets)) none ∙ next_fresh limit packets order.1
         ∙ sym (ap (λ b. option_map (piece_of limit) (cond b (Some packet) (find is_unsent packets))) all)
 
 -- packets that were sent whole
@@ -108,5 +106,5 @@ piece_cut setup past limit =
     let kept = (past_together setup past).kept in
     let count = sent_count outgoing.packets outgoing.complete (past_of facts.acknowledgement outgoing) kept in
     sym (next_in_order limit outgoing.packets kept.in_order)
-    ∙ sym (next_past limit kept.complete (map given outgoing.packets) (sent_first outgoing.packets))
+    ∙ sym (next_past limit kept.complete (map given_data outgoing.packets) (sent_first outgoing.packets))
     ∙ (λ i. piece_after limit (sym kept.taken i) (sym count i))

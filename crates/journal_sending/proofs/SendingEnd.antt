@@ -1,5 +1,6 @@
 -- The end that is to transmit a packet on its link, by what the lines before it say.
 use Rattle.std.proofs.Common.{◌≡◌, ℕ, ◌+◌, true, false, List, [], ◌∷◌, ◌++◌, length, sym, ap, ◌∙◌}
+use Rattle.journal_leaving.proofs.link_model.Agreeing.{ack_ahead as sent_ack}
 use Rattle.journal_leaving.proofs.link_model.Hearing.{IsHeardWhole}
 use Rattle.journal_leaving.specs.link_model.Acknowledgement.{Acknowledgement}
 use Rattle.journal_leaving.specs.link_model.Step.{PacketSent}
@@ -14,7 +15,7 @@ use Rattle.journal_leaving.specs.run_model.Links.{is_advertising}
 use Rattle.journal_leaving.specs.run_model.Run.{Given, facts_at, setup_at, use_at}
 use Rattle.journal_leaving.proofs.run_model.Stations.{is_in, among}
 use Rattle.journal_leaving.proofs.run_model.Walk.{Place, AtPackets}
-use Rattle.journal_leaving.proofs.journal_data.run_laws.Agreed.{ack_of, ack_sent, sent_ack}
+use Rattle.journal_leaving.proofs.journal_data.run_laws.Agreed.{ack_of, ack_sent}
 use Rattle.journal_leaving.specs.journal_packets.Senders.{IsOfSendersLink}
 use Rattle.journal_leaving.specs.journal_acks.Carried.{carried_of}
 use Rattle.journal_leaving.specs.journal_acks.Exchange.{Exchanged}

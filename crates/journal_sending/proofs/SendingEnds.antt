@@ -1,6 +1,5 @@
 -- What each end that sends holds in a turn, by what it held as it fixed its PDU in that turn.
 use Rattle.std.proofs.Common.{◌≡◌, ℕ, suc, ◌⊎◌, inl, inr, Bool, true, false, Option, Some, List, [], ◌∷◌, ◌++◌, refl, sym, ap, subst, ◌∙◌, append_assoc, arith}
-use Rattle.ble_base.specs.declared.roles.Role.{Role}
 use Rattle.ble_base.specs.declared.roles.Role.TheVariants.{Central, Peripheral}
 use Rattle.journal_leaving.specs.controller_model.Facts.{Facts, Setup, first_facts}
 use Rattle.journal_leaving.specs.controller_model.Heard.{has_room}
@@ -52,9 +51,6 @@ pub record AreSending (setup : Setup) (stage : Stage) (begun : ℕ) (facts : Fac
 
 resting : (doing : Doing) (handle : ℕ) (link : OpenLink) → doing ≡ Rests → SentNext doing handle link
 resting doing handle link rests = λ on one now is. absurd (let h : true ≡ false = sym on ∙ ap (sends_under handle) rests in absurd cc)
-
-other_role : (X : Type 0) (role : Role) → role ≡ Central → role ≡ Peripheral → X
-other_role X role is is_too = absurd (let h : Central ≡ Peripheral = sym is ∙ is_too in absurd cc)
 
 -- ---- a central that sends as its turn begins
 

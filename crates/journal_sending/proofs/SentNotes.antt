@@ -23,7 +23,7 @@ use Rattle.journal_leaving.specs.link_model.Step.{PacketSent}
 use Rattle.journal_leaving.specs.journal_data.open_links.OpenLinks.{OpenLink, facts_in, link_after, link_at}
 use Rattle.journal_leaving.specs.run_model.Run.{step_of}
 use Rattle.journal_leaving.proofs.journal_data.Openness.{AreNot}
-use Rattle.journal_leaving.proofs.journal_acks.Worded.{link_worded, received_ack_is, received_setup_is, worded, worded_heard, worded_here, worded_setup}
+use Rattle.journal_leaving.proofs.journal_acks.Worded.{link_worded, received_ack_is, worded, worded_heard, worded_here, worded_setup}
 use Rattle.journal_fixing.proofs.journal_controls.Replies.{IsReply, replies_as, worded_reply, words_are}
 use Rattle.journal_leaving.proofs.journal_acks.DataCalls.{own_begun, received_at, sent_at, unfound}
 use Rattle.journal_leaving.proofs.journal_acks.PhaseNotes.{IsOnLink, IsPhaseOf, IsPlainPhase, SendsFrom, SendsNothing, SendsOne, phase_of, sends_from}
@@ -34,6 +34,7 @@ use Rattle.journal_leaving.proofs.journal_acks.link_calls.CallNotes.{octet_noted
 use Rattle.journal_leaving.proofs.journal_acks.link_calls.LinkCalls.{base_ack, begins_under, received_noted, taking_sends}
 use Rattle.journal_leaving.proofs.journal_data.open_links.Handles.{handle_is}
 use Rattle.journal_leaving.proofs.journal_data.run_laws.Agreed.{ack_of}
+use Rattle.journal_leaving.proofs.journal_packets.Replies.{receiving_setup as received_setup_is}
 
 -- ---- a new PDU is noted last in its call
 

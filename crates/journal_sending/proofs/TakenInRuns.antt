@@ -1,20 +1,20 @@
 -- In every run of a pair a side takes each PDU as the first good packet brings it: the next line of the side is that it takes it.
-use Rattle.std.proofs.Common.{◌≡◌, ℕ, zero, suc, ◌+◌, ◌<◌, ◌==◌, ◌&&◌, not, Bool, true, false, Option, Some, None, List, [], ◌∷◌, ◌++◌, length, refl, sym, ap, subst, ◌∙◌, nat_lt, arith}
+use Rattle.std.proofs.Common.{◌≡◌, ℕ, zero, suc, ◌+◌, ◌<◌, ◌==◌, ◌&&◌, ◌||◌, not, Bool, true, false, Option, Some, None, List, [], ◌∷◌, ◌++◌, length, refl, sym, ap, subst, ◌∙◌, nat_lt}
 use Rattle.std.specs.Prelude.{All, map, take, if◌then◌else◌}
 use Rattle.std.proofs.lemmas.Bool.{eqb-true}
 use Rattle.ack_bit.specs.Nonempty.{nonempty}
 use Rattle.air_frame.specs.Hearing.{heard_in}
 use Rattle.ble_base.specs.Side.{other_side}
 use Rattle.ble_base.specs.declared.roles.Side.{Side}
-use Rattle.ble_base.specs.declared.verdicts.Verdict.{Verdict}
-use Rattle.ble_base.specs.declared.verdicts.Verdict.TheVariants.{Broken, Forged, Good, Missed}
+use Rattle.ble_base.specs.declared.verdicts.Verdict.TheVariants.{Good}
 use Rattle.journal.specs.declared.entries.Entry.{Entry}
 use Rattle.journal.specs.declared.entries.Entry.TheVariants.{Air}
 use Rattle.journal_leaving.specs.link_model.Acknowledgement.{Acknowledgement, Pdu}
-use Rattle.journal_leaving.specs.link_model.Data.{is_empty, numbered}
+use Rattle.journal_leaving.specs.link_model.Data.{is_data, is_empty, numbered}
 use Rattle.journal_leaving.specs.link_model.Facts.{keyed_of}
 use Rattle.journal_leaving.specs.link_model.Packets.{heard_of, pdu_sent, verdict_of}
 use Rattle.journal_leaving.specs.link_model.Step.{PacketSent}
+use Rattle.journal_leaving.proofs.link_model.Agreeing.{ack_ahead as sent_ack}
 use Rattle.journal_leaving.proofs.link_model.Hearing.{IsHeardWhole}
 use Rattle.journal_leaving.specs.journal_data.open_links.OpenLinks.{OpenLink, facts_in, link_after, link_at}
 use Rattle.journal_leaving.specs.journal_acks.link_calls.Uses.{listens_under, sends_under}
@@ -41,21 +41,22 @@ use Rattle.journal_leaving.specs.run_model.Pair.{given_of}
 use Rattle.journal_leaving.specs.run_model.Run.{Given, after_call, after_feed, after_octets, facts_at, fate_at, hearings_of, history_of, octets_left, run_of}
 use Rattle.journal_leaving.specs.run_model.Run.{setup_at, step_of, unseen_in, use_at}
 use Rattle.journal_leaving.proofs.run_model.EntryEvents.{is_of_event}
-use Rattle.journal_leaving.proofs.run_model.LinkEnds.{AreTaken, IsUnderstood, is_listener, received_by, received_good, received_own}
+use Rattle.journal_leaving.proofs.run_model.LinkEnds.{AreTaken, IsUnderstood, is_listener, received_by, received_good, received_own, wanted_is}
 use Rattle.journal_leaving.proofs.run_model.Places.{each_at, each_event}
 use Rattle.journal_leaving.proofs.run_model.Stations.{is_in, among, in_more_other, in_more_same, not_before}
+use Rattle.journal_leaving.proofs.run_model.Unseen.{good_is as is_only_good}
 use Rattle.journal_leaving.proofs.run_model.Walk.{Place, NoTurn, AtFeeds, AtBegins, AfterPhases, AtPackets, AtListening, AtEnds, IsKept, IsStopped, IsWhole}
 use Rattle.journal_leaving.proofs.run_model.Walk.{ends_with, run_kept}
 use Rattle.journal_leaving.specs.journal_data.run_laws.Ends.{HaveOneConnectInd}
 use Rattle.journal_leaving.specs.journal_data.run_laws.Ranges.{IsReadable}
 use Rattle.journal_leaving.specs.journal_data.run_laws.Shapes.{AgreeInShape}
-use Rattle.journal_leaving.proofs.journal_data.run_laws.Agreed.{AgreeIn, ack_of, ack_sent, sent_ack}
+use Rattle.journal_leaving.proofs.journal_data.run_laws.Agreed.{AgreeIn, ack_of, ack_sent}
 use Rattle.journal_leaving.proofs.journal_data.run_laws.DistinctAccess.{AreApart}
-use Rattle.journal_leaving.proofs.journal_data.run_laws.Hearings.{other_facts, wanted_is}
+use Rattle.journal_leaving.proofs.journal_data.run_laws.Hearings.{other_facts}
 use Rattle.journal_leaving.proofs.journal_data.run_laws.InAgreement.{WithAllIn, differs_back}
 use Rattle.journal_leaving.proofs.journal_data.run_laws.OpenSteps.{open_has}
 use Rattle.journal_leaving.proofs.journal_data.run_laws.Pieces.{sent_readable}
-use Rattle.journal_leaving.proofs.journal_data.run_laws.TurnPlaces.{Within, turned}
+use Rattle.journal_leaving.proofs.journal_data.run_laws.TurnPlaces.{Within}
 use Rattle.journal_leaving.specs.journal_links.Begun.{link_numbered}
 use Rattle.journal_leaving.specs.journal_packets.Belonging.{is_side, link_of_packet}
 use Rattle.journal_leaving.specs.journal_packets.Senders.{IsOfSendersLink}
@@ -86,15 +87,16 @@ use Rattle.journal_leaving.proofs.journal_data.OneCall.{far_side}
 use Rattle.journal_fixing.specs.journal_controls.LineSteps.{keyed_on}
 use Rattle.journal_fixing.proofs.journal_controls.KeptControls.{AreControlled, packet_whole}
 use Rattle.journal_sending.specs.Announced.{last_number_sent, pdu_line_if, side_of_line}
+use Rattle.journal_hosts.specs.HostFlow.{has_room_on}
 use Rattle.journal_sending.specs.Pending.{AllAreTakenAtOnce, body_heard, body_on, body_read, has_left, is_done_on, last_number_taken, pdu_read_of, pending_pdu, taken_pdu, untaken_pdu}
 use Rattle.journal_sending.proofs.PendingLines.{IsSpent, IsTakenEvent, air_pending, call_other, call_own, call_taken, fed_other, fed_own, first_taken, pending_at, same_taken, spends_none, turn_pending}
-use Rattle.journal_sending.proofs.RoomForPdus.{IsEmptyAt, empty_first, empty_kept, listener_room}
 use Rattle.journal_sending.proofs.TakenPdus.{body_is, forged_none, hears_whole, left_hearing, pdu_read, phase_fits, taken_as, taken_is_new, unheard_none}
 use Rattle.journal_sending.proofs.ToldInRuns.{note_side}
 use Rattle.journal_leaving.specs.Leaving.{leaving_on, leaving_sent_if}
 use Rattle.journal_leaving.proofs.KeptLeavings.{AreLeftAt, leavings_first, leavings_kept}
 use Rattle.journal_leaving.proofs.LeavingEnds.{AreLeftSo, and_none, left_taking}
 use Rattle.journal_sending.proofs.Together.{IsKnownAt, known_first, known_kept}
+use Rattle.journal_sending.proofs.WaitingPieces.{room_is}
 use Rattle.journal_fixing.specs.journal_controls.journal_ends.Asked.{Words}
 use Rattle.journal_fixing.specs.journal_controls.journal_ends.GivenWords.{GivesWords}
 
@@ -115,24 +117,18 @@ same_to_take given station history after received facts heard numbers =
     ∙ same_taken ((links_of after).link_of station) ((links_of history).link_of station)
     (notes_after (setup_at given station) (facts_at given station history) (step_of received)) numbers
 
-is_only_good : (verdict : Verdict) → is_good verdict ≡ true → verdict ≡ Good
-is_only_good Good is = refl
-is_only_good Missed is = absurd cc
-is_only_good Broken is = absurd cc
-is_only_good Forged is = absurd cc
-
 -- two lines are alike where their PDUs are, if there is a line
-line_alike : (more empty left : Bool) (number count : ℕ) (one other : Pdu) → (more ≡ true → empty ≡ false → one ≡ other)
-    → pdu_line_if (more && not empty && not left) number count one ≡ pdu_line_if (more && not empty && not left) number count other
-line_alike true false left number count one other same = ap (pdu_line_if (true && true && not left) number count) (same refl refl)
-line_alike true true left number count one other same = refl
-line_alike false empty left number count one other same = refl
+line_alike : (more empty fits left : Bool) (number count : ℕ) (one other : Pdu) → (more ≡ true → empty ≡ false → one ≡ other)
+    → pdu_line_if (more && not empty && fits && not left) number count one ≡ pdu_line_if (more && not empty && fits && not left) number count other
+line_alike true false fits left number count one other same = ap (pdu_line_if (true && true && fits && not left) number count) (same refl refl)
+line_alike true true fits left number count one other same = refl
+line_alike false empty fits left number count one other same = refl
 
 -- ---- a packet is on the air
 
 module _ (words : Words) (whole : IsHeardWhole) (given : Given) (Q : Place → List Event → Type 0) (known : AreKnown given Q) (are_two : IsOfTwo given) (few_links : HaveFewLinks given)
     (six : HaveAddresses given) (distinct : AreDistinct given.stations) (eight : (station : ℕ) → (setup_at given station).host_buffers ≡ 8)
-    (some : (station : ℕ) → 0 < (setup_at given station).air_buffers)
+    (air : (station : ℕ) → (setup_at given station).air_buffers ≡ 8)
     (phases : ℕ) (done left : List ℕ) (station channel : ℕ) (octets : List ℕ) (fates : List Fate) (history : List Event)
     (are : given.stations ≡ done ++ station ∷ left) (wanted : use_at given station history ≡ Sends channel octets)
     (is : IsKnownAt given Q (AtPackets phases done (station ∷ left)) history)
@@ -332,12 +328,11 @@ module _ (words : Words) (whole : IsHeardWhole) (given : Given) (Q : Place → L
         (ap (λ n. n + 1) acked ∙ sent_out sent.link ∙ ap (λ (a : Acknowledgement). length a.sent) (sym (ack_sent sent.slot sent.link))) in
         sym last ∙ ap (λ (a : Acknowledgement). a.last) (ack_sent sent.slot sent.link)
 
-    room : has_room (setup_at given other) (facts other) ≡ true
+    -- there is room by the lines where there is room
+    room : has_room_on (other_side (side_of station)) front ≡ has_room (setup_at given other) (facts other)
     room =
-        listener_room (setup_at given other) (facts other) phases (turns_begun history) listening.handle (some other)
-        (turned (setup_at given other) (IsEmptyAt (setup_at given other)) (empty_kept (setup_at given other)) (past_of other history)
-        (record { stage = Within phases; begun = turns_begun history }) (empty_first (setup_at given other)) (counted.holds.hearing.stand other is_too))
-        listening.on
+        ap (λ s. has_room_on s front) (sym (side_other station))
+        ∙ room_is given other history (few_links.links other) (is.data_is.are.well other is_too) (air other)
 
     -- whether the listener has left the link by then
     left_is : has_left (leaving_on words (other_side (side_of station)) number up_to) ≡ (left_hearing (facts other).turn.slot link octets).acknowledged
@@ -395,12 +390,12 @@ module _ (words : Words) (whole : IsHeardWhole) (given : Given) (Q : Place → L
         → untaken_pdu words (link_of_packet front (side_of station) octets) front up_to (side_of station) channel octets ≡ to_take given other after
     brought controls =
         ap (λ may. untaken_pdu words may front up_to (side_of station) channel octets) sent.belongs
-        ∙ (λ i. pdu_line_if (nat_lt (taken_is i) (sent_is i) && not (is_empty (carried_is i)) && not (left_is i)) number (sent_is i)
+        ∙ (λ i. pdu_line_if (nat_lt (taken_is i) (sent_is i) && not (is_empty (carried_is i)) && (not (is_data (carried_is i)) || room i) && not (left_is i)) number (sent_is i)
         (pdu_read_of words number front (side_of station) channel octets))
         ∙ line_alike (nat_lt (numbered (ack_of link).accepted) (numbered (sent_ack (facts_in sent.link)).sent)) (is_empty (pdu_sent (facts_in sent.link)))
-        (left_hearing (facts other).turn.slot link octets).acknowledged number (numbered (sent_ack (facts_in sent.link)).sent)
+        (not (is_data (pdu_sent (facts_in sent.link))) || has_room (setup_at given other) (facts other)) (left_hearing (facts other).turn.slot link octets).acknowledged number (numbered (sent_ack (facts_in sent.link)).sent)
         (pdu_read_of words number front (side_of station) channel octets) taken_pdu_is (read_is controls)
-        ∙ taken_as whole ((links_of history).link_of other) (setup_at given other) (facts other) octets listening.handle number link sent.link room listening.is_open listening.on
+        ∙ taken_as whole ((links_of history).link_of other) (setup_at given other) (facts other) octets listening.handle number link sent.link listening.is_open listening.on
         number_is readable connect_ind.fields sent.packet on_channel judged_good agreed
         ∙ sym (other_to_take (Some octets) (received_is good))
 
@@ -518,7 +513,7 @@ module _ (words : Words) (given : Given) (are_two : IsOfTwo given) where
 
 module _ (words : Words) (whole : IsHeardWhole) (understood : IsUnderstood) (taken : AreTaken) (nth : AreNth) (separate : AreApart) (given : Given) (are_two : IsOfTwo given) (few_links : HaveFewLinks given)
     (six : HaveAddresses given) (gives : GivesWords given words) (distinct : AreDistinct given.stations) (eight : (station : ℕ) → (setup_at given station).host_buffers ≡ 8)
-    (some : (station : ℕ) → 0 < (setup_at given station).air_buffers) where
+    (air : (station : ℕ) → (setup_at given station).air_buffers ≡ 8) where
   abbrev Q : Place → List Event → Type 0
   Q = IsBelongingSoFar given
 
@@ -576,13 +571,13 @@ module _ (words : Words) (whole : IsHeardWhole) (understood : IsUnderstood) (tak
             let leaving = left_kept.on_packet phases plan done left station channel octets history are begun due has.leaving in record {
               is = kept.on_packet phases plan done left station channel octets history are begun due has.is;
               leaving = leaving;
-              pending_pdu = packet_pending words whole given Q known are_two few_links six distinct eight some phases done left station channel octets plan.fates history are due.is_wanted has.is due.is_seen
+              pending_pdu = packet_pending words whole given Q known are_two few_links six distinct eight air phases done left station channel octets plan.fates history are due.is_wanted has.is due.is_seen
                   (unsent (AtPackets phases (done ++ station ∷ []) left)) leaving.left
                   (packet_whole words whole understood taken nth separate given are_two six phases done left station channel octets history are due.is_wanted has.leaving.controls)
                   (has.pending_pdu (other_of station) (other_in given are_two station in_it));
               each = each_event (IsTakenEvent words) history (Transmitted station channel octets hearings) has.each
                   (has.pending_pdu station in_it
-                  ∙ own_silent words whole given Q known are_two few_links six distinct eight some phases done left station channel octets plan.fates history are due.is_wanted has.is due.is_seen);
+                  ∙ own_silent words whole given Q known are_two few_links six distinct eight air phases done left station channel octets plan.fates history are due.is_wanted has.is due.is_seen);
             };
         on_air = λ phases history has. record { is = kept.on_air phases history has.is; leaving = left_kept.on_air phases history has.leaving; pending_pdu = has.pending_pdu; each = has.each };
         on_hearing = λ phases done left station history are begun has.
@@ -620,10 +615,10 @@ pub taken_first : (words : Words) (given : Given) → IsTakenAt words given NoTu
 taken_first words given = record { is = known_first given; leaving = leavings_first words given; pending_pdu = λ station in_it. nothing_first words station; each = tt }
 
 run_taken : (words : Words) → IsHeardWhole → IsUnderstood → AreTaken → AreNth → AreApart → (given : Given) → IsOfTwo given → HaveFewLinks given → HaveAddresses given → GivesWords given words → AreDistinct given.stations
-    → ((station : ℕ) → (setup_at given station).host_buffers ≡ 8) → ((station : ℕ) → 0 < (setup_at given station).air_buffers) → Each (IsTakenEvent words) [] (history_of (run_of given))
-run_taken words whole understood taken nth separate given are_two few_links six gives distinct eight some =
+    → ((station : ℕ) → (setup_at given station).host_buffers ≡ 8) → ((station : ℕ) → (setup_at given station).air_buffers ≡ 8) → Each (IsTakenEvent words) [] (history_of (run_of given))
+run_taken words whole understood taken nth separate given are_two few_links six gives distinct eight air =
     ends_with (run_of given) (IsWhole given (IsTakenAt words given)) (IsStopped given (IsTakenAt words given)) (Each (IsTakenEvent words) [])
-    (run_kept given (IsTakenAt words given) (taken_kept words whole understood taken nth separate given are_two few_links six gives distinct eight some) (taken_first words given))
+    (run_kept given (IsTakenAt words given) (taken_kept words whole understood taken nth separate given are_two few_links six gives distinct eight air) (taken_first words given))
     (λ history wholly. wholly.is.each) (λ history stop stopped. stopped.kept.each)
 
 -- ---- the lines
@@ -661,16 +656,16 @@ line_by words before (Transmitted station channel octets (hearing ∷ hearings))
     of_event words before entry _ side (side_of station) is refl (λ other. sym takes) side_is
 
 pub taken_lines : (words : Words) → IsHeardWhole → IsUnderstood → AreTaken → AreNth → AreApart → (given : Given) → IsOfTwo given → HaveFewLinks given → HaveAddresses given → GivesWords given words → AreDistinct given.stations
-    → ((station : ℕ) → (setup_at given station).host_buffers ≡ 8) → ((station : ℕ) → 0 < (setup_at given station).air_buffers)
+    → ((station : ℕ) → (setup_at given station).host_buffers ≡ 8) → ((station : ℕ) → (setup_at given station).air_buffers ≡ 8)
     → AllAreTakenAtOnce words (journal_of (history_of (run_of given)))
-taken_lines words whole understood taken nth separate given are_two few_links six gives distinct eight some = λ front rest entry side is side_is.
+taken_lines words whole understood taken nth separate given are_two few_links six gives distinct eight air = λ front rest entry side is side_is.
     let history = history_of (run_of given) in
     let at = is_of_event history front rest entry is in
     subst (λ xs. TakesPending words xs side entry) (sym at.front_is)
     (line_by words at.before at.event entry side at.entry_is side_is
-    (each_at (IsTakenEvent words) history at.before at.after at.event (run_taken words whole understood taken nth separate given are_two few_links six gives distinct eight some) at.is_at))
+    (each_at (IsTakenEvent words) history at.before at.after at.event (run_taken words whole understood taken nth separate given are_two few_links six gives distinct eight air) at.is_at))
 
 -- a controller of a pair has room for eight pieces of data
-pub some_air : (a b : List ℕ) (script : Script) (station : ℕ) → 0 < (setup_at (given_of a b script) station).air_buffers
-some_air a b script zero = omega arith
-some_air a b script (suc station) = omega arith
+pub eight_air : (a b : List ℕ) (script : Script) (station : ℕ) → (setup_at (given_of a b script) station).air_buffers ≡ 8
+eight_air a b script zero = refl
+eight_air a b script (suc station) = refl

@@ -1,6 +1,6 @@
--- A link that receives a packet notes that it takes the PDU in it where that is new and not empty, and the end has not left
--- the link: there is always room.
-use Rattle.std.proofs.Common.{◌≡◌, ℕ, suc, ◌+◌, ◌-◌, ◌≤◌, ◌==◌, ◌&&◌, ◌||◌, nat_le, not, Bool, true, false, cond, Option, Some, None, List, [], ◌∷◌, ◌++◌, drop, take, length, if◌then◌else◌, refl, sym, ap, subst, ◌∙◌, nat_lt, append_assoc, length-append, arith}
+-- A link that receives a packet notes that it takes the PDU in it where that is new and not empty, there is room for it, and
+-- the end has not left the link.
+use Rattle.std.proofs.Common.{◌≡◌, ℕ, suc, ◌+◌, ◌-◌, ◌≤◌, ◌==◌, ◌&&◌, ◌||◌, not, Bool, true, false, cond, Option, Some, None, List, [], ◌∷◌, ◌++◌, drop, take, length, refl, sym, ap, subst, ◌∙◌, nat_lt, append_assoc, length-append, arith}
 use Rattle.std.specs.Prelude.{All, map}
 use Rattle.std.specs.List.{filter}
 use Rattle.std.proofs.Math.Bool.{and-false}
@@ -24,7 +24,7 @@ use Rattle.journal_leaving.specs.controller_model.Side.{notes_after}
 use Rattle.data_pdu.specs.Header.{header_in, octets_of}
 use Rattle.journal_leaving.specs.journal_acks.link_calls.Uses.{listens_under}
 use Rattle.journal_leaving.specs.link_model.Acknowledgement.{Acknowledgement, Pdu, bits_of}
-use Rattle.journal_leaving.specs.link_model.Data.{is_accepted, is_empty, numbered}
+use Rattle.journal_leaving.specs.link_model.Data.{is_accepted, is_data, is_empty, numbered}
 use Rattle.journal_leaving.specs.link_model.Facts.{Facts as EndFacts}
 use Rattle.journal_leaving.specs.link_model.Hearing.{air_octets}
 use Rattle.journal_leaving.specs.link_model.Packets.{counts_here, good_pdu, has_new_pdu, header_sent, heard_of, packet_sent, payload_sent, pdu_sent, verdict_of}
@@ -41,11 +41,12 @@ use Rattle.journal_leaving.proofs.journal_acks.HandedOn.{forged_unread, judged_l
 use Rattle.journal_leaving.proofs.journal_acks.PhaseNotes.{IsOnLink, IsPhaseOf, IsPlainPhase, phase_of}
 use Rattle.journal_leaving.proofs.journal_acks.TwoStations.{same_number}
 use Rattle.journal_leaving.proofs.journal_acks.link_calls.CallNotes.{HasNoData, TakesNone, all_more, doing_noted, events_noted, no_data}
+use Rattle.journal_leaving.proofs.link_model.Agreeing.{ack_ahead as sent_ack}
 use Rattle.journal_leaving.proofs.link_model.Hearing.{IsHeardWhole}
-use Rattle.journal_leaving.proofs.link_model.Received.{air_read, has_header}
+use Rattle.journal_leaving.proofs.link_model.Received.{air_read, has_header, in_form}
 use Rattle.journal_leaving.specs.journal_data.run_laws.Ranges.{IsReadable}
 use Rattle.journal_leaving.specs.journal_data.run_laws.Shapes.{AgreeInShape, Shape, shape_of}
-use Rattle.journal_leaving.proofs.journal_data.run_laws.Agreed.{ack_of, sent_ack}
+use Rattle.journal_leaving.proofs.journal_data.run_laws.Agreed.{ack_of}
 use Rattle.journal_leaving.proofs.journal_data.run_laws.AgreeingShapes.{shapes_fresh, shapes_high}
 use Rattle.journal_leaving.proofs.journal_data.run_laws.Payloads.{payload_short}
 use Rattle.journal_leaving.proofs.journal_data.run_laws.ReadPackets.{IsGood, pdu_with_header, read_good}
@@ -162,11 +163,11 @@ module _ (setup : Setup) (facts : Facts) where
           (link_at other facts.links) refl
 
   -- what is received on a link: the notes are those of the link with words
-  module _ (octets : List ℕ) (handle : ℕ) (link : OpenLink) (room : has_room setup facts ≡ true) (is_open : link_at handle facts.links ≡ Some link)
+  module _ (octets : List ℕ) (handle : ℕ) (link : OpenLink) (is_open : link_at handle facts.links ≡ Some link)
       (on : listens_under handle facts.turn.doing ≡ true) (link_of : ℕ → ℕ) where
     heard_first : (first : Option PduLine)
         → ((there : OpenLink) → IsWordedAs link there → (later : List Note) → All TakesNone later
-        → first_taken link_of (notes_taken facts.turn.slot true (Some there) octets ++ later) ≡ first)
+        → first_taken link_of (notes_taken facts.turn.slot (has_room setup facts) (Some there) octets ++ later) ≡ first)
         → first_taken link_of (notes_of (Some octets)) ≡ first
     heard_first first is = by (phase_of setup facts (Some octets))
       where
@@ -181,27 +182,36 @@ module _ (setup : Setup) (facts : Facts) where
             let more = events_then setup now other heard in
             ap (first_taken link_of)
             (on_link_notes setup facts (Some octets) heard (link_heard setup other heard now) some (ap notes_passed heard_is) ∙ on_link_parts setup now other heard
-            ∙ (λ i. notes_taken facts.turn.slot (room i) (there_at i) (equal i) ++ more))
+            ∙ (λ i. notes_taken facts.turn.slot (has_room setup facts) (there_at i) (equal i) ++ more))
             ∙ is there (words_are words setup facts link) more (events_none setup now other heard)
 
 -- ---- the PDU that the other end sent
 
--- the link takes this PDU, as it reads that of this end, unless it has left by then
-abbrev takes_of : OpenLink → OpenLink → Pdu → Bool → Bool
-takes_of link from pdu left =
-    (is_accepted true (has_new_pdu (facts_in link) (header_sent (facts_in from))) pdu && (is_empty pdu || not left)) && not (is_empty pdu)
+-- the link takes this PDU, as it reads that of this end, if there is room and it has not left by then
+abbrev takes_of : OpenLink → OpenLink → Pdu → (room left : Bool) → Bool
+takes_of link from pdu room left =
+    (is_accepted room (has_new_pdu (facts_in link) (header_sent (facts_in from))) pdu && (is_empty pdu || not left)) && not (is_empty pdu)
 
 -- the LL_TERMINATE_IND of the link is acknowledged as it looks at the PDU of this packet
 abbrev pub left_hearing : ℕ → OpenLink → List ℕ → Leaving
 left_hearing slot link octets = leaving_hearing link.setup.link.role slot (good_pdu link.setup (facts_in link) octets) (facts_in link)
 
+-- where one of two PDUs with the same LLID is empty, so is the other one, and where one is data
+data_by : (llid : ℕ) (one other : Bool) → (llid == 0 || one) ≡ (llid == 0 || other)
+    → ((llid == 1 || llid == 2) && not one) ≡ ((llid == 1 || llid == 2) && not other)
+data_by llid one other same = by (llid == 0) refl same
+  where
+    by : (reserved : Bool) → (llid == 0) ≡ reserved → (reserved || one) ≡ (reserved || other)
+        → ((llid == 1 || llid == 2) && not one) ≡ ((llid == 1 || llid == 2) && not other)
+    by true is same =
+        let equal = eqb-true llid 0 is in
+        ap (λ n. (n == 1 || n == 2) && not one) equal ∙ sym (ap (λ n. (n == 1 || n == 2) && not other) equal)
+    by false is same = ap (λ b. (llid == 1 || llid == 2) && not b) same
+
 -- the body of a PDU in these octets
 abbrev body_of : Option (List ℕ) → List ℕ
 body_of None = []
 body_of (Some octets) = drop 2 octets
-
-in_form : (count : ℕ) → count ≤ 255 → (nat_le 2 (suc (suc count)) && nat_le (suc (suc count)) 257 && (suc (suc count) == 2 + count)) ≡ true
-in_form count short = grind (arith, nat_tests)
 
 -- an end on the channel of the other one hears its packet whole
 module _ (whole : IsHeardWhole) (from to : EndSetup) (sender listener : EndFacts) (readable : IsReadable sender) (fields : from.link.fields ≡ to.link.fields)
@@ -244,6 +254,9 @@ module _ (whole : IsHeardWhole) (slot : ℕ) (link from : OpenLink) (octets : Li
   pub empty_is : is_empty pdu_read ≡ is_empty (pdu_sent sender)
   empty_is = read.is.is_body.empty
 
+  data_is : is_data pdu_read ≡ is_data (pdu_sent sender)
+  data_is = data_by (pdu_sent sender).llid (length read.body == 0) (length (pdu_sent sender).body == 0) empty_is
+
   -- it opens the payload of a PDU that is new and not empty
   opens_counting : has_new_pdu listener (header_sent sender) ≡ true → is_empty (pdu_sent sender) ≡ false
       → Some read_octets ≡ opened_pdu listener.encryption.end (air_octets sender)
@@ -267,20 +280,20 @@ module _ (whole : IsHeardWhole) (slot : ℕ) (link from : OpenLink) (octets : Li
   hears_whole = ap (heard_of link.setup listener) packet ∙ heard_there whole from.setup link.setup sender listener readable fields channel
 
   -- that it takes the PDU is the first of its notes that takes one, also where it was given words before
-  took_as : (there : OpenLink) → IsWordedAs link there → (link_of : ℕ → ℕ) (later : List Note) → All TakesNone later
-      → first_taken link_of (notes_taken slot true (Some there) octets ++ later)
-      ≡ pdu_line_if (takes_of link from pdu_read (left_hearing slot link octets).acknowledged) (link_of link.setup.link.handle) (numbered (ack_of link).accepted + 1) pdu_read
-  took_as there words link_of later none =
+  took_as : (room : Bool) (there : OpenLink) → IsWordedAs link there → (link_of : ℕ → ℕ) (later : List Note) → All TakesNone later
+      → first_taken link_of (notes_taken slot room (Some there) octets ++ later)
+      ≡ pdu_line_if (takes_of link from pdu_read room (left_hearing slot link octets).acknowledged) (link_of link.setup.link.handle) (numbered (ack_of link).accepted + 1) pdu_read
+  took_as room there words link_of later none =
       let setup = link.setup in
       let role = setup.link.role in
       let count = numbered listener.acknowledgement.accepted + 1 in
       let is = worded_good link there words octets ∙ good in
       let left : leaving_hearing role slot (Some read_octets) (with_response words.response listener) ≡ left_hearing slot link octets =
       leaving_still role slot (Some read_octets) words.response listener ∙ ap (λ found. leaving_hearing role slot found listener) (sym good) in
-      (λ i. first_taken link_of (received_notes (words.setup_is i) slot true (is i) (words.facts_is i) ++ later))
-      ∙ hearing_first setup (with_response words.response listener) slot true (header_in read_octets) (pdu_of read_octets) later none link_of
+      (λ i. first_taken link_of (received_notes (words.setup_is i) slot room (is i) (words.facts_is i) ++ later))
+      ∙ hearing_first setup (with_response words.response listener) slot room (header_in read_octets) (pdu_of read_octets) later none link_of
       ∙ (λ i. pdu_line_if
-      ((is_accepted true (has_new_pdu listener (header i)) (pdu_is i) && (is_empty (pdu_is i) || not (left i).acknowledged)) && not (is_empty (pdu_is i)))
+      ((is_accepted room (has_new_pdu listener (header i)) (pdu_is i) && (is_empty (pdu_is i) || not (left i).acknowledged)) && not (is_empty (pdu_is i)))
       (link_of setup.link.handle) count (pdu_is i))
 
 -- ---- how many PDUs were sent and accepted
@@ -342,38 +355,44 @@ one_less n = grind (arith, nat_tests)
 none_less : (n : ℕ) → nat_lt n n ≡ false
 none_less n = grind (arith, nat_tests)
 
-same_line : (new empty left : Bool) (sent accepted number : ℕ) (pdu : Pdu) → (new ≡ true → empty ≡ false → sent ≡ accepted + 1) → (new ≡ false → sent ≡ accepted)
-    → pdu_line_if (nat_lt accepted sent && not empty && not left) number sent pdu
-    ≡ pdu_line_if (((new && true) && (empty || not left)) && not empty) number (accepted + 1) pdu
-same_line new true left sent accepted number pdu more same =
-    ap (λ b. pdu_line_if (b && not left) number sent pdu) (and-false (nat_lt accepted sent))
-    ∙ sym (ap (λ b. pdu_line_if b number (accepted + 1) pdu) (and-false ((new && true) && (true || not left))))
-same_line true false left sent accepted number pdu more same =
+same_line : (new empty fits left : Bool) (sent accepted number : ℕ) (pdu : Pdu) → (new ≡ true → empty ≡ false → sent ≡ accepted + 1) → (new ≡ false → sent ≡ accepted)
+    → pdu_line_if (nat_lt accepted sent && not empty && fits && not left) number sent pdu
+    ≡ pdu_line_if (((new && fits) && (empty || not left)) && not empty) number (accepted + 1) pdu
+same_line new true fits left sent accepted number pdu more same =
+    ap (λ b. pdu_line_if (b && fits && not left) number sent pdu) (and-false (nat_lt accepted sent))
+    ∙ sym (ap (λ b. pdu_line_if b number (accepted + 1) pdu) (and-false ((new && fits) && (true || not left))))
+same_line true false fits left sent accepted number pdu more same =
     let is = more refl refl in
-    (λ i. pdu_line_if (nat_lt accepted (is i) && true && not left) number (is i) pdu)
-    ∙ ap (λ b. pdu_line_if (b && true && not left) number (accepted + 1) pdu) (one_less accepted) ∙ left_by left
+    (λ i. pdu_line_if (nat_lt accepted (is i) && true && fits && not left) number (is i) pdu)
+    ∙ ap (λ b. pdu_line_if (b && true && fits && not left) number (accepted + 1) pdu) (one_less accepted) ∙ all_by (fits && not left)
   where
-    left_by : (left : Bool) → pdu_line_if (not left) number (accepted + 1) pdu ≡ pdu_line_if (not left && true) number (accepted + 1) pdu
-    left_by true = refl
-    left_by false = refl
-same_line false false left sent accepted number pdu more same =
+    all_by : (takes : Bool) → pdu_line_if takes number (accepted + 1) pdu ≡ pdu_line_if (takes && true) number (accepted + 1) pdu
+    all_by true = refl
+    all_by false = refl
+same_line false false fits left sent accepted number pdu more same =
     let is = same refl in
-    (λ i. pdu_line_if (nat_lt accepted (is i) && true && not left) number (is i) pdu)
-    ∙ ap (λ b. pdu_line_if (b && true && not left) number accepted pdu) (none_less accepted)
+    (λ i. pdu_line_if (nat_lt accepted (is i) && true && fits && not left) number (is i) pdu)
+    ∙ ap (λ b. pdu_line_if (b && true && fits && not left) number accepted pdu) (none_less accepted)
+
+either_way : (carries room : Bool) → (not carries || room) ≡ (room || not carries)
+either_way true true = refl
+either_way true false = refl
+either_way false true = refl
+either_way false false = refl
 
 -- a station that receives the packet of the other end of its link takes the last PDU that was sent, as it reads that, where
--- it has not yet and has not left the link
+-- it has not yet, has room for it, and has not left the link
 pub taken_as : (whole : IsHeardWhole) (link_of : ℕ → ℕ) (setup : Setup) (facts : Facts) (octets : List ℕ) (handle number : ℕ) (link from : OpenLink)
-    → has_room setup facts ≡ true → link_at handle facts.links ≡ Some link → listens_under handle facts.turn.doing ≡ true
+    → link_at handle facts.links ≡ Some link → listens_under handle facts.turn.doing ≡ true
     → link_of link.setup.link.handle ≡ number → (readable : IsReadable (facts_in from)) (fields : from.setup.link.fields ≡ link.setup.link.fields)
     (packet : octets ≡ packet_sent from.setup (facts_in from)) (channel : (facts_in from).event.channel ≡ (facts_in link).event.channel)
     (judged : verdict_of link.setup (facts_in link) octets ≡ Good) → AgreeInShape (sent_ack (facts_in from)) (ack_of link)
     → pdu_line_if
     (nat_lt (numbered (ack_of link).accepted) (numbered (sent_ack (facts_in from)).sent) && not (is_empty (pdu_sent (facts_in from)))
-    && not (left_hearing facts.turn.slot link octets).acknowledged)
+    && (not (is_data (pdu_sent (facts_in from))) || has_room setup facts) && not (left_hearing facts.turn.slot link octets).acknowledged)
     number (numbered (sent_ack (facts_in from)).sent) (pdu_read whole facts.turn.slot link from octets readable fields packet channel judged)
     ≡ first_taken link_of (notes_after setup facts (step_of (Some octets)))
-taken_as whole link_of setup facts octets handle number link from room is_open on number_is readable fields packet channel judged agreed =
+taken_as whole link_of setup facts octets handle number link from is_open on number_is readable fields packet channel judged agreed =
     let sender = facts_in from in
     let slot = facts.turn.slot in
     let taken = pdu_read whole slot link from octets readable fields packet channel judged in
@@ -381,12 +400,16 @@ taken_as whole link_of setup facts octets handle number link from room is_open o
     let left = (left_hearing slot link octets).acknowledged in
     let sent = numbered (sent_ack sender).sent in
     let empty = empty_is whole slot link from octets readable fields packet channel judged in
-    (λ i. pdu_line_if (nat_lt accepted sent && not (sym empty i) && not left) number sent taken)
-    ∙ same_line (fresh sender (ack_of link) agreed) (is_empty taken) left sent accepted number taken
+    let carries = data_is whole slot link from octets readable fields packet channel judged in
+    let room = has_room setup facts in
+    (λ i. pdu_line_if (nat_lt accepted sent && not (sym empty i) && (not (sym carries i) || room) && not left) number sent taken)
+    ∙ same_line (fresh sender (ack_of link) agreed) (is_empty taken) (not (is_data taken) || room) left sent accepted number taken
     (λ new some. fresh_more sender (ack_of link) agreed new (sym empty ∙ some)) (old_same sender (ack_of link) agreed)
-    ∙ ap (λ n. pdu_line_if (takes_of link from taken left) n (accepted + 1) taken) (sym number_is)
-    ∙ sym (heard_first setup facts octets handle link room is_open on link_of _
-    (λ there words later none. took_as whole slot link from octets readable fields packet channel judged there words link_of later none))
+    ∙ ap (λ b. pdu_line_if (((fresh sender (ack_of link) agreed && b) && (is_empty taken || not left)) && not (is_empty taken)) number (accepted + 1) taken)
+    (either_way (is_data taken) room)
+    ∙ ap (λ n. pdu_line_if (takes_of link from taken room left) n (accepted + 1) taken) (sym number_is)
+    ∙ sym (heard_first setup facts octets handle link is_open on link_of _
+    (λ there words later none. took_as whole slot link from octets readable fields packet channel judged room there words link_of later none))
 
 -- where it takes one, the PDU is new
 pub taken_is_new : (sender : EndFacts) (one : Acknowledgement) (agreed : AgreeInShape (sent_ack sender) one)

@@ -43,7 +43,7 @@ use Rattle.journal_leaving.proofs.journal_data.run_laws.InAgreement.{AreStations
 use Rattle.journal_leaving.specs.journal_links.Begun.{link_numbered}
 use Rattle.journal_leaving.specs.journal_packets.Belonging.{is_side, link_of_packet}
 use Rattle.journal_leaving.specs.journal_acks.Exchange.{Exchanged, after_packet, carries_empty, exchange_of, is_number, with_heard, with_sent}
-use Rattle.journal_leaving.proofs.journal_acks.Worded.{link_worded, received_ack_is, received_setup_is, worded, worded_heard, worded_setup}
+use Rattle.journal_leaving.proofs.journal_acks.Worded.{link_worded, received_ack_is, worded, worded_heard, worded_setup}
 use Rattle.journal_leaving.proofs.journal_acks.link_calls.CallNotes.{HasNoData, SendsNone, all_more, doing_noted, no_data, notes_starting, start_noted}
 use Rattle.journal_leaving.proofs.journal_acks.Counting.{AreCountedSo, AreKnown, facts_event, plain}
 use Rattle.journal_leaving.proofs.journal_acks.DataCalls.{on_link_notes, own_begun, sent_at}
@@ -59,6 +59,7 @@ use Rattle.journal_leaving.specs.journal_acks.link_calls.Uses.{listens_under, se
 use Rattle.journal_leaving.proofs.journal_acks.PhaseNotes.{IsOnLink, IsPhaseOf, IsPlainPhase, phase_of, same_but}
 use Rattle.journal_leaving.proofs.journal_acks.TwoStations.{IsOfTwo, other_apart, same_number}
 use Rattle.journal_leaving.proofs.journal_acks.link_calls.UnderHandles.{WasOpen, change_under, sending_under}
+use Rattle.journal_leaving.proofs.journal_packets.Replies.{receiving_setup as received_setup_is}
 use Rattle.journal_leaving.specs.journal_acks.link_calls.Turns.{change_if}
 use Rattle.journal_leaving.specs.journal_data.Lines.{PduLine}
 use Rattle.journal_sending.specs.Announced.{is_first_sent, pdu_line_if}

@@ -33,13 +33,13 @@ use Rattle.journal_leaving.specs.run_model.Run.{Given, Stop, Stops, after_call, 
 use Rattle.journal_leaving.specs.run_model.Run.{run_of, setup_at, step_of}
 use Rattle.journal_leaving.proofs.run_model.CallNotes.{noted_in_call}
 use Rattle.journal_leaving.proofs.run_model.EntryEvents.{is_of_event}
-use Rattle.journal_leaving.proofs.run_model.LinkEnds.{AreTaken, IsUnderstood}
+use Rattle.journal_leaving.proofs.run_model.LinkEnds.{AreTaken, IsUnderstood, wanted_is}
 use Rattle.journal_leaving.proofs.run_model.Places.{each_at, each_called, each_event}
 use Rattle.journal_leaving.proofs.run_model.Stations.{is_in, among, in_more_other, in_more_same, not_before}
 use Rattle.journal_leaving.proofs.run_model.Walk.{Place, AtPackets, AtBegins, AtFeeds, AtEnds, NoTurn, IsKept, IsStopped, IsWhole, ends_with, run_kept}
 use Rattle.journal_leaving.proofs.journal_data.run_laws.Agreed.{ack_of}
 use Rattle.journal_leaving.proofs.journal_data.run_laws.DistinctAccess.{AreApart}
-use Rattle.journal_leaving.proofs.journal_data.run_laws.Hearings.{own_facts, wanted_is}
+use Rattle.journal_leaving.proofs.journal_data.run_laws.Hearings.{own_facts}
 use Rattle.journal_leaving.proofs.journal_data.run_laws.TurnPlaces.{Between, Within, at_stage}
 use Rattle.journal_leaving.specs.journal_packets.Belonging.{is_side}
 use Rattle.journal_leaving.proofs.journal_packets.AccessOrder.{AreNth}

@@ -8,6 +8,7 @@ use Rattle.journal_leaving.specs.link_model.Acknowledgement.{Acknowledgement, is
 use Rattle.journal_leaving.specs.link_model.Data.{is_empty, numbered}
 use Rattle.journal_leaving.specs.link_model.Controls.{pdu_fixed}
 use Rattle.journal_leaving.specs.link_model.Step.{PacketSent}
+use Rattle.journal_leaving.proofs.link_model.Agreeing.{ack_ahead as sent_ack}
 use Rattle.journal_leaving.proofs.link_model.Hearing.{IsHeardWhole}
 use Rattle.journal_leaving.specs.journal_data.open_links.OpenLinks.{OpenLink, facts_in, link_after, link_at}
 use Rattle.journal_leaving.specs.controller_model.Facts.{Sends}
@@ -17,10 +18,10 @@ use Rattle.journal_leaving.specs.run_model.Journal.{journal_of, side_of}
 use Rattle.journal_leaving.specs.run_model.LinkEnds.{HaveAddresses}
 use Rattle.journal_leaving.specs.run_model.Links.{is_advertising}
 use Rattle.journal_leaving.specs.run_model.Run.{Given, facts_at, setup_at, use_at}
+use Rattle.journal_leaving.proofs.run_model.LinkEnds.{wanted_is}
 use Rattle.journal_leaving.proofs.run_model.Stations.{among}
 use Rattle.journal_leaving.proofs.run_model.Walk.{Place, AtPackets}
-use Rattle.journal_leaving.proofs.journal_data.run_laws.Agreed.{ack_of, ack_sent, sent_ack}
-use Rattle.journal_leaving.proofs.journal_data.run_laws.Hearings.{wanted_is}
+use Rattle.journal_leaving.proofs.journal_data.run_laws.Agreed.{ack_of, ack_sent}
 use Rattle.journal_leaving.specs.journal_packets.Belonging.{link_of_packet}
 use Rattle.journal_leaving.specs.journal_packets.Senders.{IsOfSendersLink}
 use Rattle.journal_leaving.specs.journal_acks.Carried.{carried_of}

@@ -1,6 +1,6 @@
 -- In every run of two stations, MD of each packet of a link tells whether more waits by the lines before it, and a new empty
 -- PDU goes out only where nothing is to go.
-use Rattle.std.proofs.Common.{◌≡◌, ℕ, ◌≤◌, ◌==◌, ◌&&◌, nat_lt, not, Bool, true, false, cond, List, [], ◌∷◌, ◌++◌, length, Some, refl, sym, ap, subst, ◌∙◌, append-nil, if◌then◌else◌}
+use Rattle.std.proofs.Common.{◌≡◌, ℕ, ◌≤◌, ◌==◌, nat_lt, not, Bool, true, false, cond, List, [], ◌∷◌, ◌++◌, length, Some, refl, sym, ap, subst, ◌∙◌, append-nil, if◌then◌else◌}
 use Rattle.acl_banks.specs.History.{octets_of}
 use Rattle.acl_banks.specs.Packets.{Marked}
 use Rattle.ble_base.specs.declared.roles.Side.{Side}
@@ -43,8 +43,9 @@ use Rattle.journal_leaving.proofs.journal_acks.link_calls.InRange.{ranges_in}
 use Rattle.journal_leaving.proofs.journal_links.OfTwo.{are_distinct}
 use Rattle.journal_leaving.proofs.journal_packets.AccessOrder.{AreNth}
 use Rattle.journal_leaving.proofs.journal_packets.SoFar.{IsBelongingSoFar}
+use Rattle.journal_leaving.proofs.link_model.Agreeing.{ack_ahead as sent_ack}
 use Rattle.journal_leaving.proofs.link_model.Hearing.{IsHeardWhole}
-use Rattle.journal_leaving.proofs.journal_data.run_laws.Agreed.{ack_of, sent_ack, step_facts}
+use Rattle.journal_leaving.proofs.journal_data.run_laws.Agreed.{ack_of, step_facts}
 use Rattle.journal_leaving.proofs.journal_data.run_laws.DistinctAccess.{AreApart}
 use Rattle.journal_leaving.proofs.run_model.LinkEnds.{AreTaken, IsUnderstood}
 use Rattle.journal_leaving.proofs.run_model.Stations.{among, is_in}

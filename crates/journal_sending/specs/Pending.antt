@@ -1,6 +1,6 @@
 -- A PDU is taken as the first good packet brings it, with the body that the end reads in that by its own keys (Core 5.2,
 -- volume 6 part B, sections 4.5.9, 5.1.3 and 5.1.6, and part E, section 2).
-use Rattle.std.specs.Prelude.{◌≡◌, ℕ, ◌==◌, ◌&&◌, nat_lt, not, Bool, false, List, [], ◌∷◌, ◌++◌, drop, length, Option, Some, None, if◌then◌else◌}
+use Rattle.std.specs.Prelude.{◌≡◌, ℕ, ◌==◌, ◌&&◌, ◌||◌, nat_lt, not, Bool, false, List, [], ◌∷◌, ◌++◌, drop, length, Option, Some, None, if◌then◌else◌}
 use Rattle.air_frame.specs.Hearing.{heard_in}
 use Rattle.air_frame.specs.declared.Heard.{Heard}
 use Rattle.air_frame.specs.declared.Heard.TheVariants.{NotOurs, Broken, Whole}
@@ -13,7 +13,8 @@ use Rattle.journal_leaving.specs.journal_data.Lines.{PduLine, lines_of, pdus_on}
 use Rattle.journal_leaving.specs.journal_acks.Carried.{carried_of}
 use Rattle.journal_leaving.specs.journal_links.Begun.{LinkBegun, link_numbered}
 use Rattle.journal_leaving.specs.journal_packets.Belonging.{is_side, link_of_packet}
-use Rattle.journal_leaving.specs.link_model.Data.{is_empty}
+use Rattle.journal_hosts.specs.HostFlow.{has_room_on}
+use Rattle.journal_leaving.specs.link_model.Data.{is_data, is_empty}
 use Rattle.journal_leaving.specs.run_model.History.{is_good}
 use Rattle.journal_leaving.specs.run_model.Links.{is_advertising}
 use Rattle.journal_fixing.specs.journal_controls.LineSteps.{keyed_on}
@@ -62,14 +63,20 @@ pdu_read_of words number front sender channel octets = record {
   body = body_on words number front (other_side sender) channel octets;
 }
 
--- the PDU with a payload in a packet of this link, where the other side did not take it yet. An end takes nothing more
--- once its LL_TERMINATE_IND is acknowledged, also by this packet; `after` are the entries up to the packet, and it
+-- there is room for a PDU at a side, if it is data
+abbrev pub has_room_for : Side → List Entry → Pdu → Bool
+has_room_for side front pdu = not (is_data pdu) || has_room_on side front
+
+-- the PDU with a payload in a packet of this link, where the other side did not take it yet and has room for it. An end
+-- takes nothing more once its LL_TERMINATE_IND is acknowledged, also by this packet; `after` are the entries up to the
+-- packet, and it
 abbrev pub untaken_pdu : Words → Option ℕ → List Entry → List Entry → Side → ℕ → List ℕ → Option PduLine
 untaken_pdu words None front after sender channel octets = None
 untaken_pdu words (Some link) front after sender channel octets =
     pdu_line_if
     (nat_lt (last_number_taken link front (other_side sender)) (last_number_sent link front sender)
-    && not (is_empty (carried_of link front sender)) && not (has_left (leaving_on words (other_side sender) link after)))
+    && not (is_empty (carried_of link front sender))
+    && has_room_for (other_side sender) front (carried_of link front sender) && not (has_left (leaving_on words (other_side sender) link after)))
     link (last_number_sent link front sender) (pdu_read_of words link front sender channel octets)
 
 -- a line says that a procedure is done on the link of this PDU

@@ -7,7 +7,7 @@ use Rattle.journal_fixing.specs.journal_controls.journal_ends.Asked.{Words}
 use Rattle.journal_sending.specs.Announced.{announced_pdu}
 use Rattle.journal_sending.specs.Pending.{pending_pdu}
 
--- the packet of each line of a new PDU was on the air, and each side took what reached it
+-- the packet of each line of a new PDU was on the air, and each side took what reached it and found room
 abbrev pub IsAtRest : Words → List Entry → Type 0
 IsAtRest words front = (side : Side) → (announced_pdu side front ≡ None) × (pending_pdu words side front ≡ None)
 

@@ -4,9 +4,9 @@ use Rattle.ble_base.specs.declared.roles.Role.TheVariants.{Peripheral}
 use Rattle.ble_base.specs.declared.roles.Side.TheVariants.{A}
 use Rattle.ble_base.specs.declared.verdicts.Verdict.TheVariants.{Good}
 use Rattle.journal.specs.declared.entries.Entry.{Entry}
-use Rattle.journal.specs.declared.entries.Entry.TheVariants.{Air, Fed, Sent}
+use Rattle.journal.specs.declared.entries.Entry.TheVariants.{Air, Fed, Opened, Sent, Took}
 use Rattle.journal.specs.declared.entries.Mark.TheVariants.{Pass as Passed}
-use Rattle.journal_leaving.specs.journal_acks.Rows.{data_pdu, host_packet}
+use Rattle.journal_leaving.specs.journal_acks.Rows.{data_pdu, data_sent, host_packet}
 use Rattle.journal_leaving.specs.run_model.Rows.{turn_entry}
 use Rattle.journal_fixing.specs.Rows.{version_heard}
 use Rattle.journal_fixing.specs.journal_controls.Rows.{begun_on, version_pdu}
@@ -34,3 +34,12 @@ data_reply = 0x29 ∷ 0x41 ∷ 0x76 ∷ 0x71 ∷ 0x5B ∷ 0xFB ∷ 0x80 ∷ 0xAE
 abbrev pub terminate_answered : List Entry
 terminate_answered =
     terminate_taken ++ Sent A 1 1 data_pdu.llid data_pdu.body ∷ Air A 25 data_reply Passed Good ∷ []
+
+-- the peripheral has taken seven PDUs of data on another link, and its host has received none of them
+abbrev pub seven_wait : List Entry
+seven_wait =
+    data_sent ++ Opened A 2 1 Peripheral ∷ Took A 2 1 2 (0xAA ∷ []) ∷ Took A 2 2 2 (0xAA ∷ []) ∷ Took A 2 3 2 (0xAA ∷ [])
+    ∷ Took A 2 4 2 (0xAA ∷ []) ∷ Took A 2 5 2 (0xAA ∷ []) ∷ Took A 2 6 2 (0xAA ∷ []) ∷ Took A 2 7 2 (0xAA ∷ []) ∷ []
+
+abbrev pub eight_wait : List Entry
+eight_wait = seven_wait ++ Took A 2 8 2 (0xAA ∷ []) ∷ []

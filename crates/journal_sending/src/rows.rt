@@ -20,7 +20,8 @@ ghost use Rattle.journal_fixing.specs.journal_controls.journal_ends.Rows.{some_w
 ghost use Rattle.journal_sending.specs.Announced.{announced_pdu, new_pdu_in};
 ghost use Rattle.journal_sending.specs.Outgoing.{octets_wait, piece_after, piece_by_lines};
 ghost use Rattle.journal_sending.specs.Pending.{pending_pdu, taken_pdu};
-ghost use Rattle.journal_sending.specs.Rows.{data_too, terminate_answered, version_owed};
+ghost use Rattle.journal_sending.specs.Rows.{data_too, eight_wait, seven_wait, terminate_answered};
+ghost use Rattle.journal_sending.specs.Rows.{version_owed};
 ghost use Rattle.journal_sending.specs.WhatWaits.{has_payload_next, tells_more};
 
 /// Pieces are cut at the effective length, here 27 octets, and at the end of each packet: of two
@@ -123,4 +124,12 @@ pub fn worked_taking()
     ensures empty { pending_pdu some_words A (one_event_journal ++ Air B 25 first_packet Pass Good ∷ []) ≡ None }
     ensures sender { pending_pdu some_words B data_heard ≡ None }
     ensures left { pending_pdu some_words B terminate_answered ≡ None }
+{}
+
+/// A PDU of data is taken where seven wait for the host, also on other links, and is not where eight
+/// do (Core 5.2, volume 6 part B, section 4.5.9; the number is our choice).
+pub fn worked_room()
+    ensures room { pending_pdu some_words A (seven_wait ++ Air B 25 data_packet Pass Good ∷ [])
+        ≡ Some (record { link = 1; number = 1; pdu = data_pdu }) }
+    ensures full { pending_pdu some_words A (eight_wait ++ Air B 25 data_packet Pass Good ∷ []) ≡ None }
 {}

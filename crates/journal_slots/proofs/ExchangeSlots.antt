@@ -22,7 +22,7 @@ use Rattle.journal_acks.specs.link_model.Step.{Step as EndStep, DataGiven, DataR
 use Rattle.journal_acks.specs.link_model.Times.{has_second_exchange}
 use Rattle.journal_acks.specs.open_links.OpenLinks.{OpenLink, facts_in, in_event, link_after, link_at, new_link}
 use Rattle.journal_acks.specs.open_links.procedure_values.declared.asks.Ask.TheVariants.{Map}
-use Rattle.journal_acks.specs.open_links.Turns.{entered_if, enters_in, is_anchor, link_entered, wants_entering, wants_if}
+use Rattle.journal_acks.specs.open_links.Turns.{entered_if, enters_in, is_anchor, link_entered, wants_entering}
 use Rattle.journal_acks.proofs.open_links.Anchors.{enters}
 use Rattle.journal_acks.proofs.open_links.Unmoved.{entered_setup}
 use Rattle.journal_acks.proofs.EntryNotes.{stays_put}
@@ -47,6 +47,7 @@ use Rattle.journal_acks.proofs.run_laws.OpenSteps.{AsksForMap, EachOpen, IsKeptB
 use Rattle.journal_acks.proofs.run_laws.TurnPlaces.{Between, IsTurned, Stage}
 use Rattle.journal_acks.proofs.run_laws.TurnSteps.{begins_slot, phase_turn}
 use Rattle.journal_acks.proofs.link_calls.EnteredLinks.{open_in_event}
+use Rattle.journal_acks.proofs.link_calls.Exchanging.{wants_anchor}
 use Rattle.journal_acks.proofs.link_calls.HostSteps.{asked_leaves}
 use Rattle.journal_acks.proofs.link_calls.HeardSteps.{fixed_same, forged_event, received_same, sent_in}
 use Rattle.journal_acks.specs.link_calls.Phases.{HasPassed, IsNew, Stays, Takes, link_receiving}
@@ -283,10 +284,6 @@ entered_track true slot link is on =
       maps = one_more_map link.past (EventEntered slot) on.maps tt;
     }
 
-wants_anchor : (enters : Bool) (slot : ℕ) (link : OpenLink) → enters_in slot link ≡ enters → wants_entering slot link ≡ true → enters ≡ true
-wants_anchor true slot link is wants = refl
-wants_anchor false slot link is wants = absurd (let h : false ≡ true = sym (ap (λ b. wants_if b slot link) is) ∙ wants in absurd cc)
-
 -- ---- a turn begins
 
 -- the links before they enter their events, and one of them
@@ -392,7 +389,7 @@ passed_exchange setup received facts uses handle link (Takes base octets was som
 tracks_may_open : (facts : Facts) → MayOpen IsOnTrack track_open facts
 tracks_may_open facts = record {
   made = λ channel link doing. new_track (record { link = link; opened = facts.turn.slot });
-  taken = λ pdu on fields handle takes. new_track (record { link = link_taken on.params.own pdu fields handle; opened = facts.turn.slot });
+  taken = λ pdu on fields handle takes. new_track (record { link = link_taken facts.view on.params.own pdu fields handle; opened = facts.turn.slot });
 }
 
 pub exchanges_kept : (setup : Setup) → IsTurned setup (AreInExchanges setup)

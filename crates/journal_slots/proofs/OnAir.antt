@@ -1,5 +1,5 @@
 -- What the event of an end holds of its packets was on the air.
-use Rattle.std.proofs.Common.{◌≡◌, ℕ, ◌==◌, ◌&&◌, ◌||◌, ◌⊎◌, inl, inr, Bool, true, false, Option, Some, None, List, [], ◌∷◌, ◌++◌, refl, sym, ap, subst, ◌∙◌, append_assoc}
+use Rattle.std.proofs.Common.{◌≡◌, ℕ, ◌==◌, ◌&&◌, ◌⊎◌, inl, inr, Bool, true, false, Option, Some, None, List, [], ◌∷◌, ◌++◌, refl, sym, ap, subst, ◌∙◌, append_assoc}
 use Rattle.std.specs.Prelude.{drop, not, take, if◌then◌else◌}
 use Rattle.std.specs.Str.{bytes_eq}
 use Rattle.std.proofs.lemmas.Bool.{eqb-true}
@@ -32,6 +32,7 @@ use Rattle.journal_acks.specs.controller_model.declared.doing.Turn.{Turn}
 use Rattle.journal_acks.specs.controller_model.Facts.{Facts}
 use Rattle.journal_acks.proofs.run_laws.Agreed.{step_facts}
 use Rattle.journal_acks.proofs.Counting.{taking_if, nothing_taken}
+use Rattle.journal_acks.proofs.link_calls.Exchanging.{uses_either}
 use Rattle.journal_acks.proofs.link_calls.LinkCalls.{HasBegun}
 use Rattle.journal_acks.specs.link_calls.Turns.{fixed_if}
 use Rattle.journal_acks.specs.link_calls.Uses.{listens_under, sends_under}
@@ -143,10 +144,6 @@ second_of_both : (one other : Bool) → (one && other) ≡ true → other ≡ tr
 second_of_both true other is = is
 second_of_both false other is = absurd cc
 
-pub either : (one other : Bool) → (one || other) ≡ true → (one ≡ true) ⊎ (other ≡ true)
-either true other is = inl refl
-either false other is = inr is
-
 pub sent_on_air : (number : ℕ) (side : Side) (journal : List Entry) (slot : ℕ) (link : OpenLink) → IsOnAir number side journal (facts_in link).event
     → (packet : PacketInSlot number slot side journal) → has_more packet.channel packet.octets ≡ more_sent (facts_in link)
     → IsOnAir number side journal (facts_in (link_after (PacketSent slot) link)).event
@@ -154,7 +151,7 @@ sent_on_air number side journal slot link is packet says =
     let event = (facts_in link).event in
     subst (IsOnAir number side journal) (sym (event_after_sending slot link)) (record {
       heard = is.heard;
-      more = λ more. by (either event.more ((slot == event.slot) && more_sent (facts_in link)) more);
+      more = λ more. by (uses_either event.more ((slot == event.slot) && more_sent (facts_in link)) more);
     })
   where
     by : ((facts_in link).event.more ≡ true) ⊎ (((slot == (facts_in link).event.slot) && more_sent (facts_in link)) ≡ true) → SaysMore number (facts_in link).event.slot side journal
@@ -226,8 +223,8 @@ module _ (number : ℕ) (side : Side) (journal : List Entry) (slot : ℕ) (event
   received_by : (found : Option (List ℕ)) → SaysSameIn found event.channel heard.packet.octets → IsOnAir number side journal (event_received slot found event)
   received_by None pdu_is = is
   received_by (Some pdu) pdu_is = record {
-    heard = λ now. first (either event.heard (slot == event.slot) now);
-    more = λ now. by (either event.more ((slot == event.slot) && (header_in pdu).md) now);
+    heard = λ now. first (uses_either event.heard (slot == event.slot) now);
+    more = λ now. by (uses_either event.more ((slot == event.slot) && (header_in pdu).md) now);
   }
     where
       first : (event.heard ≡ true) ⊎ ((slot == event.slot) ≡ true) → IsHeardIn number event.slot side journal

@@ -1,6 +1,6 @@
 -- What the events of open ends hold was on the air, after each call on a controller of a run.
-use Rattle.std.proofs.Common.{◌≡◌, ℕ, suc, ◌==◌, ◌&&◌, ◌||◌, ◌⊎◌, inl, inr, Bool, true, false, Option, Some, None, List, [], ◌∷◌, ◌++◌, refl, sym, ap, subst, ◌∙◌}
-use Rattle.std.specs.Prelude.{All, map, if◌then◌else◌}
+use Rattle.std.proofs.Common.{◌≡◌, ℕ, suc, ◌==◌, ◌&&◌, ◌||◌, Bool, true, false, Option, Some, None, List, [], ◌∷◌, ◌++◌, refl, sym, ap, subst, ◌∙◌}
+use Rattle.std.specs.Prelude.{map, if◌then◌else◌}
 use Rattle.std.proofs.lemmas.Bool.{eqb-true}
 use Rattle.journal.specs.declared.entries.Entry.{Entry}
 use Rattle.journal_acks.specs.link_model.declared.events.ConnectionEvent.{ConnectionEvent}
@@ -19,6 +19,7 @@ use Rattle.journal_acks.specs.run_model.History.{Event, Called, HostFed, Noted, 
 use Rattle.journal_acks.specs.run_model.Journal.{entries_of, journal_from, journal_of, side_of}
 use Rattle.journal_acks.specs.run_model.Links.{links_of}
 use Rattle.journal_acks.specs.run_model.Run.{Given, after_call, after_feed, after_octets, facts_at, setup_at, step_of}
+use Rattle.journal_acks.proofs.PassedLinks.{passed_or_new}
 use Rattle.journal_acks.proofs.run_model.Calls.{same_station}
 use Rattle.journal_acks.proofs.run_model.LinkEnds.{received_by}
 use Rattle.journal_acks.proofs.run_model.Parts.{journal_event, journal_more}
@@ -33,7 +34,7 @@ use Rattle.journal_acks.proofs.link_calls.CallNotes.{OpensNone, opening_none}
 use Rattle.journal_acks.proofs.Exchanging.{number_at, number_called, number_other, number_quiet}
 use Rattle.journal_acks.proofs.KeptCounts.{AreCountedAt, own_at, unsent}
 use Rattle.journal_acks.specs.link_calls.Phases.{HasPassed, IsNew, Stays, Takes, link_receiving}
-use Rattle.journal_acks.proofs.link_calls.LinkCalls.{IsOpenedNow, begins_under, new_event, off_sends, passes_under, phase_quiet, receiving_event}
+use Rattle.journal_acks.proofs.link_calls.LinkCalls.{begins_under, new_event, off_sends, passes_under, receiving_event}
 use Rattle.journal_acks.specs.link_calls.Uses.{listens_under, sends_under}
 use Rattle.journal_acks.proofs.Standing.{PhasedBy, phased_at}
 use Rattle.journal_acks.proofs.link_calls.UnderHandles.{end_under, octet_under}
@@ -311,15 +312,9 @@ module _ (given : Given) (Q : Place → List Event → Type 0) (distinct : AreDi
 
   pub passes_on_air : (handle : ℕ) (link : OpenLink) → link_at handle (facts_at given station after).links ≡ Some link
       → IsEndOnAir true (packet_received station after) handle (facts_at given station after).turn link (number_at station handle after) (side_of station) (journal_of after)
-  passes_on_air handle link at = by (phase_quiet (setup_at given station) facts received handle)
-    where
-      own : link_at handle (facts_after (setup_at given station) (facts_at given station history) (step_of (packet_received station history))).links ≡ Some link
-      own = own_at given station (step_of (packet_received station history)) history handle link at
-
-      by : All (OpensNone handle) (notes_after (setup_at given station) (facts_at given station history) (step_of (packet_received station history)))
-          ⊎ ((one : OpenLink) → link_at handle (facts_after (setup_at given station) (facts_at given station history) (step_of (packet_received station history))).links ≡ Some one
-          → IsOpenedNow (facts_at given station history).turn.slot one)
-          → IsEndOnAir true (packet_received station after) handle (facts_at given station after).turn link (number_at station handle after) (side_of station) (journal_of after)
-      by (inl quiet) =
-          passed handle link (number_called given station (step_of received) history handle quiet) (passes_under (setup_at given station) facts received handle link phased.uses.in_turn.listens own)
-      by (inr new) = new_passed handle link (new link own).event (passes_under (setup_at given station) facts received handle link phased.uses.in_turn.listens own)
+  passes_on_air handle link at =
+      passed_or_new given station history phased.uses.in_turn.listens
+      (IsEndOnAir true (packet_received station after) handle (facts_at given station after).turn link (number_at station handle after) (side_of station) (journal_of after))
+      handle link at (passed handle link)
+      (λ new. new_passed handle link new.event
+      (passes_under (setup_at given station) facts received handle link phased.uses.in_turn.listens (own_at given station (step_of received) history handle link at)))

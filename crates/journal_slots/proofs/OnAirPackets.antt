@@ -1,9 +1,8 @@
 -- What the events of open ends hold was on the air, after a packet on the air.
-use Rattle.std.proofs.Common.{◌≡◌, ℕ, zero, suc, ◌+◌, ◌≤◌, ◌==◌, nat_le, ◌&&◌, Bool, true, false, not, Option, Some, None, List, [], ◌∷◌, ◌++◌, length, take, refl, sym, ap, subst, ◌∙◌, append-nil, arith}
+use Rattle.std.proofs.Common.{◌≡◌, ℕ, zero, suc, ◌+◌, ◌==◌, ◌&&◌, Bool, true, false, not, Option, Some, None, List, [], ◌∷◌, ◌++◌, length, take, refl, sym, ap, subst, ◌∙◌, append-nil}
 use Rattle.std.specs.Prelude.{if◌then◌else◌}
 use Rattle.std.specs.Str.{bytes_eq}
 use Rattle.std.proofs.lemmas.Bool.{eqb-true, false_from_ne_true, and_right}
-use Rattle.std.proofs.lemmas.Bool.Decides.{nat_tests}
 use Rattle.ble_base.specs.Side.{other_side}
 use Rattle.ble_base.specs.declared.roles.Side.{Side}
 use Rattle.ble_base.specs.declared.verdicts.Verdict.TheVariants.{Forged}
@@ -20,7 +19,7 @@ use Rattle.journal_acks.specs.link_model.Packets.{header_sent, more_sent, packet
 use Rattle.journal_acks.specs.link_model.Setup.{Setup as EndSetup}
 use Rattle.journal_acks.specs.link_model.Step.{PacketReceived, PacketSent}
 use Rattle.journal_acks.proofs.link_model.Hearing.{IsHeardWhole}
-use Rattle.journal_acks.proofs.link_model.Received.{has_header}
+use Rattle.journal_acks.proofs.link_model.Received.{has_header, in_form}
 use Rattle.journal_acks.specs.open_links.OpenLinks.{OpenLink, facts_in, link_after, link_at}
 use Rattle.journal_acks.specs.controller_model.declared.doing.Turn.{Turn}
 use Rattle.journal_acks.specs.controller_model.Facts.{Facts, Sends}
@@ -34,12 +33,11 @@ use Rattle.journal_acks.specs.run_model.Links.{is_advertising, links_of}
 use Rattle.journal_acks.specs.run_model.Readers.{turns_of}
 use Rattle.journal_acks.specs.run_model.Run.{Given, facts_at, hearings_of, unseen_in, use_at}
 use Rattle.journal_acks.proofs.run_model.Fates.{turns_are}
-use Rattle.journal_acks.proofs.run_model.LinkEnds.{is_listener, received_own}
+use Rattle.journal_acks.proofs.run_model.LinkEnds.{is_listener, received_own, wanted_is}
 use Rattle.journal_acks.proofs.run_model.Parts.{journal_event}
 use Rattle.journal_acks.proofs.run_model.Stations.{among, in_more_other, in_more_same, is_in, not_before}
 use Rattle.journal_acks.proofs.run_model.Unseen.{good_is}
 use Rattle.journal_acks.proofs.run_model.Walk.{AtPackets, Place}
-use Rattle.journal_acks.proofs.run_laws.Hearings.{wanted_is}
 use Rattle.journal_acks.proofs.run_laws.TurnPlaces.{Within, at_stage}
 use Rattle.journal_acks.specs.journal_packets.Belonging.{link_of_packet}
 use Rattle.journal_acks.specs.journal_packets.Senders.{IsOfSendersLink}
@@ -75,9 +73,6 @@ whole_pdu channel access init octets pdu is = by (bytes_eq (take 4 octets) (acce
     by true true found same = ap items_of same
     by true false found same = absurd cc
     by false whole found same = absurd cc
-
-in_form : (count : ℕ) → count ≤ 255 → (nat_le 2 (suc (suc count)) && nat_le (suc (suc count)) 257 && (suc (suc count) == 2 + count)) ≡ true
-in_form count short = grind (arith, nat_tests)
 
 packet_says_more : IsHeardWhole → (setup : EndSetup) (facts : EndFacts) → IsReadable facts → has_more facts.event.channel (packet_sent setup facts) ≡ more_sent facts
 unfolding packet_sent

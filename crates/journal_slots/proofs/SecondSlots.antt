@@ -25,13 +25,12 @@ use Rattle.journal_acks.specs.run_model.Run.{Given, after_call, after_feed, fact
 use Rattle.journal_acks.proofs.run_model.EntryEvents.{is_aired}
 use Rattle.journal_acks.proofs.run_model.Fates.{turns_are}
 use Rattle.journal_acks.proofs.run_model.Fronts.{front_at}
-use Rattle.journal_acks.proofs.run_model.LinkEnds.{AreTaken, IsUnderstood, received_by, received_event}
+use Rattle.journal_acks.proofs.run_model.LinkEnds.{AreTaken, IsUnderstood, received_by, received_event, wanted_is}
 use Rattle.journal_acks.proofs.run_model.Calls.{same_station}
 use Rattle.journal_acks.proofs.run_model.Stations.{among, in_more_other, in_more_same, is_in, not_before}
 use Rattle.journal_acks.proofs.run_model.Walk.{AtBegins, AtEnds, AtFeeds, AtPackets, IsKept, NoTurn, Place}
 use Rattle.journal_acks.proofs.run_laws.DistinctAccess.{AreApart}
 use Rattle.journal_acks.proofs.run_laws.OpenSteps.{none_open, open_has}
-use Rattle.journal_acks.proofs.run_laws.Hearings.{wanted_is}
 use Rattle.journal_acks.proofs.run_laws.TurnPlaces.{Between, Within, at_stage, turned}
 use Rattle.journal_acks.specs.journal_links.Begun.{link_numbered}
 use Rattle.journal_acks.specs.journal_links.Changes.{changes_of}

@@ -1,6 +1,6 @@
 -- A side whose radio is off sends nothing, and misses each packet.
 use Rattle.std.proofs.Common.{◌≡◌, ℕ, zero, suc, ◌-◌, Bool, true, false, List, [], ◌∷◌, ◌++◌, length, inl, inr, refl, sym, ap, ◌∙◌}
-use Rattle.std.specs.Prelude.{map, Some, None, slice_get}
+use Rattle.std.specs.Prelude.{map, Some, slice_get}
 use Rattle.ble_base.specs.Side.{other_side}
 use Rattle.ble_base.specs.declared.roles.Side.{Side}
 use Rattle.ble_base.specs.declared.roles.Side.TheVariants.{A, B}
@@ -41,9 +41,6 @@ sends_on given station channel octets history plan is_now silent wanted false is
     let idle = is_idle given station history plan is_now silent is in
     absurd (let h : Idle ≡ Sends channel octets = sym idle ∙ wanted in absurd cc)
 
-no_channel : (fate : Fate) (channel : ℕ) → reaches fate channel None ≡ false
-no_channel fate channel = refl
-
 pub misses_at : (given : Given) (fate : Fate) (channel : ℕ) (octets : List ℕ) (history : List Event) (listener : ℕ) (plan : Plan) → plan_at given history ≡ Some plan
     → IsSilent given history listener → plan.radio_of listener ≡ false → (hearing_at given fate channel octets history listener).verdict ≡ Missed
 misses_at given fate channel octets history listener plan is_now silent off =
@@ -72,10 +69,6 @@ one_listener : (given : Given) (fates : List Fate) (number channel : ℕ) (octet
     → hearing ∷ others ≡ hearings_from given fates number channel octets history (listener ∷ [])
     → hearing ≡ hearing_at given (fate_at fates number) channel octets history listener
 one_listener given fates number channel octets history listener hearing others is = cc
-
-pub of_side : (side : Side) → side_of (station_of side) ≡ side
-of_side A = refl
-of_side B = refl
 
 pub other_station : (side : Side) → others_than (station_of side) (0 ∷ 1 ∷ []) ≡ station_of (other_side side) ∷ []
 other_station A = refl

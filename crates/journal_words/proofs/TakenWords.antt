@@ -51,14 +51,14 @@ use Rattle.journal_controls.specs.run_model.History.{Noted}
 use Rattle.journal_controls.specs.run_model.Journal.{entry_of, journal_from, side_of}
 use Rattle.journal_controls.specs.run_model.Links.{Links, links_after}
 use Rattle.journal_controls.specs.run_model.Readers.{PairOpening, pair_openings_in, turns_of}
-use Rattle.journal_controls.proofs.EarlyTakings.{given_takes}
 use Rattle.journal_controls.proofs.EndMoves.{hearing_keeps, past_keeps}
 use Rattle.journal_controls.proofs.EndSteps.{before_response}
 use Rattle.journal_controls.proofs.LineFolds.{IsNamed, Others, Own, keyed_more, line_moves, named_by}
 use Rattle.journal_controls.proofs.NotedSteps.{empty_none}
-use Rattle.journal_controls.proofs.journal_acks.PhaseNotes.{IsOnLink, IsPhaseOf, IsPlainPhase, phase_of}
+use Rattle.journal_controls.proofs.journal_acks.PhaseNotes.{IsOnLink, IsPhaseOf, IsPlainPhase, given_takes, phase_of}
 use Rattle.journal_controls.proofs.journal_acks.TwoStations.{same_number, side_same}
 use Rattle.journal_controls.proofs.journal_acks.link_calls.CallNotes.{HasNoData, TakesNone, all_more, doing_noted, events_noted, none_taken}
+use Rattle.journal_controls.proofs.journal_acks.link_calls.RadioUses.{first_of_both}
 use Rattle.journal_controls.proofs.journal_ends.WordedLinks.{facts_on, heard_on}
 use Rattle.journal_words.specs.Drawn.{draws_taking, may_answer, words_taken, words_taking}
 use Rattle.journal_words.proofs.DrawnLines.{sum_in}
@@ -100,10 +100,6 @@ module _ (words : Words) (side : Side) (station : ℕ) where
       omega (arith, one, rest)
 
 -- ---- a PDU that is taken
-
-first_true : (a b : Bool) → (a && b) ≡ true → a ≡ true
-first_true true b is = refl
-first_true false b is = absurd cc
 
 not_false : (a : Bool) → not a ≡ false → a ≡ true
 not_false true is = refl
@@ -197,7 +193,7 @@ module _ (words : Words) (kept : AreKept words) (station : ℕ) (links : Links) 
         ap (λ own. if own then words_taken (words side front) (turn_now front) pdu (keyed_on words side number front) else 0) (side_same station)
         ∙ (λ i. words_taken (reached.gives i) (reached.turn i) pdu (reached.keyed i))
         ∙ ap words_if (draws_as role response slot pdu now is_role same_response)
-        ∙ ap (λ b. words_if ((b && is_procedure_pdu pdu) && end_draws role pdu slot now)) (sym (first_true accepted (not (is_empty pdu)) noted)) in
+        ∙ ap (λ b. words_if ((b && is_procedure_pdu pdu) && end_draws role pdu slot now)) (sym (first_of_both accepted (not (is_empty pdu)) noted)) in
         omega (arith, took, rest)
     took_words front reached false noted more none =
         none_drawn words side station front links more none ∙ ap (λ b. words_if (b && end_draws role pdu slot now)) (sym (none_taken_in accepted noted))

@@ -1,6 +1,8 @@
 -- What tells two values apart, and what lines of links must say of a link that is known.
-use Rattle.std.proofs.Common.{◌≡◌, ℕ, ◌+◌, true, false, nat_eq, List, [], length, Option, Some, None, is_some}
+use Rattle.std.proofs.Common.{◌≡◌, ℕ, ◌+◌, Bool, true, false, nat_eq, List, [], inl, inr, length, Option, Some, None, is_some}
 use Rattle.std.proofs.Common.{sym, ap, ◌∙◌, arith}
+use Rattle.std.specs.Prelude.{◌⊎◌}
+use Rattle.acl_banks.specs.Packets.{Marked}
 use Rattle.ble_base.specs.declared.roles.Role.{Role}
 use Rattle.ble_base.specs.declared.roles.Side.{Side}
 use Rattle.journal.specs.declared.entries.Entry.{Entry}
@@ -19,6 +21,14 @@ truths_differ same = absurd (cc)
 
 pub some_is_none : {X : Type 0} (x : X) (one other : Option X) → one ≡ Some x → other ≡ None → one ≡ other → ⊥
 some_is_none x one other is_some is_none same = absurd (cc)
+
+-- a host that was not full has not received all
+pub not_handed : (received accepted : List Marked) (full : Bool) → (received ≡ accepted) ⊎ (full ≡ true)
+    → nat_eq (length received) (length accepted) ≡ false → full ≡ false → ⊥
+not_handed received accepted full handed differ room = elim handed [
+  | inl same ↦ numbers_differ (length received) (length accepted) differ (ap (λ (xs : List Marked). length xs) same)
+  | inr was ↦ truths_differ (sym was ∙ room)
+]
 
 -- ---- a link that is known
 

@@ -7,6 +7,7 @@ pub mod Events
 pub mod Exchanges
 pub mod Hearings
 pub mod Held
+pub mod Flowing
 pub mod Hosts
 pub mod InEvent
 pub mod Resetting

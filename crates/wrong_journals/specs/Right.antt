@@ -27,6 +27,24 @@ turn_with feed_a feed_b fates = record { a_on = true; b_on = true; feed_a = feed
 abbrev pub script_with : List Turn → Script
 script_with turns = record { a = config_with address_a 1; b = config_with address_b 2; turns = turns }
 
+-- ---- before hosts use a link
+
+-- A is reset in the second of two turns
+abbrev pub first_script : Script
+first_script = script_with (turn_with 0 0 [] ∷ turn_with 4 0 [] ∷ [])
+
+-- A advertises and B scans, with this fate of the advertisement
+abbrev pub advertising_script : List Fate → Script
+advertising_script fates = script_with (turn_with 24 18 fates ∷ [])
+
+-- a link opens
+abbrev pub opening_script : Script
+opening_script = script_with (turn_with 5 29 [] ∷ [])
+
+-- and has its first event
+abbrev pub event_script : Script
+event_script = script_with (turn_with 5 29 [] ∷ turn_with 0 0 [] ∷ turn_with 0 0 [] ∷ [])
+
 -- ---- data: in turn 1 hosts give a packet of the octet AA, and the link has two turns after that
 
 abbrev pub sending_octets : List ℕ

@@ -33,14 +33,17 @@ pub use crate::exchanges::{
 };
 pub use crate::hearings::wrong_hearings_are_refused;
 pub use crate::held::{lines_of_no_link_are_refused, packets_of_no_link_are_refused};
-pub use crate::hosts::{wrong_credits_are_refused, wrong_data_is_refused};
+pub use crate::hosts::{
+    wrong_credits_are_refused, wrong_data_is_refused, wrong_flow_to_a_host_is_refused,
+    wrong_orders_of_data_are_refused,
+};
 pub use crate::orders::wrong_orders_of_turns_are_refused;
 pub use crate::procedure_lines::{
     lines_that_are_due_are_right, lines_that_are_not_due_are_refused,
     wrong_lines_of_procedures_are_refused,
 };
 pub use crate::resets::links_left_by_a_reset_are_refused;
-pub use crate::right::{right_journals_are_lawful, worked_link_runs};
+pub use crate::right::{right_journals_are_lawful, worked_first_runs, worked_link_runs};
 pub use crate::shuts::{links_that_stay_open_are_refused, wrong_reasons_are_refused};
 pub use crate::slots::packets_outside_events_are_refused;
 pub use crate::turns::{

@@ -16,13 +16,33 @@ ghost use Rattle.run_model.specs.Rows.{first_reset_journal, one_connection_journ
 ghost use Rattle.run_model.specs.Rows.{one_event_journal, report, reset};
 ghost use Rattle.wrong_journals.specs.Hosts.{data_settled};
 ghost use Rattle.wrong_journals.specs.Resetting.{shut_by_reset};
-ghost use Rattle.wrong_journals.specs.Right.{answering_octets, asking_octets, asking_script};
+ghost use Rattle.wrong_journals.specs.Right.{advertising_script, answering_octets, asking_octets};
+ghost use Rattle.wrong_journals.specs.Right.{asking_script, event_script, first_script};
 ghost use Rattle.wrong_journals.specs.Right.{both_script, both_settled, both_shut, data_script};
 ghost use Rattle.wrong_journals.specs.Right.{ending_octets, ending_script, giving_octets};
 ghost use Rattle.wrong_journals.specs.Right.{more_octets, more_script, more_settled};
-ghost use Rattle.wrong_journals.specs.Right.{reset_script, resetting_octets, script_with};
-ghost use Rattle.wrong_journals.specs.Right.{sending_octets, turn_with, update_taken};
+ghost use Rattle.wrong_journals.specs.Right.{opening_script, reset_script, resetting_octets};
+ghost use Rattle.wrong_journals.specs.Right.{sending_octets, update_taken};
 ghost use Rattle.wrong_journals.specs.Right.{updating_octets, updating_script, version_replied};
+
+/// The journals of five runs before hosts use a link: a first HCI_Reset; an advertisement that is
+/// reported, and one that the radio loses; a link that opens; and its first event, with an empty PDU
+/// each way.
+pub fn worked_first_runs()
+    ensures reset { journal_of (history_of (run_of (given_of reset [] first_script)))
+        ≡ first_reset_journal }
+    ensures advertisement { journal_of (history_of (run_of
+        (given_of advertising_octets scanning_octets (advertising_script []))))
+        ≡ advertisement_opening (Air A 37 (advertisement_ending 0xDA) Passed Good
+        ∷ Up B report ∷ []) }
+    ensures lost { journal_of (history_of (run_of
+        (given_of advertising_octets scanning_octets (advertising_script (Lost ∷ [])))))
+        ≡ advertisement_opening (Air A 37 (advertisement_ending 0xDA) WasLost Missed ∷ []) }
+    ensures opens { journal_of (history_of (run_of
+        (given_of enabling_octets connecting_octets opening_script))) ≡ one_connection_journal }
+    ensures event { journal_of (history_of (run_of
+        (given_of enabling_octets connecting_octets event_script))) ≡ one_event_journal }
+{}
 
 /// The journals of seven runs. In three of them the central has a packet of its host to send. It
 /// says so in its first packet, and the event goes on in the next turn: there the packet is taken,
@@ -53,20 +73,16 @@ pub fn worked_link_runs()
 /// a host ends; and one with a Reset of a side with a link. Many of the wrong journals begin with
 /// lines of the last seven. So the definition of a lawful journal does not refuse what is right.
 pub fn right_journals_are_lawful()
-    ensures reset { IsLawful reset []
-        (script_with (turn_with 0 0 [] ∷ turn_with 4 0 [] ∷ [])) first_reset_journal }
-    ensures advertisement { IsLawful advertising_octets scanning_octets
-        (script_with (turn_with 24 18 [] ∷ []))
+    ensures reset { IsLawful reset [] first_script first_reset_journal }
+    ensures advertisement { IsLawful advertising_octets scanning_octets (advertising_script [])
         (advertisement_opening (Air A 37 (advertisement_ending 0xDA) Passed Good
         ∷ Up B report ∷ [])) }
     ensures lost { IsLawful advertising_octets scanning_octets
-        (script_with (turn_with 24 18 (Lost ∷ []) ∷ []))
+        (advertising_script (Lost ∷ []))
         (advertisement_opening (Air A 37 (advertisement_ending 0xDA) WasLost Missed ∷ [])) }
-    ensures opens { IsLawful enabling_octets connecting_octets
-        (script_with (turn_with 5 29 [] ∷ [])) one_connection_journal }
-    ensures event { IsLawful enabling_octets connecting_octets
-        (script_with (turn_with 5 29 [] ∷ turn_with 0 0 [] ∷ turn_with 0 0 [] ∷ []))
-        one_event_journal }
+    ensures opens { IsLawful enabling_octets connecting_octets opening_script
+        one_connection_journal }
+    ensures event { IsLawful enabling_octets connecting_octets event_script one_event_journal }
     ensures one_packet { IsLawful enabling_octets sending_octets data_script data_settled }
     ensures more_packets { IsLawful enabling_octets more_octets more_script more_settled }
     ensures both_sides { IsLawful answering_octets sending_octets both_script both_settled }
@@ -76,8 +92,7 @@ pub fn right_journals_are_lawful()
     ensures link_reset { IsLawful resetting_octets connecting_octets reset_script
         (shut_by_reset A) }
 {
+    worked_first_runs();
     worked_link_runs();
-    run_model::worked_runs();
-    run_model::worked_connection();
     journal_pdus::each_journal_is_lawful();
 }

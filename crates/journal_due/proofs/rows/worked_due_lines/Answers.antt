@@ -5,6 +5,8 @@ use Rattle.adv_pdu.specs.Reading.{read_of}
 use Rattle.air_frame.specs.Hearing.{heard_in}
 use Rattle.frame_bits.specs.Crc.{crc, crc_octets, crc_of_bits, remainder}
 use Rattle.frame_bits.specs.Whitening.{mask_of, next_mask, whitening_bit, whitening_of}
+use Rattle.h4_frames.specs.Frames.{frames}
+use Rattle.hci_cmd.specs.Command.{command_of, layout_of, layouts}
 use Rattle.journal_controls.specs.controller_model.Packets.{pdu_heard}
 use Rattle.wire_fields.specs.Field.{little_endian}
 use Rattle.journal_controls.specs.LineSteps.{keyed_on}
@@ -17,7 +19,7 @@ use Rattle.journal_due.specs.ProcedureLines.{applied_last}
 use Rattle.journal_due.proofs.rows.worked_due_lines.Goals as goal
 
 pub returns : goal.returns
-unfolding keyed_on lines_due applied_last exchange_of sent_line_of link_of_packet is_answer links_begun pdu_heard heard_in read_of kept_bits crc crc_octets crc_of_bits remainder mask_of next_mask whitening_bit whitening_of little_endian
+unfolding keyed_on lines_due applied_last exchange_of sent_line_of link_of_packet is_answer links_begun pdu_heard heard_in read_of kept_bits crc crc_octets crc_of_bits remainder mask_of next_mask whitening_bit whitening_of little_endian frames command_of layout_of layouts
 returns c = record {
   event = λ words. refl;
   began = λ words is. absurd cc;

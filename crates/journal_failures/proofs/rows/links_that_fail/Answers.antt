@@ -5,7 +5,7 @@ use Rattle.ble_base.specs.declared.roles.Side.TheVariants.{A}
 use Rattle.adv_pdu.specs.Header.{kept_bits}
 use Rattle.adv_pdu.specs.Reading.{read_of}
 use Rattle.air_frame.specs.Hearing.{heard_in}
-use Rattle.controller_model.specs.Packets.{pdu_heard}
+use Rattle.journal_outcomes.specs.controller_model.Packets.{pdu_heard}
 use Rattle.frame_bits.specs.Crc.{crc, crc_octets, crc_of_bits, remainder}
 use Rattle.frame_bits.specs.Whitening.{mask_of, next_mask, whitening_bit, whitening_of}
 use Rattle.journal.specs.declared.entries.Mark.TheVariants.{Pass}

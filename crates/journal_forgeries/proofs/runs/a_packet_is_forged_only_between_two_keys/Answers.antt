@@ -1,7 +1,7 @@
 -- Proof of `runs::a_packet_is_forged_only_between_two_keys`.
 use Rattle.std.proofs.Common.{◌∷◌, ◌++◌, ap, ◌∙◌}
-use Rattle.journal_controls.specs.run_model.History.{Transmitted}
-use Rattle.journal_controls.proofs.journal_links.OfTwo.{are_distinct}
+use Rattle.journal_sealing.specs.journal_controls.run_model.History.{Transmitted}
+use Rattle.journal_sealing.proofs.journal_controls.journal_links.OfTwo.{are_distinct}
 use Rattle.journal_forgeries.proofs.ForgedLines.{AllDown, AllHear, AllPure, AllUp, forged_line}
 use Rattle.journal_forgeries.proofs.runs.a_packet_is_forged_only_between_two_keys.Goals as goal
 

@@ -12,7 +12,7 @@ use Rattle.journal_seals.specs.journal_sealing.Mixed.{is_mixed}
 use Rattle.journal_sending.specs.journal_controls.journal_ends.GivenWords.{GivesWords}
 use Rattle.journal_sending.specs.journal_data.Followed.{Follows}
 use Rattle.journal_sending.specs.journal_due.ProcedureLines.{NoneIsDue}
-use Rattle.journal_sending.proofs.TakenInRuns.{some_air}
+use Rattle.journal_sending.proofs.TakenInRuns.{eight_air}
 use Rattle.journal_words.specs.Drawn.{words_by}
 use Rattle.journal_pdus.proofs.Law.{journal_settled, journal_settled_as_shut, settled_at_the_end}
 use Rattle.journal_pdus.proofs.lawful.each_journal_is_lawful.Goals as goal
@@ -45,6 +45,7 @@ returns-clause-lawful c = λ a b script six six_too.
       to_open = c.each_opened_link_was_to_open.ensures given refl addresses (pair_links a b script).links (eight_of a b script);
       entered = λ front rest side number event channel at. c.each_enter_line_is_at_its_anchor.ensures a b script front rest side number event channel six six_too at;
       events = λ front rest side number event channel at. c.each_side_enters_its_events_in_order.ensures a b script front rest side number event channel six six_too at;
+      none_missed = c.no_end_misses_an_event.ensures.before words given refl addresses gives (pair_links a b script).links (eight_of a b script);
       follows_central = c.ends_follow_their_central_in_every_journal.ensures.pair a b script mixed six six_too followed;
       alike = c.ends_enter_each_event_alike_in_every_journal.ensures a b script mixed six six_too followed;
       in_events = c.each_packet_is_in_its_event.ensures given refl addresses;
@@ -66,7 +67,7 @@ returns-clause-lawful c = λ a b script six six_too.
       };
       no_protocol_error = c.no_link_ends_by_a_protocol_error.ensures.pair a b script mixed six six_too followed;
       failures = c.a_link_fails_only_after_a_forged_packet.ensures.pair a b script mixed six six_too followed;
-      answered = c.each_answer_on_a_link_is_heard.ensures given refl addresses;
+      answered = c.each_answer_on_a_link_is_heard.ensures given refl addresses (few_of a b script);
       requested = c.each_request_is_heard.ensures given refl addresses;
       commands = c.each_command_is_answered.ensures a b script;
       credits = record {
@@ -88,9 +89,9 @@ returns-clause-lawful c = λ a b script six six_too.
         go_out_at_once = c.the_line_of_each_new_pdu_is_just_before_its_packet.ensures.aired given refl addresses
             (pair_links a b script).links (eight_of a b script);
         taken_at_once = c.each_pdu_is_taken_at_once.ensures words given refl addresses gives
-            (pair_links a b script).links (eight_of a b script) (some_air a b script);
+            (pair_links a b script).links (eight_of a b script) (eight_air a b script);
         at_rest = c.nothing_is_under_way_between_turns.ensures.before_a_turn words given refl addresses gives
-            (pair_links a b script).links (eight_of a b script) (some_air a b script);
+            (pair_links a b script).links (eight_of a b script) (eight_air a b script);
         settled = journal_settled c.packet_tells_its_pdu.ensures.heard c.a_pdu_is_understood.ensures.says c.connections_are_taken.ensures.taken
             c.searches_give_each_valid_address.ensures.valid c.searches_give_each_valid_address.ensures.distinct a b script six six_too;
         settled_as_shut = journal_settled_as_shut c.packet_tells_its_pdu.ensures.heard c.a_pdu_is_understood.ensures.says c.connections_are_taken.ensures.taken
@@ -105,6 +106,8 @@ returns-clause-lawful c = λ a b script six six_too.
         forged = c.a_packet_is_forged_only_between_two_keys.ensures words given refl addresses gives;
         as_opened = c.both_ends_agree_on_what_is_sealed.ensures words given refl addresses gives;
       };
+      host_flow = c.data_fits_the_buffers_of_its_host.ensures a b script six six_too;
+      host_order = c.data_of_all_links_comes_in_one_order.ensures a b script six six_too;
       arrives = c.data_arrives_in_order_in_every_journal.ensures a b script mixed six six_too followed;
     }
 
@@ -116,10 +119,11 @@ returns-clause-whole c = λ a b script history six six_too whole.
     let gives : GivesWords given words = c.the_words_of_a_run_are_given.ensures.pair links_of_pair a b script addresses in record {
       turns = c.each_journal_follows_its_schedule.ensures.whole a b script history whole;
       at_rest = c.nothing_is_under_way_between_turns.ensures.at_the_end words given history refl addresses gives
-          (pair_links a b script).links (eight_of a b script) (some_air a b script) whole;
+          (pair_links a b script).links (eight_of a b script) (eight_air a b script) whole;
       settled = settled_at_the_end c.packet_tells_its_pdu.ensures.heard c.a_pdu_is_understood.ensures.says c.connections_are_taken.ensures.taken
           c.searches_give_each_valid_address.ensures.valid c.searches_give_each_valid_address.ensures.distinct a b script six six_too history whole;
       in_time = c.links_end_in_time_by_the_lines.ensures.at_the_end words given history refl addresses gives whole;
+      none_missed = c.no_end_misses_an_event.ensures.at_the_end words given history refl addresses gives (pair_links a b script).links (eight_of a b script) whole;
       procedure_lines = subst (λ run. NoneIsDue words (journal_of (history_of run))) whole
           (c.each_line_of_a_procedure_is_where_it_is_due.ensures.at_the_end words given refl addresses gives);
       begun = c.each_link_is_opened_at_its_central.ensures.at_the_end given history refl addresses whole;

@@ -10,6 +10,8 @@ use Rattle.data_pdu.specs.Layouts.{makers}
 use Rattle.data_pdu.specs.Reading.{ctrl_of, length_of}
 use Rattle.frame_bits.specs.Crc.{crc, crc_octets, crc_of_bits, remainder}
 use Rattle.frame_bits.specs.Whitening.{mask_of, next_mask, whitening_bit, whitening_of}
+use Rattle.h4_frames.specs.Frames.{frames}
+use Rattle.hci_cmd.specs.Command.{command_of, layout_of, layouts}
 use Rattle.instants.specs.declared.indications.Indication.{Indication}
 use Rattle.instants.specs.declared.indications.Indication.TheVariants.{Map, Update}
 use Rattle.instants.specs.declared.indications.Params.{Params}
@@ -36,19 +38,19 @@ map_in (Map map instant) = map
 map_in (Update win_offset interval latency timeout instant) = 0
 
 pub returns-clause-channels : goal.returns-clause-channels
-unfolding is_mixed keyed_on exchange_of sent_line_of link_of_packet is_answer length_of links_begun pdu_heard heard_in read_of kept_bits crc crc_octets crc_of_bits remainder mask_of next_mask whitening_bit whitening_of little_endian ctrl_of makers data_channels used_channels
+unfolding is_mixed keyed_on exchange_of sent_line_of link_of_packet is_answer length_of links_begun pdu_heard heard_in read_of kept_bits crc crc_octets crc_of_bits remainder mask_of next_mask whitening_bit whitening_of little_endian ctrl_of makers data_channels used_channels frames command_of layout_of layouts
 returns-clause-channels c words lawful =
     numbers_differ 25 26 refl
     (lawful turns_before_first (Enter B 1 0 26 ∷ []) (turns_before_first ++ Enter A 1 0 25 ∷ []) [] A B 1 0 25 26 one_link refl refl refl refl refl refl).one_channel
 
 pub returns-clause-turns : goal.returns-clause-turns
-unfolding is_mixed keyed_on exchange_of sent_line_of link_of_packet is_answer length_of links_begun pdu_heard heard_in read_of kept_bits crc crc_octets crc_of_bits remainder mask_of next_mask whitening_bit whitening_of little_endian ctrl_of makers data_channels used_channels
+unfolding is_mixed keyed_on exchange_of sent_line_of link_of_packet is_answer length_of links_begun pdu_heard heard_in read_of kept_bits crc crc_octets crc_of_bits remainder mask_of next_mask whitening_bit whitening_of little_endian ctrl_of makers data_channels used_channels frames command_of layout_of layouts
 returns-clause-turns c words lawful =
     numbers_differ 3 4 refl
     (lawful turns_before_first (turn_entry 3 ∷ Enter B 1 0 25 ∷ []) (turns_before_first ++ Enter A 1 0 25 ∷ turn_entry 3 ∷ []) [] A B 1 0 25 25 one_link refl refl refl refl refl refl).turn
 
 pub returns-clause-maps : goal.returns-clause-maps
-unfolding is_mixed keyed_on exchange_of sent_line_of link_of_packet is_answer length_of links_begun pdu_heard heard_in read_of kept_bits crc crc_octets crc_of_bits remainder mask_of next_mask whitening_bit whitening_of little_endian ctrl_of makers data_channels used_channels
+unfolding is_mixed keyed_on exchange_of sent_line_of link_of_packet is_answer length_of links_begun pdu_heard heard_in read_of kept_bits crc crc_octets crc_of_bits remainder mask_of next_mask whitening_bit whitening_of little_endian ctrl_of makers data_channels used_channels frames command_of layout_of layouts
 returns-clause-maps c words lawful =
     let one = map_mistaken ++ Applied A 1 1 6 ∷ [] in
     let other = one ++ Enter A 1 6 23 ∷ Applied B 1 1 6 ∷ [] in
@@ -57,7 +59,7 @@ returns-clause-maps c words lawful =
     (lawful one (Applied B 1 1 6 ∷ Enter B 1 6 23 ∷ []) other [] A B 1 6 23 23 one_link refl refl refl refl refl refl).params)
 
 pub returns-clause-another : goal.returns-clause-another
-unfolding is_mixed keyed_on exchange_of sent_line_of link_of_packet is_answer length_of links_begun pdu_heard heard_in read_of kept_bits crc crc_octets crc_of_bits remainder mask_of next_mask whitening_bit whitening_of little_endian ctrl_of makers data_channels used_channels
+unfolding is_mixed keyed_on exchange_of sent_line_of link_of_packet is_answer length_of links_begun pdu_heard heard_in read_of kept_bits crc crc_octets crc_of_bits remainder mask_of next_mask whitening_bit whitening_of little_endian ctrl_of makers data_channels used_channels frames command_of layout_of layouts
 returns-clause-another c words lawful =
     numbers_differ 0x07FFFFFFFF 0x0FFFFFFFFF refl
     (ap (sum_by (λ (change : Change). map_in change.indication))

@@ -1,7 +1,6 @@
 -- An answer that passes is missed, or is broken.
-use Rattle.std.proofs.Common.{◌≡◌, ◌<◌, ℕ, [], arith, refl, sym}
+use Rattle.std.proofs.Common.{◌≡◌, ◌<◌, ◌+◌, ℕ, [], arith, refl, sym}
 use Rattle.ble_base.specs.declared.roles.Side.TheVariants.{A}
-use Rattle.ble_base.specs.declared.verdicts.Verdict.{Verdict}
 use Rattle.ble_base.specs.declared.verdicts.Verdict.TheVariants.{Broken, Missed}
 use Rattle.frame_bits.specs.Whitening.{mask_of, next_mask, whitening_bit, whitening_of}
 use Rattle.run_model.specs.Rows.{first_reply}
@@ -13,16 +12,16 @@ use Rattle.wrong_journals.proofs.answers.missed_answers_are_refused.Goals as goa
 
 pub returns-clause-missed : goal.returns-clause-missed
 unfolding is_answer
-returns-clause-missed c lawful = by (lawful before_answer [] A 25 first_reply Missed refl refl refl)
+returns-clause-missed c lawful = by _ (lawful before_answer [] A 25 first_reply Missed refl refl refl)
   where
-    by : IsHeardAs 25 first_reply Missed → ⊥
-    by (IsRead handed) = truths_differ (sym handed)
-    by (IsTooLong broken long) = absurd (let h : Missed ≡ Broken = broken in absurd cc)
+    by : (most : ℕ) → IsHeardAs most 25 first_reply Missed → ⊥
+    by most (IsRead handed) = truths_differ (sym handed)
+    by most (IsTooLong broken long) = absurd (let h : Missed ≡ Broken = broken in absurd cc)
 
 pub returns-clause-broken : goal.returns-clause-broken
 unfolding is_answer mask_of next_mask whitening_bit whitening_of
-returns-clause-broken c lawful = by (lawful before_answer [] A 25 first_reply Broken refl refl refl)
+returns-clause-broken c lawful = by _ (lawful before_answer [] A 25 first_reply Broken refl refl refl)
   where
-    by : IsHeardAs 25 first_reply Broken → ⊥
-    by (IsRead handed) = truths_differ (sym handed)
-    by (IsTooLong broken long) = let few : 253 < 2 = long in omega (arith, few)
+    by : (most : ℕ) → IsHeardAs most 25 first_reply Broken → ⊥
+    by most (IsRead handed) = truths_differ (sym handed)
+    by most (IsTooLong broken long) = let few : most + 2 < 2 = long in omega (arith, few)

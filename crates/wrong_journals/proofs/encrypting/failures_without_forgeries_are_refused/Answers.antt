@@ -9,6 +9,8 @@ use Rattle.data_pdu.specs.Layouts.{makers}
 use Rattle.data_pdu.specs.Reading.{ctrl_of, length_of}
 use Rattle.frame_bits.specs.Crc.{crc, crc_octets, crc_of_bits, remainder}
 use Rattle.frame_bits.specs.Whitening.{mask_of, next_mask, whitening_bit, whitening_of}
+use Rattle.h4_frames.specs.Frames.{frames}
+use Rattle.hci_cmd.specs.Command.{command_of, layout_of, layouts}
 use Rattle.journal_pdus.specs.controller_model.Packets.{pdu_heard}
 use Rattle.wire_fields.specs.Field.{little_endian}
 use Rattle.journal_pdus.specs.journal_links.Begun.{links_begun}
@@ -22,5 +24,5 @@ use Rattle.wrong_journals.proofs.Failing.{none_forged}
 use Rattle.wrong_journals.proofs.encrypting.failures_without_forgeries_are_refused.Goals as goal
 
 pub returns : goal.returns
-unfolding is_mixed keyed_on ctrl_of length_of makers exchange_of sent_line_of link_of_packet is_answer links_begun pdu_heard heard_in read_of kept_bits crc crc_octets crc_of_bits remainder mask_of next_mask whitening_bit whitening_of little_endian
+unfolding is_mixed keyed_on ctrl_of length_of makers exchange_of sent_line_of link_of_packet is_answer links_begun pdu_heard heard_in read_of kept_bits crc crc_octets crc_of_bits remainder mask_of next_mask whitening_bit whitening_of little_endian frames command_of layout_of layouts
 returns c words lawful = none_forged A 1 one_event_journal refl (lawful one_event_journal [] A 1 (record { 0 = mic_failure }) refl refl refl)

@@ -20,6 +20,7 @@ use Rattle.journal_pdus.specs.journal_data.Lines.{PduLine, lines_of}
 use Rattle.journal_pdus.specs.journal_sending.Pending.{pending_pdu}
 use Rattle.data_pdu.specs.Layouts.{makers}
 use Rattle.data_pdu.specs.Reading.{ctrl_of, length_of}
+use Rattle.hci_cmd.specs.Command.{command_of, layout_of, layouts}
 use Rattle.journal_pdus.specs.journal_controls.LineSteps.{keyed_on}
 use Rattle.journal_pdus.specs.journal_leaving.Leaving.{leaving_on}
 use Rattle.run_model.specs.Rows.{one_event_journal}
@@ -29,27 +30,27 @@ use Rattle.wrong_journals.proofs.Differing.{numbers_differ, truths_differ}
 use Rattle.wrong_journals.proofs.exchanges.wrong_taking_is_refused.Goals as goal
 
 pub returns-clause-twice : goal.returns-clause-twice
-unfolding pending_pdu leaving_on keyed_on ctrl_of length_of makers lines_of frames exchange_of sent_line_of link_of_packet is_answer links_begun pdu_heard heard_in read_of kept_bits crc crc_octets crc_of_bits remainder mask_of next_mask whitening_bit whitening_of little_endian
+unfolding pending_pdu leaving_on keyed_on ctrl_of length_of makers lines_of frames exchange_of sent_line_of link_of_packet is_answer links_begun pdu_heard heard_in read_of kept_bits crc crc_octets crc_of_bits remainder mask_of next_mask whitening_bit whitening_of little_endian command_of layout_of layouts
 returns-clause-twice c words lawful =
     truths_differ (ap (λ (o : Option PduLine). is_some o) (lawful data_taken [] (Took A 1 1 2 (0xAA ∷ [])) A refl refl refl))
 
 pub returns-clause-from_nothing : goal.returns-clause-from_nothing
-unfolding pending_pdu leaving_on keyed_on ctrl_of length_of makers lines_of frames exchange_of sent_line_of link_of_packet is_answer links_begun pdu_heard heard_in read_of kept_bits crc crc_octets crc_of_bits remainder mask_of next_mask whitening_bit whitening_of little_endian
+unfolding pending_pdu leaving_on keyed_on ctrl_of length_of makers lines_of frames exchange_of sent_line_of link_of_packet is_answer links_begun pdu_heard heard_in read_of kept_bits crc crc_octets crc_of_bits remainder mask_of next_mask whitening_bit whitening_of little_endian command_of layout_of layouts
 returns-clause-from_nothing c words lawful =
     truths_differ (ap (λ (o : Option PduLine). is_some o) (lawful one_event_journal [] (Took A 1 1 2 (0xAA ∷ [])) A refl refl refl))
 
 pub returns-clause-never : goal.returns-clause-never
-unfolding pending_pdu leaving_on keyed_on ctrl_of length_of makers lines_of frames exchange_of sent_line_of link_of_packet is_answer links_begun pdu_heard heard_in read_of kept_bits crc crc_octets crc_of_bits remainder mask_of next_mask whitening_bit whitening_of little_endian
+unfolding pending_pdu leaving_on keyed_on ctrl_of length_of makers lines_of frames exchange_of sent_line_of link_of_packet is_answer links_begun pdu_heard heard_in read_of kept_bits crc crc_octets crc_of_bits remainder mask_of next_mask whitening_bit whitening_of little_endian command_of layout_of layouts
 returns-clause-never c words lawful =
     truths_differ (sym (ap (λ (o : Option PduLine). is_some o) (lawful data_heard [] (Air A 25 next_packet Pass Good) A refl refl refl)))
 
 pub returns-clause-lost : goal.returns-clause-lost
-unfolding pending_pdu leaving_on keyed_on ctrl_of length_of makers lines_of frames exchange_of sent_line_of link_of_packet is_answer links_begun pdu_heard heard_in read_of kept_bits crc crc_octets crc_of_bits remainder mask_of next_mask whitening_bit whitening_of little_endian
+unfolding pending_pdu leaving_on keyed_on ctrl_of length_of makers lines_of frames exchange_of sent_line_of link_of_packet is_answer links_begun pdu_heard heard_in read_of kept_bits crc crc_octets crc_of_bits remainder mask_of next_mask whitening_bit whitening_of little_endian command_of layout_of layouts
 returns-clause-lost c words lawful =
     truths_differ (ap (λ (o : Option PduLine). is_some o) (lawful (data_sent ++ Air B 25 data_packet Lost Missed ∷ []) [] (Took A 1 1 2 (0xAA ∷ [])) A refl refl refl))
 
 pub returns-clause-otherwise : goal.returns-clause-otherwise
-unfolding pending_pdu leaving_on keyed_on ctrl_of length_of makers lines_of frames exchange_of sent_line_of link_of_packet is_answer links_begun pdu_heard heard_in read_of kept_bits crc crc_octets crc_of_bits remainder mask_of next_mask whitening_bit whitening_of little_endian
+unfolding pending_pdu leaving_on keyed_on ctrl_of length_of makers lines_of frames exchange_of sent_line_of link_of_packet is_answer links_begun pdu_heard heard_in read_of kept_bits crc crc_octets crc_of_bits remainder mask_of next_mask whitening_bit whitening_of little_endian command_of layout_of layouts
 returns-clause-otherwise c words lawful =
     numbers_differ 0xAB 0xAA refl
     (ap octet (lawful data_heard [] (Took A 1 1 2 (0xAB ∷ [])) A refl refl refl))

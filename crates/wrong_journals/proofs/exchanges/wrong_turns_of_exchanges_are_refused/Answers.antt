@@ -21,6 +21,7 @@ use Rattle.journal_pdus.specs.journal_sending.Announced.{announced_pdu}
 use Rattle.journal_pdus.specs.journal_sending.Pending.{pending_pdu}
 use Rattle.data_pdu.specs.Layouts.{makers}
 use Rattle.data_pdu.specs.Reading.{ctrl_of, length_of}
+use Rattle.hci_cmd.specs.Command.{command_of, layout_of, layouts}
 use Rattle.journal_pdus.specs.journal_controls.LineSteps.{keyed_on}
 use Rattle.journal_pdus.specs.journal_leaving.Leaving.{leaving_on}
 use Rattle.journal_pdus.specs.journal_acks.Rows.{data_heard, data_packet}
@@ -29,13 +30,13 @@ use Rattle.wrong_journals.proofs.Differing.{truths_differ}
 use Rattle.wrong_journals.proofs.exchanges.wrong_turns_of_exchanges_are_refused.Goals as goal
 
 pub returns-clause-sent : goal.returns-clause-sent
-unfolding announced_pdu pending_pdu leaving_on keyed_on ctrl_of length_of makers lines_of frames exchange_of sent_line_of link_of_packet is_answer links_begun pdu_heard heard_in read_of kept_bits crc crc_octets crc_of_bits remainder mask_of next_mask whitening_bit whitening_of little_endian
+unfolding announced_pdu pending_pdu leaving_on keyed_on ctrl_of length_of makers lines_of frames exchange_of sent_line_of link_of_packet is_answer links_begun pdu_heard heard_in read_of kept_bits crc crc_octets crc_of_bits remainder mask_of next_mask whitening_bit whitening_of little_endian command_of layout_of layouts
 returns-clause-sent c words rests =
     truths_differ (ap (λ (o : Option PduLine). is_some o)
     (rests sent_in_first_slot (Air B 25 data_packet Pass Good ∷ []) 3 true (Some true) refl B).0)
 
 pub returns-clause-taken : goal.returns-clause-taken
-unfolding announced_pdu pending_pdu leaving_on keyed_on ctrl_of length_of makers lines_of frames exchange_of sent_line_of link_of_packet is_answer links_begun pdu_heard heard_in read_of kept_bits crc crc_octets crc_of_bits remainder mask_of next_mask whitening_bit whitening_of little_endian
+unfolding announced_pdu pending_pdu leaving_on keyed_on ctrl_of length_of makers lines_of frames exchange_of sent_line_of link_of_packet is_answer links_begun pdu_heard heard_in read_of kept_bits crc crc_octets crc_of_bits remainder mask_of next_mask whitening_bit whitening_of little_endian command_of layout_of layouts
 returns-clause-taken c words rests =
     truths_differ (ap (λ (o : Option PduLine). is_some o)
     (rests data_heard (Took A 1 1 2 (0xAA ∷ []) ∷ []) 4 true (Some true) refl A).1)

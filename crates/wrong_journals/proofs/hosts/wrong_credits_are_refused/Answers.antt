@@ -55,4 +55,4 @@ pub returns-clause-after_packet : goal.returns-clause-after_packet
 unfolding channel_entered lines_of frames exchange_of sent_line_of link_of_packet is_answer links_begun pdu_heard heard_in read_of kept_bits crc crc_octets crc_of_bits remainder mask_of next_mask whitening_bit whitening_of little_endian data_channels used_channels reversed_octet perm mam stage prn channel_of
 returns-clause-after_packet c lawful =
     numbers_differ 0 1 refl
-    (lawful before_credit (credit ∷ []) B 25 first_packet Pass Good refl refl B [] [] (record { link = 1; handle = 0 }) refl).credited
+    (lawful before_credit (credit ∷ []) B 25 first_packet Pass Good refl refl B [] [] (record { link = 1; handle = 0 }) refl)

@@ -8,7 +8,7 @@ use Rattle.wire_fields.specs.Field.{little_endian}
 use Rattle.hci_cmd.specs.Command.{command_of, layout_of, layouts}
 use Rattle.host_view.specs.Changes.{view_after}
 use Rattle.host_view.specs.Noted.{view_noted}
-use Rattle.host_view.specs.Unbuilt.{status_of}
+use Rattle.host_view.specs.Status.{status_of}
 use Rattle.chan_select.specs.Channel.{channel_of}
 use Rattle.chan_select.specs.PseudoRandom.{mam, perm, prn, reversed_octet, stage}
 use Rattle.journal_pdus.specs.link_model.End.{facts_of as end_facts}

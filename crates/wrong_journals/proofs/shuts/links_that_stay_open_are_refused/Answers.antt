@@ -9,6 +9,8 @@ use Rattle.data_pdu.specs.Layouts.{makers}
 use Rattle.data_pdu.specs.Reading.{ctrl_of}
 use Rattle.frame_bits.specs.Crc.{crc, crc_octets, crc_of_bits, remainder}
 use Rattle.frame_bits.specs.Whitening.{mask_of, next_mask, whitening_bit, whitening_of}
+use Rattle.h4_frames.specs.Frames.{frames}
+use Rattle.hci_cmd.specs.Command.{command_of, layout_of, layouts}
 use Rattle.journal_pdus.specs.journal_controls.LineSteps.{control_on, keyed_on}
 use Rattle.journal_pdus.specs.controller_model.Packets.{pdu_heard}
 use Rattle.wire_fields.specs.Field.{little_endian}
@@ -27,23 +29,23 @@ use Rattle.wrong_journals.proofs.Differing.{some_is_none}
 use Rattle.wrong_journals.proofs.shuts.links_that_stay_open_are_refused.Goals as goal
 
 pub returns-clause-may_fail : goal.returns-clause-may_fail
-unfolding packets_passed ending_on due_on leaving_on control_on keyed_on last_heard exchange_of sent_line_of link_of_packet is_answer links_begun pdu_heard heard_in read_of kept_bits crc crc_octets crc_of_bits remainder mask_of next_mask whitening_bit whitening_of little_endian ctrl_of makers data_channels used_channels
+unfolding packets_passed ending_on due_on leaving_on control_on keyed_on last_heard exchange_of sent_line_of link_of_packet is_answer links_begun pdu_heard heard_in read_of kept_bits crc crc_octets crc_of_bits remainder mask_of next_mask whitening_bit whitening_of little_endian ctrl_of makers data_channels used_channels frames command_of layout_of layouts
 returns-clause-may_fail c words =
     record { not_overdue = due_more words A 1 (one_connection_journal ++ turn_entries 1 142) (turn_entry 143); not_leaving = refl }
 
 pub returns-clause-may_time_out : goal.returns-clause-may_time_out
-unfolding packets_passed ending_on due_on leaving_on control_on keyed_on last_heard exchange_of sent_line_of link_of_packet is_answer links_begun pdu_heard heard_in read_of kept_bits crc crc_octets crc_of_bits remainder mask_of next_mask whitening_bit whitening_of little_endian ctrl_of makers data_channels used_channels
+unfolding packets_passed ending_on due_on leaving_on control_on keyed_on last_heard exchange_of sent_line_of link_of_packet is_answer links_begun pdu_heard heard_in read_of kept_bits crc crc_octets crc_of_bits remainder mask_of next_mask whitening_bit whitening_of little_endian ctrl_of makers data_channels used_channels frames command_of layout_of layouts
 returns-clause-may_time_out c words =
     record { not_overdue = due_more words A 1 (one_event_journal ++ turn_entries 3 574) (turn_entry 577); not_leaving = refl }
 
 pub returns-clause-failed : goal.returns-clause-failed
-unfolding packets_passed ending_on due_on leaving_on control_on keyed_on last_heard exchange_of sent_line_of link_of_packet is_answer links_begun pdu_heard heard_in read_of kept_bits crc crc_octets crc_of_bits remainder mask_of next_mask whitening_bit whitening_of little_endian ctrl_of makers data_channels used_channels
+unfolding packets_passed ending_on due_on leaving_on control_on keyed_on last_heard exchange_of sent_line_of link_of_packet is_answer links_begun pdu_heard heard_in read_of kept_bits crc crc_octets crc_of_bits remainder mask_of next_mask whitening_bit whitening_of little_endian ctrl_of makers data_channels used_channels frames command_of layout_of layouts
 returns-clause-failed c words all =
     some_is_none 0x3E (due_begun words A 1 failing) None (due_more words A 1 (one_connection_journal ++ turn_entries 1 143) (turn_entry 144)) refl
     (all A 1 _ refl).not_overdue
 
 pub returns-clause-timed_out : goal.returns-clause-timed_out
-unfolding packets_passed ending_on due_on leaving_on control_on keyed_on last_heard exchange_of sent_line_of link_of_packet is_answer links_begun pdu_heard heard_in read_of kept_bits crc crc_octets crc_of_bits remainder mask_of next_mask whitening_bit whitening_of little_endian ctrl_of makers data_channels used_channels
+unfolding packets_passed ending_on due_on leaving_on control_on keyed_on last_heard exchange_of sent_line_of link_of_packet is_answer links_begun pdu_heard heard_in read_of kept_bits crc crc_octets crc_of_bits remainder mask_of next_mask whitening_bit whitening_of little_endian ctrl_of makers data_channels used_channels frames command_of layout_of layouts
 returns-clause-timed_out c words all =
     some_is_none 0x08 (due_begun words A 1 silent) None (due_more words A 1 (one_event_journal ++ turn_entries 3 575) (turn_entry 578)) refl
     (all A 1 _ refl).not_overdue

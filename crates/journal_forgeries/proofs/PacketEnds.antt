@@ -51,7 +51,7 @@ module _ (understood : IsUnderstood) (taken : AreTaken) (apart : AreApart) (give
   abbrev own : OpenEnd
   own = record { station = listener; handle = by_end.handle; link = by_end.link }
 
-  abbrev far_link : OpenLink
+  abbrev pub far_link : OpenLink
   far_link = link_after (PacketSent (facts_at given station before).turn.slot) now.link
 
   abbrev far : OpenEnd
@@ -76,7 +76,7 @@ module _ (understood : IsUnderstood) (taken : AreTaken) (apart : AreApart) (give
   far_has = numbers station now.handle far_link now.is_open
 
   -- both have the number of the packet
-  far_number_is : by_end.number ≡ far_number
+  pub far_number_is : by_end.number ≡ far_number
   far_number_is =
       let h : Some by_end.number ≡ Some ((links_of before).link_of station from.handle) = sym (by_end.belongs same) ∙ from.belongs in
       let number : by_end.number ≡ (links_of before).link_of station from.handle = cc in
