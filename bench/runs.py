@@ -35,7 +35,8 @@ print(status, time.monotonic() - begun, usage.ru_maxrss * 1024, file=sys.stderr)
 
 
 class Load:
-    """The input of a run, and how many turns and packets on the air its journal must have."""
+    """The input of a run, and how many turns and packets on the air its journal must have; no packets where they are not
+    counted."""
 
     def __init__(self, a, b, turns, count, packets):
         self.a = a
@@ -101,6 +102,8 @@ def check(load, journal):
         for line in file:
             turns += line.startswith(b"turn ")
             packets += line.startswith(b"air ")
+    if load.packets is None:
+        packets = None
     if (turns, packets) != (load.turns, load.packets):
         sys.exit(f"{turns} turns and {packets} packets, and not {load.turns} and {load.packets}")
 
