@@ -24,16 +24,16 @@ module _ {T : Type 0} where
   pub held_in : List (Cell T) → ℕ → Option T
   held_in cells k = value_of (get_or cells k Free)
 
-  get_insert_same : (m : map.FinMap nat_cmp T) (k : ℕ) (v : T) → map.get (map.insert m k v) k ≡ Some v
+  pub get_insert_same : (m : map.FinMap nat_cmp T) (k : ℕ) (v : T) → map.get (map.insert m k v) k ≡ Some v
   get_insert_same m k v = map.get-insert nat_cmp_total m k v k ∙ ap (λ b. cond b (Some v) (map.get m k)) (same_number k)
 
-  get_insert_other : (m : map.FinMap nat_cmp T) (k : ℕ) (v : T) (q : ℕ) → q ≢ k → map.get (map.insert m k v) q ≡ map.get m q
+  pub get_insert_other : (m : map.FinMap nat_cmp T) (k : ℕ) (v : T) (q : ℕ) → q ≢ k → map.get (map.insert m k v) q ≡ map.get m q
   get_insert_other m k v q differs = map.get-insert nat_cmp_total m k v q ∙ ap (λ b. cond b (Some v) (map.get m q)) (other_number q k differs)
 
   get_remove_same : (m : map.FinMap nat_cmp T) (k : ℕ) → map.get (map.remove m k) k ≡ None
   get_remove_same m k = map.get-remove nat_cmp_total m k k ∙ ap (λ b. cond b None (map.get m k)) (same_number k)
 
-  get_remove_other : (m : map.FinMap nat_cmp T) (k q : ℕ) → q ≢ k → map.get (map.remove m k) q ≡ map.get m q
+  pub get_remove_other : (m : map.FinMap nat_cmp T) (k q : ℕ) → q ≢ k → map.get (map.remove m k) q ≡ map.get m q
   get_remove_other m k q differs = map.get-remove nat_cmp_total m k q ∙ ap (λ b. cond b None (map.get m q)) (other_number q k differs)
 
   -- the cells hold nothing under a number below their first

@@ -23,8 +23,8 @@ use Rattle.link_commands.specs.open_links.Data.{complete_in, links_reported}
 use Rattle.link_commands.specs.open_links.OpenLinks.{Links, OpenLink, facts_in, link_after, link_at, link_from, with_change_from, without_links}
 use Rattle.link_commands.specs.open_links.Turns.{ending_in, links_without, staying_by}
 use Rattle.controller_model.specs.Step.{Step, HostOctet, TurnBegins, PacketHeard, NothingHeard, TurnEnds}
-use Rattle.controller_model.specs.Facts.{Setup, Facts, first_facts}
-use Rattle.controller_model.specs.Commands.{facts_commanded, facts_known, links_after, moment_of, received_after}
+use Rattle.controller_model.specs.Facts.{Setup, Facts}
+use Rattle.controller_model.specs.Commands.{facts_commanded, facts_known, links_after, moment_of}
 use Rattle.link_commands.specs.open_links.declared.ended.LinkEnded.{LinkEnded}
 use Rattle.link_commands.specs.open_links.declared.offers.Offer.{Offer}
 use Rattle.link_commands.specs.open_links.declared.offers.Offer.TheVariants.{NoLink, Empty, Overflow, Kept}

@@ -1,6 +1,6 @@
 -- What waits for a host is sent to it in order, and what is not sent waits further.
 use Rattle.std.proofs.Common.{◌≡◌, ℕ, zero, suc, ◌+◌, ◌≤◌, Bool, true, false, List, [], ◌∷◌, ◌++◌, length, take, drop, cond, inl, inr, refl, ap, sym, subst, ◌∙◌, arith}
-use Rattle.std.specs.Prelude.{◌⊎◌, filter, map, ⊤}
+use Rattle.std.specs.Prelude.{◌⊎◌, filter, map}
 use Rattle.std.specs.List.{AllByRecursion}
 use Rattle.acl_banks.specs.declared.pieces.Piece.{Piece}
 use Rattle.host_view.specs.View.{View}

@@ -4,3 +4,4 @@ pub mod Entered
 pub mod InEvent
 pub mod Received
 pub mod AskedLinks
+pub mod Handed

@@ -1,6 +1,7 @@
-//! Each call once, and a pool of one cell.
+//! Each call once, a pool of one cell, and a table of two places.
 use crate::scripts::check;
 use cell_pool::CellPool;
+use cell_table::CellTable;
 use std::alloc::{AllocError, Global};
 use test_words::{Call, put_number};
 
@@ -10,6 +11,7 @@ pub(crate) fn take(call: Call<'_>, told: &mut String) -> Result<(), AllocError> 
         "fill" => fill(told),
         "use_again" => use_again(told),
         "change" => change(told),
+        "place" => place(told),
         _ => told.push_str(" which call?"),
     }
 }
@@ -48,6 +50,29 @@ fn change(told: &mut String) -> Result<(), AllocError> {
     put_found(told, changed(&mut pool))
 }
 
+/// Writes what is taken out of a place, and whether a value is there then.
+fn place(told: &mut String) -> Result<(), AllocError> {
+    let (found, stays) = placed(*told.allocator())?;
+    put_found(told, found)?;
+    put_number(told, u64::from(stays))
+}
+
+/// Puts 2 into the second place of a table, changes it to 7 and takes it: what was taken, and
+/// whether a value is in a place then.
+fn placed(alloc: Global) -> Result<(Option<u8>, bool), AllocError> {
+    let mut table: CellTable<u8, 2> = CellTable::make(alloc)?;
+    table.put(1, 2);
+    if table.holds(0) || !table.holds(1) {
+        return Ok((None, true));
+    }
+    *table.get_mut(1) = 7;
+    if !table.holds(1) || *table.get(1) != 7 {
+        return Ok((None, true));
+    }
+    let found = table.take(1);
+    Ok((Some(found), table.holds(0) || table.holds(1)))
+}
+
 /// Puts 7 into a pool of one cell twice: what the second call hands back.
 fn handed_back(pool: &mut CellPool<u8, 1>) -> Option<u8> {
     if pool.put(7).is_err() {
@@ -82,12 +107,13 @@ fn changed(pool: &mut CellPool<u8, 2>) -> Option<u8> {
     Some(*pool.get(cell))
 }
 
-/// A full pool hands the value back and holds one; a cell is used again; and a value changes in its
-/// cell.
+/// A full pool hands the value back and holds one; a cell is used again; a value changes in its
+/// cell; and one changes in its place and is taken.
 const CELLS: &str = "\
 cell fill = 7 1
 cell use_again = 1
 cell change = 7
+cell place = 7 0
 ";
 
 #[test]

@@ -1,23 +1,17 @@
 -- No link is open where nothing is held.
-use Rattle.std.proofs.Common.{◌≡◌, ℕ, zero, suc, ◌+◌, ◌<◌, ◌==◌, Bool, true, false, List, [], ◌∷◌, length, replicate, get_or, Option, None, if◌then◌else◌, refl, ap, sym, subst, arith}
+use Rattle.std.proofs.Common.{◌≡◌, ℕ, zero, suc, ◌+◌, ◌==◌, Bool, true, false, [], replicate, None, if◌then◌else◌, refl, ap, sym, subst}
 use Rattle.std.specs.List.{filter}
 use Rattle.acl_banks.specs.Packets.{is_of}
 use Rattle.acl_banks.specs.Banks.{Bank, credits_of}
 use Rattle.open_links.specs.OpenLinks.{link_from}
 use Rattle.open_links.specs.Ended.{HasNone}
-use Rattle.open_links.specs.Knowing.{HeldLink, HeldLinks, HoldsUnder, Knows, KnowsPlace, KnowsPlaces}
+use Rattle.open_links.specs.Knowing.{HeldLinks, HoldsUnder, Knows, KnowsPlaces}
 use Rattle.open_links.specs.Sound.{AreSound, IsWithinAt}
 use Rattle.open_links.proofs.Handles.{none_have}
 
-pub empty_known : (n : ℕ) (helds : List (Option HeldLink)) → length helds ≡ n
-    → ((i : ℕ) (e : Option HeldLink) → i < n → get_or helds i e ≡ None) → KnowsPlaces helds (replicate n None)
-empty_known zero [] long none = tt
-empty_known zero (held ∷ helds) long none = absurd (omega (arith, long))
-empty_known (suc n) [] long none = absurd (omega (arith, long))
-empty_known (suc n) (held ∷ helds) long none = (
-  subst (λ held. KnowsPlace held None) (sym (none 0 held (omega arith))) tt,
-  empty_known n helds (omega (arith, long)) (λ i e below. none (suc i) e (omega (arith, below))),
-)
+pub empty_known : (n : ℕ) → KnowsPlaces (replicate n None) (replicate n None)
+empty_known zero = tt
+empty_known (suc n) = (tt, empty_known n)
 
 pub none_at : (first handle n : ℕ) → link_from first handle (replicate n None) ≡ None
 none_at first handle zero = refl

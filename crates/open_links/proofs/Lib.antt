@@ -3,6 +3,7 @@ pub mod Dropping
 pub mod Counts
 pub mod Handles
 pub mod Ends
+pub mod InTables
 pub mod UnderHandles
 pub mod Unmoved
 pub mod Banks
@@ -10,7 +11,6 @@ pub mod Sweeps
 pub mod Taken
 pub mod Within
 pub mod Empty
-pub mod Leaving
 pub mod Steps
 pub mod Handed
 pub mod PhasedSteps

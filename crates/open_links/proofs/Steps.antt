@@ -1,5 +1,5 @@
 -- Each call on the links that know their pasts: they know the pasts after it.
-use Rattle.std.proofs.Common.{◌≡◌, ℕ, ◌+◌, ◌<◌, ◌≤◌, nat_lt, Bool, true, false, List, [], ◌∷◌, fold, length, map, Option, Some, None, is_some, if◌then◌else◌, refl, sym, ◌∙◌, subst}
+use Rattle.std.proofs.Common.{◌≡◌, ℕ, ◌+◌, ◌<◌, ◌≤◌, nat_lt, Bool, true, false, List, [], ◌∷◌, fold, get_or, length, map, Option, Some, None, is_some, if◌then◌else◌, refl, sym, ◌∙◌, subst}
 use Rattle.std.specs.Option.{option_map}
 use Rattle.ble_base.specs.declared.channel_map.ChannelMap.{ChannelMap}
 use Rattle.acl_banks.specs.declared.pieces.Piece.{Piece}
@@ -21,12 +21,13 @@ use Rattle.open_links.specs.OpenLinks.{Links, OpenLink, HasHandle, HaveHandles, 
 use Rattle.open_links.specs.Data.{buffers_taken, complete_in, completed_from, links_given, links_offered, links_reported, offer_by, received_past}
 use Rattle.open_links.specs.Turns.{ends_by, enters_in, link_entered, links_without}
 use Rattle.open_links.specs.Hosts.{links_asked_map}
-use Rattle.open_links.specs.Knowing.{BankGoes, BankStep, CanHearIn, HeldLink, HeldLinks, HoldsPlace, HoldsPlaces, HoldsUnder, IsTiedIn, Knows, KnowsPlace, KnowsPlaces, held_from}
+use Rattle.open_links.specs.Knowing.{BankGoes, BankStep, CanHearIn, HeldLink, HeldLinks, HoldsPlace, HoldsPlaces, HoldsUnder, IsTiedIn, Knows, KnowsPlace, KnowsPlaces}
 use Rattle.open_links.specs.Sound.{AreSound, IsWithin}
 use Rattle.open_links.proofs.Handles.{changed_have, has_its_handle, opened_has, other_stays, shut_have}
 use Rattle.open_links.proofs.Ends.{stay_with_handles}
+use Rattle.open_links.proofs.InTables.{at_known}
 use Rattle.open_links.proofs.Unmoved.{LeavesData, asked_map_setup, entered_leaves, left_bank, step_bank_if}
-use Rattle.open_links.proofs.UnderHandles.{given_places, held_at, hears_at, hold_places, reported_places, some_where_held, tied_at}
+use Rattle.open_links.proofs.UnderHandles.{given_places, hears_at, hold_places, reported_places, some_where_held, tied_at}
 use Rattle.open_links.proofs.Banks.{data_changed, one_changed, put_is}
 use Rattle.open_links.proofs.Sweeps.{ended_data, mapped_data, reported_data, shut_data}
 use Rattle.open_links.proofs.Taken.{taken_is}
@@ -57,20 +58,20 @@ pub is_open : {A : Type 0} (held : A → HeldLink) (found : Option A) (link : Op
 is_open held None link knows = some_where_held None link knows
 is_open held (Some one) link knows = some_where_held (Some (held one)) link knows
 
-pub is_tied : (held : HeldLinks) (handle : ℕ) → AreSound held → IsTiedIn held.bank (held_from 0 handle held.places)
+pub is_tied : (held : HeldLinks) (handle : ℕ) → AreSound held → IsTiedIn held.bank (get_or held.places handle None)
 unfolding Knows
 is_tied held handle sound =
     let known = sound.know in
-    tied_at (held_from 0 handle held.places) (link_at handle sound.links) handle held.bank
-    (held_at 0 handle held.places sound.links known.places) (has_its_handle 0 handle sound.links known.handles) (known.data_of handle)
+    tied_at (get_or held.places handle None) (link_at handle sound.links) handle held.bank
+    (at_known handle held.places sound.links known.places) (has_its_handle 0 handle sound.links known.handles) (known.data_of handle)
 
 pub can_hear : (held : HeldLinks) (handle slot : ℕ) → AreSound held → held.heard_to ≤ slot → held.unreported < 65535
-    → CanHearIn slot held.bank (held_from 0 handle held.places)
+    → CanHearIn slot held.bank (get_or held.places handle None)
 unfolding Knows
 can_hear held handle slot sound order few =
     let known = sound.know in
-    hears_at (held_from 0 handle held.places) (link_at handle sound.links) handle held.heard_to held.unreported slot held.bank
-    (held_at 0 handle held.places sound.links known.places) (has_its_handle 0 handle sound.links known.handles) (known.data_of handle)
+    hears_at (get_or held.places handle None) (link_at handle sound.links) handle held.heard_to held.unreported slot held.bank
+    (at_known handle held.places sound.links known.places) (has_its_handle 0 handle sound.links known.handles) (known.data_of handle)
     (sound.within handle) order few
 
 -- the data of the link under a handle, where it is

@@ -10,24 +10,11 @@ use Rattle.link_end.specs.Tied.{HoldsData, LeavesOthers}
 use Rattle.link_end.proofs.Keeping.{given, held_is, knows_tied, reported}
 use Rattle.open_links.specs.OpenLinks.{Links, OpenLink, HasHandle, HaveHandles, facts_in, link_after, link_from, with_change_from}
 use Rattle.open_links.specs.Data.{complete_in, link_reported, links_reported}
-use Rattle.open_links.specs.Knowing.{BankStep, CanHearIn, HeldLink, HoldsUnder, HoldsPlaces, IsTiedIn, KnowsLink, KnowsPlace, KnowsPlaces, held_from}
+use Rattle.open_links.specs.Knowing.{BankStep, CanHearIn, HeldLink, HoldsUnder, HoldsPlaces, IsTiedIn, KnowsLink, KnowsPlace, KnowsPlaces}
 use Rattle.open_links.specs.Sound.{IsWithinAt}
 use Rattle.open_links.proofs.Handles.{here, later}
 
 -- ---- under one handle
-
-pub held_at : (first handle : ℕ) (places : List (Option HeldLink)) (links : Links) → KnowsPlaces places links
-    → KnowsPlace (held_from first handle places) (link_from first handle links)
-held_at first handle [] [] know = tt
-held_at first handle [] (link ∷ links) know = absurd know
-held_at first handle (held ∷ helds) [] know = absurd know
-held_at first handle (held ∷ helds) (link ∷ links) (knows, know) =
-    by_test (first == handle) (held_at (first + 1) handle helds links know)
-  where
-    by_test : (test : Bool) → KnowsPlace (held_from (first + 1) handle helds) (link_from (first + 1) handle links)
-        → KnowsPlace (if test then held else held_from (first + 1) handle helds) (if test then link else link_from (first + 1) handle links)
-    by_test true rest = knows
-    by_test false rest = rest
 
 -- there is a link where one is held
 pub some_where_held : (place : Option HeldLink) (link : Option OpenLink) → KnowsPlace place link → is_some place ≡ is_some link

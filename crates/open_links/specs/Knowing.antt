@@ -1,5 +1,5 @@
 -- Open links, as the code holds them, that know their pasts, with the data of these in the banks.
-use Rattle.std.specs.Prelude.{◌≡◌, ℕ, ◌+◌, ◌<◌, ◌==◌, Bool, List, [], ◌∷◌, ◌++◌, Option, Some, None, ⊤, if◌then◌else◌}
+use Rattle.std.specs.Prelude.{◌≡◌, ℕ, ◌<◌, Bool, List, [], ◌∷◌, ◌++◌, Option, Some, None, ⊤}
 use Rattle.std.specs.Option.{option_map}
 use Rattle.ble_base.specs.declared.notes.Note.{Note}
 use Rattle.acl_banks.specs.declared.pieces.Piece.{Piece}
@@ -34,11 +34,6 @@ abbrev pub KnowsPlaces : List (Option HeldLink) → Links → Type 0
 KnowsPlaces [] [] = ⊤
 KnowsPlaces (held ∷ helds) (link ∷ links) = KnowsPlace held link × KnowsPlaces helds links
 KnowsPlaces helds links = ⊥
-
--- what is held under a handle, of the places from this handle on
-abbrev pub held_from : ℕ → ℕ → List (Option HeldLink) → Option HeldLink
-held_from first handle [] = None
-held_from first handle (place ∷ places) = if first == handle then place else held_from (first + 1) handle places
 
 -- ---- the links with their data
 

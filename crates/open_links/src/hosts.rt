@@ -11,7 +11,7 @@ ghost use Rattle.open_links.specs.Hosts.{links_asked_map, links_disconnected, ma
 ghost use Rattle.open_links.specs.OpenLinks.{Links, facts_in, link_at};
 ghost use Rattle.open_links.specs.Knowing.{HeldLinks, Knows};
 
-use crate::hosting::{answer_from, ask_from, ask_map_all, end_from};
+use crate::hosting::{answer_at, ask_at, ask_map_all, end_at};
 use crate::links::OpenLinks;
 use ble_base::{ChannelMap, ErrCode, Kind, SlotNo};
 use link_end::PeerFacts;
@@ -40,7 +40,7 @@ impl<const L: usize, const T: usize, const R: usize> OpenLinks<L, T, R> {
         ensures counts { (self.new.heard_to ≡ self.old.heard_to)
             × (self.new.unreported ≡ self.old.unreported) }
     {
-        ask_from(&mut self.places, 0, handle, ask);
+        ask_at(&mut self.places, handle, ask);
     }
 
     /// The host asks for a channel map on each open link of which this end is the central (Core
@@ -52,7 +52,7 @@ impl<const L: usize, const T: usize, const R: usize> OpenLinks<L, T, R> {
         ensures counts { (self.new.heard_to ≡ self.old.heard_to)
             × (self.new.unreported ≡ self.old.unreported) }
     {
-        ask_map_all(&mut self.places, map);
+        ask_map_all(&mut self.places, 0, map);
     }
 
     /// Whether a request of the peripheral waits for the host's answer on the link under a handle
@@ -77,7 +77,7 @@ impl<const L: usize, const T: usize, const R: usize> OpenLinks<L, T, R> {
         ensures counts { (self.new.heard_to ≡ self.old.heard_to)
             × (self.new.unreported ≡ self.old.unreported) }
     {
-        answer_from(&mut self.places, 0, handle, answer);
+        answer_at(&mut self.places, handle, answer);
     }
 
     /// The host ends the link under a handle in this slot, if it is open, for this reason:
@@ -91,7 +91,7 @@ impl<const L: usize, const T: usize, const R: usize> OpenLinks<L, T, R> {
         ensures counts { (self.new.heard_to ≡ self.old.heard_to)
             × (self.new.unreported ≡ self.old.unreported) }
     {
-        end_from(&mut self.places, 0, handle, reason, slot);
+        end_at(&mut self.places, handle, reason, slot);
     }
 
     /// What is known of the peer of the link under a handle: its features and its version, as far

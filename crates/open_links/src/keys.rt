@@ -2,77 +2,62 @@
 //! LL_ENC_REQ.
 #![tactic(auto, unfolding(crate::specs::Knowing::Knows))]
 
-ghost use Rattle.std.specs.Prelude.{◌≡◌, ◌<◌, ◌≤◌, ◌+◌, ◌^◌, List, Option, length, ℕ};
-ghost use Rattle.std.specs.Option.{option_map};
+ghost use Rattle.std.specs.Prelude.{◌≡◌, ◌≤◌, ◌^◌, List, ℕ};
 ghost use Rattle.acl_banks.specs.declared.pieces.Piece.{Piece};
 ghost use Rattle.link_end.specs.link_model.Step.{KeyAnswered, WordsGiven};
 ghost use Rattle.open_links.specs.Keys.{links_keyed, links_with_words};
-ghost use Rattle.open_links.specs.OpenLinks.{Links, OpenLink, link_after, with_change_from};
-ghost use Rattle.open_links.specs.Knowing.{KnowsPlace, KnowsPlaces, Knows};
+ghost use Rattle.open_links.specs.OpenLinks.{Links, OpenLink, link_after, with_change};
+ghost use Rattle.open_links.specs.Knowing.{KnowsLink, KnowsPlaces, Knows};
 
 use crate::links::OpenLinks;
 use crate::places::OpenEnd;
 use ble_base::SlotNo;
+use cell_table::CellTable;
 
 /// The host answers on the link under a handle that it has this key, or none.
-fn key_from(
-    places: &mut [Option<OpenEnd>],
-    first: u16,
+fn key_at<const L: usize>(
+    places: &mut CellTable<OpenEnd, L>,
     handle: u16,
     ltk: Option<[u8; 16]>,
     slot: SlotNo,
 )
-    requires first { first + length places.old < 2 ^ 16 }
-    requires slot { slot.0 ≤ 2 ^ 32 }
-    ensures knows { (links : Links) → KnowsPlaces places.old links
-        → KnowsPlaces places.new (with_change_from first handle
-        (option_map (link_after (KeyAnswered ltk slot.0))) links) }
-    ensures places { length places.new ≡ length places.old }
-{
-    let Some((place, rest)) = places.split_first_mut() else {
-        return;
-    };
-    if first == handle {
-        key_in(place, ltk, slot);
-    } else {
-        key_from(rest, first + 1, handle, ltk, slot);
-    }
-}
-
-fn key_in(place: &mut Option<OpenEnd>, ltk: Option<[u8; 16]>, slot: SlotNo)
     requires { slot.0 ≤ 2 ^ 32 }
-    ensures { (link : Option OpenLink) → KnowsPlace place.old link
-        → KnowsPlace place.new (option_map (link_after (KeyAnswered ltk slot.0)) link) }
+    ensures { (links : Links) → KnowsPlaces places.old links → KnowsPlaces places.new
+        (with_change handle (link_after (KeyAnswered ltk slot.0)) links) }
 {
-    if let Some(link) = place {
-        link.end.key(ltk, slot);
+    let place = handle as usize;
+    if places.holds(place) {
+        places.get_mut(place).key(ltk, slot);
     }
 }
 
 /// The end of the link under a handle gets words that it would draw.
-fn words_from(places: &mut [Option<OpenEnd>], first: u16, handle: u16, skd_s: u64, iv_s: u32)
-    requires first { first + length places.old < 2 ^ 16 }
-    ensures knows { (links : Links) → KnowsPlaces places.old links
-        → KnowsPlaces places.new (with_change_from first handle
-        (option_map (link_after (WordsGiven skd_s iv_s))) links) }
-    ensures places { length places.new ≡ length places.old }
+fn words_at<const L: usize>(places: &mut CellTable<OpenEnd, L>, handle: u16, skd_s: u64, iv_s: u32)
+    ensures { (links : Links) → KnowsPlaces places.old links
+        → KnowsPlaces places.new (with_change handle (link_after (WordsGiven skd_s iv_s)) links) }
 {
-    let Some((place, rest)) = places.split_first_mut() else {
-        return;
-    };
-    if first == handle {
-        words_in(place, skd_s, iv_s);
-    } else {
-        words_from(rest, first + 1, handle, skd_s, iv_s);
+    let place = handle as usize;
+    if places.holds(place) {
+        places.get_mut(place).words(skd_s, iv_s);
     }
 }
 
-fn words_in(place: &mut Option<OpenEnd>, skd_s: u64, iv_s: u32)
-    ensures { (link : Option OpenLink) → KnowsPlace place.old link
-        → KnowsPlace place.new (option_map (link_after (WordsGiven skd_s iv_s)) link) }
-{
-    if let Some(link) = place {
-        link.end.enc_words(skd_s, iv_s);
+impl OpenEnd {
+    /// The host answers that it has this key, or none.
+    fn key(&mut self, ltk: Option<[u8; 16]>, slot: SlotNo)
+        requires { slot.0 ≤ 2 ^ 32 }
+        ensures { (link : OpenLink) → KnowsLink self.old link
+            → KnowsLink self.new (link_after (KeyAnswered ltk slot.0) link) }
+    {
+        self.end.key(ltk, slot);
+    }
+
+    /// It gets words that it would draw.
+    fn words(&mut self, skd_s: u64, iv_s: u32)
+        ensures { (link : OpenLink) → KnowsLink self.old link
+            → KnowsLink self.new (link_after (WordsGiven skd_s iv_s) link) }
+    {
+        self.end.enc_words(skd_s, iv_s);
     }
 }
 
@@ -88,7 +73,7 @@ impl<const L: usize, const T: usize, const R: usize> OpenLinks<L, T, R> {
         ensures counts { (self.new.heard_to ≡ self.old.heard_to)
             × (self.new.unreported ≡ self.old.unreported) }
     {
-        key_from(&mut self.places, 0, handle, ltk, slot);
+        key_at(&mut self.places, handle, ltk, slot);
     }
 
     /// The words with which a peripheral would answer LL_ENC_REQ in the next packet on the link
@@ -100,6 +85,6 @@ impl<const L: usize, const T: usize, const R: usize> OpenLinks<L, T, R> {
         ensures counts { (self.new.heard_to ≡ self.old.heard_to)
             × (self.new.unreported ≡ self.old.unreported) }
     {
-        words_from(&mut self.places, 0, handle, skd_s, iv_s);
+        words_at(&mut self.places, handle, skd_s, iv_s);
     }
 }

@@ -32,19 +32,19 @@ use crate::ending::{
     drop_ended, drop_received, drop_received_if, drop_unsent, shut_due_from, shut_ended_from,
     shut_from,
 };
-use crate::entering::enter_from;
-use crate::places::{OpenEnd, count, free_from, has_any_ending, is_any_between};
+use crate::entering::enter_at;
+use crate::places::{OpenEnd, free_from, has_any_ending, is_any_between};
 use crate::reporting::{completed_from, offer, report_all};
-use crate::using::{hear_from, link_from, put_from, ready_from, send_from, serve_from};
+use crate::using::{hear_at, put_at, ready_at, send_at, serve_at};
 use crate::{Completed, LinkEnded, MOST_LINKS, Offer};
 use acl_banks::{Piece, RxBank, TxBank};
 use arrayvec::ArrayVec;
 use ble_base::{AIR_PACKET_OCTETS, Address, Outbox, SlotNo, Verdict};
+use cell_table::CellTable;
 use instants::Params;
 use link_end::{Entry, LinkSetup, LinkStep};
 use slot_plan::Plan;
 use std::alloc::{AllocError, Global};
-use std::array;
 use std::marker::Model;
 
 /// The open links of a controller that holds at most `L`, each under its handle, 0 to `L` - 1.
@@ -58,7 +58,7 @@ use std::marker::Model;
 #[derive(Drop)]
 pub struct OpenLinks<const L: usize, const T: usize, const R: usize> {
     /// What is under each handle, from 0 on.
-    pub(crate) places: [Option<OpenEnd>; L],
+    pub(crate) places: CellTable<OpenEnd, L>,
     pub(crate) tx: TxBank<T>,
     pub(crate) rx: RxBank<R>,
     /// All octets were taken before this slot.
@@ -98,16 +98,18 @@ impl<const L: usize, const T: usize, const R: usize> OpenLinks<L, T, R> {
     ///
     /// Out of memory.
     pub fn new(alloc: Global) -> Result<Self, AllocError>
+        requires link { 1 ≤ L }
         requires links { L ≤ 6 }
         requires host_buffers { (1 ≤ T) × (T ≤ 255) }
         requires air_buffers { (1 ≤ R) × (R < 2 ^ 32) }
         ensures knows { IfOk result (λ links. Knows links (replicate L None) []) }
         ensures counts { IfOk result (λ links. (links.heard_to ≡ 0) × (links.unreported ≡ 0)) }
     {
+        let places = CellTable::make(alloc)?;
         let tx = TxBank::make(alloc)?;
         let rx = RxBank::make(alloc)?;
         Ok(OpenLinks {
-            places: array::from_fn(|_| None),
+            places,
             tx,
             rx,
             heard_to: 0,
@@ -130,7 +132,7 @@ impl<const L: usize, const T: usize, const R: usize> OpenLinks<L, T, R> {
         ensures known { (links : Links) (received : List (ℕ × Piece))
             → Knows self.now links received → result ≡ length links }
     {
-        count(&self.places)
+        self.places.places() as u16
     }
 
     /// Opens a link under the handle of this setup, from a CONNECT_IND in this slot. An open link
@@ -151,7 +153,7 @@ impl<const L: usize, const T: usize, const R: usize> OpenLinks<L, T, R> {
         let handle = setup.handle;
         let was_open = self.link(handle).is_some();
         let link = OpenEnd::new(setup, slot);
-        put_from(&mut self.places, 0, handle, Some(link));
+        put_at(&mut self.places, handle, Some(link));
         self.tx.drop_link(handle);
         drop_received_if(was_open, handle, &mut self.rx);
     }
@@ -165,7 +167,7 @@ impl<const L: usize, const T: usize, const R: usize> OpenLinks<L, T, R> {
         ensures counts { (self.new.heard_to ≡ self.old.heard_to)
             × (self.new.unreported ≡ self.old.unreported) }
     {
-        put_from(&mut self.places, 0, handle, None);
+        put_at(&mut self.places, handle, None);
         self.tx.drop_link(handle);
         self.rx.drop_link(handle);
     }
@@ -231,7 +233,7 @@ impl<const L: usize, const T: usize, const R: usize> OpenLinks<L, T, R> {
         ensures { (links : Links) (received : List (ℕ × Piece))
             → Knows self.now links received → result ≡ some_ends ending_in links }
     {
-        has_any_ending(&self.places)
+        has_any_ending(&self.places, 0)
     }
 
     /// Whether a link is open whose own address is `own` and whose peer has `peer`.
@@ -240,7 +242,7 @@ impl<const L: usize, const T: usize, const R: usize> OpenLinks<L, T, R> {
             → Knows self.now links received
             → result ≡ has_link_between own.now peer.now links }
     {
-        is_any_between(&self.places, own, peer)
+        is_any_between(&self.places, 0, own, peer)
     }
 
     /// The link under a handle enters its event, if it is open, goes on and has its anchor in this
@@ -274,7 +276,7 @@ impl<const L: usize, const T: usize, const R: usize> OpenLinks<L, T, R> {
         ensures counts { (self.new.heard_to ≡ self.old.heard_to)
             × (self.new.unreported ≡ self.old.unreported) }
     {
-        enter_from(&mut self.places, 0, handle, slot, &self.tx, plan, out)
+        enter_at(&mut self.places, handle, slot, &self.tx, plan, out)
     }
 
     /// Keeps that the link under a handle, if it is open, has the radio in this slot. Of two links
@@ -286,7 +288,7 @@ impl<const L: usize, const T: usize, const R: usize> OpenLinks<L, T, R> {
         ensures counts { (self.new.heard_to ≡ self.old.heard_to)
             × (self.new.unreported ≡ self.old.unreported) }
     {
-        serve_from(&mut self.places, 0, handle, slot);
+        serve_at(&mut self.places, handle, slot);
     }
 
     /// The link under a handle, if it is open and entered an event, fixes the PDU that it sends
@@ -299,7 +301,7 @@ impl<const L: usize, const T: usize, const R: usize> OpenLinks<L, T, R> {
         ensures counts { (self.new.heard_to ≡ self.old.heard_to)
             × (self.new.unreported ≡ self.old.unreported) }
     {
-        ready_from(&mut self.places, 0, handle, &self.tx);
+        ready_at(&mut self.places, handle, &self.tx);
     }
 
     /// The packet that the link under a handle sends in this slot, from its access address to its
@@ -330,7 +332,7 @@ impl<const L: usize, const T: usize, const R: usize> OpenLinks<L, T, R> {
         ensures counts { (self.new.heard_to ≡ self.old.heard_to)
             × (self.new.unreported ≡ self.old.unreported) }
     {
-        send_from(&mut self.places, 0, handle, slot, &mut self.tx, out)
+        send_at(&mut self.places, handle, slot, &mut self.tx, out)
     }
 
     /// What the link under a handle makes of octets on its channel, from the access address on. It
@@ -387,7 +389,7 @@ impl<const L: usize, const T: usize, const R: usize> OpenLinks<L, T, R> {
         self.heard_to = slot.0 + 1;
         self.unreported += 1;
         let (places, tx, rx) = (&mut self.places, &mut self.tx, &mut self.rx);
-        hear_from(places, 0, handle, octets, slot, tx, rx, out)
+        hear_at(places, handle, octets, slot, tx, rx, out)
     }
 
     /// The data channel of the event that the link under a handle entered last, 0 to 36. None where
@@ -507,6 +509,11 @@ impl<const L: usize, const T: usize, const R: usize> OpenLinks<L, T, R> {
             → Knows self.now links received
             → KnowsPlace (option_map (λ link. link.now) result) (link_at handle links) }
     {
-        link_from(&self.places, 0, handle)
+        let place = handle as usize;
+        if self.places.holds(place) {
+            Some(self.places.get(place))
+        } else {
+            None
+        }
     }
 }

@@ -1,12 +1,14 @@
-//! One open link of a controller.
-ghost use Rattle.std.specs.Prelude.{◌≡◌, ◌+◌, ◌<◌, ◌≤◌, ◌^◌, IfSome, Option, Some, length};
+//! One open link of a controller, and what is in the places of a table of links.
+ghost use Rattle.std.specs.Prelude.{◌≡◌, ◌<◌, ◌≤◌, ◌^◌, IfSome, Option, Some, None, drop};
+ghost use Rattle.std.specs.Prelude.{is_some, slice_index_or};
 ghost use Rattle.adv_pdu.specs.Ranges.{IsInRange};
 ghost use Rattle.open_links.specs.OpenLinks.{Links, OpenLink, free_from};
 ghost use Rattle.open_links.specs.OpenLinks.{has_link_between, is_between, new_link};
-ghost use Rattle.open_links.specs.Turns.{ending_in, some_ends};
-ghost use Rattle.open_links.specs.Knowing.{KnowsLink, KnowsPlaces};
+ghost use Rattle.open_links.specs.Turns.{ending_in, reason_at, some_ends};
+ghost use Rattle.open_links.specs.Knowing.{KnowsLink, KnowsPlace, KnowsPlaces};
 
 use ble_base::{Address, SlotNo};
+use cell_table::CellTable;
 use link_end::{LinkEnd, LinkSetup};
 use scan_init::is_same_address;
 use std::marker::Model;
@@ -51,49 +53,67 @@ impl OpenEnd {
     }
 }
 
-/// How many places there are.
-#[tactic(auto, using(crate::proofs::Counts::count_known))]
-pub(crate) fn count(places: &[Option<OpenEnd>]) -> u16
-    requires { length places.now < 2 ^ 16 }
-    ensures value { result ≡ length places.now }
-    ensures known { (links : Links) → KnowsPlaces places.now links → result ≡ length links }
-{
-    places.len() as u16
-}
-
 /// The handle of the first place, from this handle on, with no link.
-pub(crate) fn free_from(places: &[Option<OpenEnd>], handle: u16) -> Option<u16>
-    requires { handle + length places.now < 2 ^ 16 }
-    ensures known { (links : Links) → KnowsPlaces places.now links
+pub(crate) fn free_from<const L: usize>(places: &CellTable<OpenEnd, L>, handle: u16) -> Option<u16>
+    requires { L ≤ 6 }
+    ensures known { (links : Links) → KnowsPlaces (drop handle places.now) links
         → result ≡ free_from handle links }
-    ensures within { IfSome result (λ free. free < handle + length places.now) }
+    ensures within { IfSome result (λ free. free < L) }
 {
-    match places.split_first()? {
-        (None, _) => Some(handle),
-        (Some(_), rest) => free_from(rest, handle + 1),
+    let place = handle as usize;
+    if place >= places.places() {
+        None
+    } else if places.holds(place) {
+        free_from(places, handle + 1)
+    } else {
+        Some(handle)
     }
 }
 
-/// Whether a link between these two addresses is in one of the places.
-pub(crate) fn is_any_between(places: &[Option<OpenEnd>], own: &Address, peer: &Address) -> bool
-    ensures { (links : Links) → KnowsPlaces places.now links
+/// Whether the link in a place, if there is one, is between these two addresses.
+fn is_between_at<const L: usize>(
+    places: &CellTable<OpenEnd, L>,
+    place: usize,
+    own: &Address,
+    peer: &Address,
+) -> bool
+    ensures { (link : Option OpenLink) → KnowsPlace (slice_index_or places.now place None) link
+        → result ≡ is_between own.now peer.now link }
+{
+    places.holds(place) && places.get(place).is_between(own, peer)
+}
+
+/// Whether a link between these two addresses is in one of the places from this handle on.
+pub(crate) fn is_any_between<const L: usize>(
+    places: &CellTable<OpenEnd, L>,
+    handle: u16,
+    own: &Address,
+    peer: &Address,
+) -> bool
+    requires { L ≤ 6 }
+    ensures { (links : Links) → KnowsPlaces (drop handle places.now) links
         → result ≡ has_link_between own.now peer.now links }
 {
-    match places.split_first() {
-        None => false,
-        Some((Some(link), _)) if link.is_between(own, peer) => true,
-        Some((_, rest)) => is_any_between(rest, own, peer),
-    }
+    let place = handle as usize;
+    place < places.places()
+        && (is_between_at(places, place, own, peer)
+            || is_any_between(places, handle + 1, own, peer))
 }
 
-/// Whether a link in one of the places ends at the end of a turn.
-pub(crate) fn has_any_ending(places: &[Option<OpenEnd>]) -> bool
-    ensures { (links : Links) → KnowsPlaces places.now links
+/// Whether the link in a place, if there is one, ends at the end of a turn.
+fn is_ending_at<const L: usize>(places: &CellTable<OpenEnd, L>, place: usize) -> bool
+    ensures { (link : Option OpenLink) → KnowsPlace (slice_index_or places.now place None) link
+        → result ≡ is_some (reason_at ending_in link) }
+{
+    places.holds(place) && places.get(place).end.is_ending()
+}
+
+/// Whether a link in one of the places from this handle on ends at the end of a turn.
+pub(crate) fn has_any_ending<const L: usize>(places: &CellTable<OpenEnd, L>, handle: u16) -> bool
+    requires { L ≤ 6 }
+    ensures { (links : Links) → KnowsPlaces (drop handle places.now) links
         → result ≡ some_ends ending_in links }
 {
-    match places.split_first() {
-        None => false,
-        Some((Some(link), _)) if link.end.is_ending() => true,
-        Some((_, rest)) => has_any_ending(rest),
-    }
+    let place = handle as usize;
+    place < places.places() && (is_ending_at(places, place) || has_any_ending(places, handle + 1))
 }

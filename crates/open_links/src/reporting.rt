@@ -1,5 +1,5 @@
 //! Complete packets that are reported, and packets of the host.
-ghost use Rattle.std.specs.Prelude.{◌≡◌, ◌<◌, ◌≤◌, ◌==◌, ◌+◌, ◌^◌, ◌++◌, Option, is_some};
+ghost use Rattle.std.specs.Prelude.{◌≡◌, ◌<◌, ◌≤◌, ◌==◌, ◌+◌, ◌++◌, Option, drop, is_some};
 ghost use Rattle.std.specs.Prelude.{fold, if◌then◌else◌, map, length};
 ghost use Rattle.acl_banks.specs.Banks.{bank_after_credited, taken_buffers};
 ghost use Rattle.open_links.specs.declared.offers.Offer.TheVariants.{Kept};
@@ -13,26 +13,29 @@ use crate::places::OpenEnd;
 use crate::{Completed, MOST_LINKS, Offer};
 use acl_banks::{Overflow, TxBank};
 use arrayvec::ArrayVec;
+use cell_table::CellTable;
 
 /// The links from this handle on with complete packets are added to those.
-pub(crate) fn completed_from<const T: usize>(
-    places: &[Option<OpenEnd>],
+pub(crate) fn completed_from<const L: usize, const T: usize>(
+    places: &CellTable<OpenEnd, L>,
     handle: u16,
     tx: &TxBank<T>,
     completed: &mut ArrayVec<Completed, MOST_LINKS>,
 )
-    requires handle { handle + length places.now < 2 ^ 16 }
-    requires room { length completed.old.items + length places.now ≤ 6 }
-    ensures items { (links : Links) → KnowsPlaces places.now links → HaveHandles handle links
-        → HoldsPlaces tx.now links
+    requires links { L ≤ 6 }
+    requires handle { handle ≤ L }
+    requires room { length completed.old.items ≤ handle }
+    ensures items { (links : Links) → KnowsPlaces (drop handle places.now) links
+        → HaveHandles handle links → HoldsPlaces tx.now links
         → completed.new.items ≡ completed.old.items ++ completed_from handle links }
-    ensures few { length completed.new.items ≤ length completed.old.items + length places.now }
+    ensures few { length completed.new.items ≤ L }
 {
-    let Some((first, rest)) = places.split_first() else {
+    let place = handle as usize;
+    if place >= places.places() {
         return;
-    };
-    add_completed(first.is_some(), handle, tx.credits(handle), completed);
-    completed_from(rest, handle + 1, tx, completed);
+    }
+    add_completed(places.holds(place), handle, tx.credits(handle), completed);
+    completed_from(places, handle + 1, tx, completed);
 }
 
 /// A link with complete packets is added, if it is open.

@@ -12,7 +12,7 @@ returns-clause-knows g c = λ links received known.
     let held = subst (λ (h : HeldLinks). Knows h links received) (sym c.self.view_is) known in
     let step = Disconnected c.args.reason c.args.slot.0 in
     change_known (link_after step) c.args.handle _ _ links received received (λ link. refl) held
-    (c.end_from.ensures.knows links (knows_place _ links received held))
+    (c.end_at.ensures links (knows_place _ links received held))
     (left_goes step (disconnected_leaves c.args.reason c.args.slot.0) (link_at c.args.handle links) c.self.inside.tx) (knows_pieces _ links received held)
 
 pub invariant_of-self : goal.invariant_of-self
@@ -20,7 +20,7 @@ invariant_of-self g c =
     let step = Disconnected c.args.reason c.args.slot.0 in (
       c.self.invariant.0,
       changed_sound (link_after step) c.args.handle _ _ (λ link. refl) c.self.invariant.1
-          (λ links known. c.end_from.ensures.knows links (knows_place _ links _ known))
+          (λ links known. c.end_at.ensures links (knows_place _ links _ known))
           (λ links known. left_goes step (disconnected_leaves c.args.reason c.args.slot.0) (link_at c.args.handle links) c.self.inside.tx) (omega arith) (omega arith)
           (λ link inside. left_within step (disconnected_leaves c.args.reason c.args.slot.0) _ _ link inside),
     )

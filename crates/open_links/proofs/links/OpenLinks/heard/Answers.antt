@@ -9,8 +9,8 @@ use Rattle.open_links.proofs.Unmoved.{in_event_setup}
 use Rattle.open_links.proofs.Within.{within_heard_in_event}
 use Rattle.open_links.proofs.links.OpenLinks.heard.Goals as goal
 
-pub hear_from-requires : goal.hear_from-requires
-hear_from-requires g c =
+pub hear_at-requires : goal.hear_at-requires
+hear_at-requires g c =
     let can = can_hear _ c.args.handle c.args.slot.0 c.self.invariant.1
     (subst (λ (h : HeldLinks). h.heard_to ≤ c.args.slot.0) (sym c.self.view_is) c.requires.once)
     (subst (λ (h : HeldLinks). h.unreported < 65535) (sym c.self.view_is) c.requires.counts) in
@@ -21,9 +21,9 @@ returns-clause-knows g c = λ links received known.
     let held = subst (λ (h : HeldLinks). Knows h links received) (sym c.self.view_is) known in
     let place = knows_place _ links received held in
     let new : HeldLinks = record {
-      places = c.hear_from.new.places;
-      bank = c.hear_from.new.tx;
-      received = c.hear_from.new.rx;
+      places = c.hear_at.new.places;
+      bank = c.hear_at.new.tx;
+      received = c.hear_at.new.rx;
       heard_to = c.args.slot.0 + 1;
       unreported = c.self.inside.unreported + 1;
     } in
@@ -34,8 +34,8 @@ returns-clause-knows g c = λ links received known.
     (change_known (link_after_in_event (PacketReceived c.args.slot.0 c.args.octets.now (nat_lt (length c.self.inside.rx) g.row.R))) c.args.handle
     _ new links received
     (c.self.inside.rx ++ kept_at c.args.slot.0 c.args.octets.now (nat_lt (length c.self.inside.rx) g.row.R) (in_event (link_at c.args.handle links)))
-    (in_event_setup _) held (c.hear_from.ensures.knows links place) (c.hear_from.ensures.bank links place)
-    (c.hear_from.ensures.kept links place))
+    (in_event_setup _) held (c.hear_at.ensures.knows links place) (c.hear_at.ensures.bank links place)
+    (c.hear_at.ensures.kept links place))
 
 pub invariant_of-self : goal.invariant_of-self
 invariant_of-self g c =
@@ -43,7 +43,7 @@ invariant_of-self g c =
       c.self.invariant.0,
       changed_sound (link_after_in_event (PacketReceived c.args.slot.0 c.args.octets.now (nat_lt (length c.self.inside.rx) g.row.R))) c.args.handle
           _ _ (in_event_setup _) c.self.invariant.1
-          (λ links known. c.hear_from.ensures.knows links (knows_place _ links _ known))
-          (λ links known. c.hear_from.ensures.bank links (knows_place _ links _ known)) (omega (arith, once)) (omega arith)
+          (λ links known. c.hear_at.ensures.knows links (knows_place _ links _ known))
+          (λ links known. c.hear_at.ensures.bank links (knows_place _ links _ known)) (omega (arith, once)) (omega arith)
           (λ link inside. within_heard_in_event _ _ c.args.slot.0 c.args.octets.now _ link once inside),
     )

@@ -15,7 +15,7 @@ returns-clause-knows g c = λ links received known.
     let handle = c.args.setup.handle in
     let opened = c.is_some-was_open.ensures ∙ is_open _ c.link.result (link_at handle links) (c.link.ensures links received known) in
     open_known setup _ _ links received _ held
-    (c.put_from.ensures.knows links (Some (new_link setup)) (knows_place _ links received held) c.new-link.ensures)
+    (c.put_at.ensures links (Some (new_link setup)) (knows_place _ links received held) c.new-link.ensures)
     c.drop_link.ensures.bank
     (c.drop_received_if.ensures ∙ past_received _ (link_at handle links) handle c.self.inside.rx opened
     ∙ ap (received_past (link_at handle links) handle) (knows_pieces _ links received held))
@@ -26,7 +26,7 @@ invariant_of-self g c =
       c.self.invariant.0,
       sound_after _ _ (with_link setup) c.self.invariant.1
           (λ links known. open_known setup _ _ links _ _ known
-          (c.put_from.ensures.knows links (Some (new_link setup)) (knows_place _ links _ known) c.new-link.ensures)
+          (c.put_at.ensures links (Some (new_link setup)) (knows_place _ links _ known) c.new-link.ensures)
           c.drop_link.ensures.bank refl)
           (λ links inside. put_within _ _ c.args.setup.handle (Some (new_link setup)) links (new_within _ _ setup) inside),
     )

@@ -8,21 +8,21 @@ use Rattle.open_links.proofs.Unmoved.{in_event_setup}
 use Rattle.open_links.proofs.Within.{within_sent_in_event}
 use Rattle.open_links.proofs.links.OpenLinks.to_send.Goals as goal
 
-pub send_from-requires : goal.send_from-requires
-send_from-requires g c = let tied = is_tied _ c.args.handle c.self.invariant.1 in search (rules, tied)
+pub send_at-requires : goal.send_at-requires
+send_at-requires g c = let tied = is_tied _ c.args.handle c.self.invariant.1 in search (rules, tied)
 
 pub returns-clause-knows : goal.returns-clause-knows
 returns-clause-knows g c = λ links received known.
     let held = subst (λ (h : HeldLinks). Knows h links received) (sym c.self.view_is) known in
     let place = knows_place _ links received held in
     change_known (link_after_in_event (PacketSent c.args.slot.0)) c.args.handle _ _ links received received (in_event_setup (PacketSent c.args.slot.0)) held
-    (c.send_from.ensures.knows links place) (c.send_from.ensures.bank links place) (knows_pieces _ links received held)
+    (c.send_at.ensures.knows links place) (c.send_at.ensures.bank links place) (knows_pieces _ links received held)
 
 pub invariant_of-self : goal.invariant_of-self
 invariant_of-self g c = (
   c.self.invariant.0,
   changed_sound (link_after_in_event (PacketSent c.args.slot.0)) c.args.handle _ _ (in_event_setup (PacketSent c.args.slot.0)) c.self.invariant.1
-      (λ links known. c.send_from.ensures.knows links (knows_place _ links _ known))
-      (λ links known. c.send_from.ensures.bank links (knows_place _ links _ known)) (omega arith) (omega arith)
+      (λ links known. c.send_at.ensures.knows links (knows_place _ links _ known))
+      (λ links known. c.send_at.ensures.bank links (knows_place _ links _ known)) (omega arith) (omega arith)
       (λ link inside. within_sent_in_event _ _ c.args.slot.0 link inside),
 )

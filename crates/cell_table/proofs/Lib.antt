@@ -1,0 +1,2 @@
+-- Lemmas on places and their cells.
+pub mod InPlaces
