@@ -31,6 +31,7 @@ without_mixing words mixed a b script journal unmixed is = record {
       (unmixed number later (Enter other number event too ∷ last) at_too);
   in_events = is.in_events;
   continued = is.continued;
+  moves = is.moves;
   held = is.held;
   shut = is.shut;
   in_time = is.in_time;

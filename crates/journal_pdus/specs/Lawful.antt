@@ -31,7 +31,10 @@ use Rattle.journal_sending.specs.journal_hosts.HostFlow.{KeepsHostFlow}
 use Rattle.journal_sending.specs.journal_hosts.HostOrder.{AllComeInOrder}
 use Rattle.journal_sending.specs.journal_leaving.Reasons.{AllAreShutAs, AllEndInTime, AllStayOpen}
 use Rattle.journal_sending.specs.Resting.{IsAtRest}
-use Rattle.journal_anchors.specs.Anchors.{NoEventIsMissed, NoEventsAreMissed}
+use Rattle.journal_moves.specs.journal_anchors.Anchors.{NoEventIsMissed, NoEventsAreMissed}
+use Rattle.journal_moves.specs.Moves.{NothingIsOwed}
+use Rattle.journal_moves.specs.Owed.{MovesAreOwed}
+use Rattle.journal_moves.specs.journal_wants.Setups.{setups_by}
 use Rattle.journal_seals.specs.journal_sealing.Mixed.{is_mixed}
 use Rattle.journal_slots.specs.SecondSlot.{AllAreContinued}
 use Rattle.journal_turns.specs.Follows.{FollowsSchedule}
@@ -109,6 +112,9 @@ pub record IsLawfulWith (words : Words) (mixed : Mixed) (a b : List ℕ) (script
   pub in_events : AllAreInEvents journal
   -- in the next one only where a packet in the turn of the event says that more waits
   pub continued : AllAreContinued journal
+  -- each packet is what its side is to send next, by what has the radio there; all that a side is to send is on the air
+  -- before the next turn; and the other side listens for what it hears
+  pub moves : MovesAreOwed words (setups_by script) journal
   -- lines name links that are open at their side, and a link is opened under the next free handle
   pub held : LinesAreOfOpenLinks journal
   -- each link that is shut has its reason, and one that is open as a turn begins had none in the turn before
@@ -147,14 +153,15 @@ abbrev pub IsLawful : (a b : List ℕ) (script : Script) → List Entry → Type
 IsLawful a b script journal = IsLawfulWith (words_by script) (is_mixed (words_by script)) a b script journal
 
 -- the journal of a whole run: all turns of the script begin, and at the end nothing is under way, nothing waits for a
--- host, no link was to end, no event of a link was missed, no line of a procedure is due, and each CONNECT_IND has opened
--- its link at both sides
+-- host, no link was to end, no event of a link was missed, neither side is to send anything more, no line of a procedure
+-- is due, and each CONNECT_IND has opened its link at both sides
 pub record IsWhole (script : Script) (journal : List Entry) : Type 0 where
   pub turns : AreAllTurns script journal
   pub at_rest : IsAtRest (words_by script) journal
   pub settled : AreSettled journal
   pub in_time : AllStayOpen (words_by script) journal
   pub none_missed : NoEventIsMissed (words_by script) journal
+  pub nothing_owed : NothingIsOwed (words_by script) (setups_by script) journal
   pub procedure_lines : NoneIsDue (words_by script) journal
   pub begun : AreOpened journal
   pub taken : HeardLinksAreOpened journal

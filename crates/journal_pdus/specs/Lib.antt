@@ -25,6 +25,7 @@ pub use Rattle.journal_sending.specs.journal_packets as journal_packets
 pub use Rattle.journal_sending.specs as journal_sending
 pub use Rattle.journal_seals.specs.journal_sealing as journal_sealing
 pub use Rattle.journal_seals.specs as journal_seals
+pub use Rattle.journal_moves.specs as journal_moves
 pub use Rattle.journal_slots.specs as journal_slots
 pub use Rattle.journal_turns.specs as journal_turns
 pub use Rattle.journal_words.specs as journal_words

@@ -4,6 +4,8 @@ use Rattle.std.specs.Prelude.{◌≡◌, ℕ, false, List}
 use Rattle.ble_base.specs.declared.roles.Side.{Side}
 use Rattle.journal.specs.declared.entries.Entry.{Entry}
 use Rattle.radio_replay.specs.Script.{Script}
+use Rattle.journal_moves.specs.Moves.{IsOwed}
+use Rattle.journal_moves.specs.journal_wants.Setups.{setups_by}
 use Rattle.journal_sending.specs.run_model.Links.{is_advertising}
 use Rattle.journal_seals.specs.journal_sealing.SealedLines.{HasPayload}
 use Rattle.journal_turns.specs.Stopped.{IsStoppedAt}
@@ -16,6 +18,8 @@ pub record IsUndelivered (script : Script) (turn packet : ℕ) (sent heard : Lis
   pub side : Side
   pub channel : ℕ
   pub stopped : IsStoppedAt script side turn packet sent heard journal
+  -- it is what its side is to send next, by what has the radio there
+  pub owed : IsOwed (words_by script) (setups_by script) journal side channel sent
   -- on a data channel it is a packet of a link, with the PDU and the bits that the lines give, and with the payload
   pub tells : is_advertising channel ≡ false → TellsWhatWaits (words_by script) journal side channel sent
   pub payload : is_advertising channel ≡ false → HasPayload (words_by script) journal side channel sent

@@ -19,14 +19,16 @@ use crate::links::{
 /// (`journal_turns::each_journal_follows_its_schedule`). Links and their events are those of their
 /// CONNECT_INDs, each of which has the next access address of its side and opens its link there
 /// before the next turn; each side enters the events of a link one after another, both sides let the
-/// indications of the central hold and enter an event alike (`journal_indications`), and a side
-/// sends only in the turn of the event that it entered last, or in the next turn where MD says that
-/// more waits; lines name links that are open at their side; each link that is shut has its reason,
-/// none that is to end stays open after that turn (`journal_leaving`), and a Reset leaves none; a
-/// line of a control procedure comes where it is due by the lines before and nowhere else
-/// (`journal_due`); where two procedures collide, the next PDU of the central is the rejection of
-/// the peripheral's or LL_TERMINATE_IND, the peripheral's procedure is refused where that rejection
-/// is taken, no indication comes of it, and it is never done (`journal_collisions`,
+/// indications of the central hold and enter an event alike (`journal_indications`), and a side sends
+/// only in the turn of the event that it entered last, or in the next turn where MD says that more
+/// waits; each packet is what its side is to send next in the turn, by what wins the slot among all
+/// that the side wants, before the next turn nothing more is to be sent, and what is heard was
+/// listened for (`journal_moves`); lines name links that are open at their side; each link that is
+/// shut has its reason, none that is to end stays open after that turn (`journal_leaving`), and a
+/// Reset leaves none; a line of a control procedure comes where it is due by the lines before and
+/// nowhere else (`journal_due`); where two procedures collide, the next PDU of the central is the
+/// rejection of the peripheral's or LL_TERMINATE_IND, the peripheral's procedure is refused where
+/// that rejection is taken, no indication comes of it, and it is never done (`journal_collisions`,
 /// `journal_outcomes`); no link ends with 0x07, 0x23 or 0x2A (`journal_endings`), and one ends with
 /// 0x3D only where its side judged a packet of it forged (`journal_failures`); an answer on a link
 /// that passes is heard: it is judged good or forged, or broken where its payload has more octets
@@ -129,7 +131,8 @@ pub fn each_journal_is_lawful()
     journal_sending::the_line_of_each_new_pdu_is_just_before_its_packet();
     journal_sending::each_pdu_is_taken_at_once();
     journal_sending::nothing_is_under_way_between_turns();
-    journal_anchors::no_end_misses_an_event();
+    journal_moves::no_end_misses_an_event();
+    journal_moves::the_moves_of_each_turn_are_owed();
     journal_slots::each_second_slot_has_its_reason();
     journal_sending::each_command_is_answered();
     journal_sending::each_credit_is_of_some_packets();

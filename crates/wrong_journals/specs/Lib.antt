@@ -10,6 +10,7 @@ pub mod Held
 pub mod Flowing
 pub mod Hosts
 pub mod InEvent
+pub mod Moves
 pub mod Resetting
 pub mod Shuts
 pub mod Orders

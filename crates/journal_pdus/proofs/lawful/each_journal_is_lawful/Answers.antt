@@ -1,8 +1,11 @@
 -- Proof of `lawful::each_journal_is_lawful`.
-use Rattle.std.proofs.Common.{◌≤◌, ℕ, zero, suc, List, refl, arith, subst}
+use Rattle.std.proofs.Common.{◌≡◌, ◌≤◌, ℕ, zero, suc, List, refl, arith, subst}
+use mathlib.Core.Path.{fun_ext}
+use Rattle.ble_base.specs.declared.roles.Side.{Side}
+use Rattle.ble_base.specs.declared.roles.Side.TheVariants.{A, B}
 use Rattle.host_view.specs.declared.view.TheConstants.{MOST_LINKS}
 use Rattle.radio_replay.specs.Script.{Script}
-use Rattle.journal_sending.specs.run_model.Run.{history_of, setup_at}
+use Rattle.journal_sending.specs.run_model.Run.{history_of, run_of, setup_at}
 use Rattle.journal_sending.specs.run_model.Journal.{journal_of, side_of}
 use Rattle.journal_sending.specs.run_model.Pair.{given_of, pair_links as links_of_pair}
 use Rattle.journal_sending.proofs.run_model.LinkEnds.{pair_addresses}
@@ -13,6 +16,10 @@ use Rattle.journal_sending.specs.journal_controls.journal_ends.GivenWords.{Gives
 use Rattle.journal_sending.specs.journal_data.Followed.{Follows}
 use Rattle.journal_sending.specs.journal_due.ProcedureLines.{NoneIsDue}
 use Rattle.journal_sending.proofs.TakenInRuns.{eight_air}
+use Rattle.journal_moves.specs.Moves.{IsOwed, NothingIsOwed}
+use Rattle.journal_moves.specs.Owed.{MovesAreOwed}
+use Rattle.journal_moves.specs.journal_wants.Setups.{setups_by, setups_of}
+use Rattle.journal_moves.specs.journal_wants.Station.{Setups}
 use Rattle.journal_words.specs.Drawn.{words_by}
 use Rattle.journal_pdus.proofs.Law.{journal_settled, journal_settled_as_shut, settled_at_the_end}
 use Rattle.journal_pdus.proofs.lawful.each_journal_is_lawful.Goals as goal
@@ -24,6 +31,14 @@ few_of a b script (suc station) = omega arith
 buffers_of : (a b : List ℕ) (script : Script) (station : ℕ) → (setup_at (given_of a b script) station).host_buffers ≤ 65535
 buffers_of a b script zero = omega arith
 buffers_of a b script (suc station) = omega arith
+
+-- both sides are set up as the script says
+setups_are : (a b : List ℕ) (script : Script) → setups_of (given_of a b script) ≡ setups_by script
+setups_are a b script = fun_ext by
+  where
+    by : (side : Side) → setups_of (given_of a b script) side ≡ setups_by script side
+    by A = refl
+    by B = refl
 
 pub returns-clause-lawful : goal.returns-clause-lawful
 returns-clause-lawful c = λ a b script six six_too.
@@ -50,6 +65,8 @@ returns-clause-lawful c = λ a b script six six_too.
       alike = c.ends_enter_each_event_alike_in_every_journal.ensures a b script mixed six six_too followed;
       in_events = c.each_packet_is_in_its_event.ensures given refl addresses;
       continued = c.each_second_slot_has_its_reason.ensures given refl addresses;
+      moves = subst (λ (setups : Setups). MovesAreOwed words setups (journal_of (history_of (run_of given)))) (setups_are a b script)
+          (c.the_moves_of_each_turn_are_owed.ensures.aired words given refl addresses gives (pair_links a b script).links (eight_of a b script));
       held = c.lines_are_of_open_links_in_every_journal.ensures a b script six six_too;
       shut = c.each_shut_line_has_its_reason_by_the_lines.ensures words given refl addresses gives;
       in_time = c.links_end_in_time_by_the_lines.ensures.in_time words given refl addresses gives;
@@ -124,6 +141,8 @@ returns-clause-whole c = λ a b script history six six_too whole.
           c.searches_give_each_valid_address.ensures.valid c.searches_give_each_valid_address.ensures.distinct a b script six six_too history whole;
       in_time = c.links_end_in_time_by_the_lines.ensures.at_the_end words given history refl addresses gives whole;
       none_missed = c.no_end_misses_an_event.ensures.at_the_end words given history refl addresses gives (pair_links a b script).links (eight_of a b script) whole;
+      nothing_owed = subst (λ (setups : Setups). NothingIsOwed words setups (journal_of history)) (setups_are a b script)
+          (c.the_moves_of_each_turn_are_owed.ensures.at_the_end words given history refl addresses gives (pair_links a b script).links (eight_of a b script) whole);
       procedure_lines = subst (λ run. NoneIsDue words (journal_of (history_of run))) whole
           (c.each_line_of_a_procedure_is_where_it_is_due.ensures.at_the_end words given refl addresses gives);
       begun = c.each_link_is_opened_at_its_central.ensures.at_the_end given history refl addresses whole;
@@ -139,6 +158,8 @@ returns-clause-stopped c = λ a b script history stop six six_too stops.
       side = side_of stop.sender;
       channel = stop.channel;
       stopped = c.a_run_stops_in_its_turn.ensures a b script history stop stops;
+      owed = subst (λ (setups : Setups). IsOwed words setups (journal_of history) (side_of stop.sender) stop.channel stop.sent) (setups_are a b script)
+          (c.the_moves_of_each_turn_are_owed.ensures.stopped words given history stop refl addresses gives (pair_links a b script).links (eight_of a b script) stops);
       tells = c.each_packet_of_a_link_tells_what_waits.ensures.stopped words given history stop refl addresses gives
           (pair_links a b script).links (eight_of a b script) stops;
       payload = c.each_packet_has_the_payload_of_the_lines.ensures.stopped words given history stop refl addresses gives stops;

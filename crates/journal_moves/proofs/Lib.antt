@@ -1,0 +1,24 @@
+-- The lemmas of this crate.
+mod NextDoing
+mod Phases
+mod Ready
+mod DoingPhases
+mod OwedPackets
+mod SaidLines
+mod NextPhases
+mod SaidDoings
+mod SaidSteps
+mod KeptDoings
+mod HearsAs
+mod OwedMoves
+mod RunMoves
+mod ForgedRests
+mod SaidRuns
+mod Connecting
+mod HandedOn
+mod ConnectingRuns
+mod EndedEnds
+mod FarAnswers
+mod HearingPlaces
+mod TakingCalls
+mod KnownCalls

@@ -1,0 +1,596 @@
+-- In the journal of a run of two stations each packet is what its side is to send next by the lines before it, and
+-- before each turn neither side is to send anything more.
+use Rattle.std.proofs.Common.{◌≡◌, ◌≢◌, ◌⊎◌, inl, inr, ℕ, zero, suc, ◌==◌, ◌&&◌, ◌||◌, Bool, true, false, not, Option, Some, None, List, [], ◌∷◌, ◌++◌, cond, refl, sym, ap, subst, ◌∙◌, arith}
+use Rattle.std.specs.Prelude.{is_some, nat_lt}
+use Rattle.std.specs.Option.{option_and_then}
+use Rattle.std.proofs.lemmas.Bool.{eqb-true}
+use Rattle.ble_base.specs.declared.roles.Side.{Side}
+use Rattle.ble_base.specs.declared.roles.Side.TheVariants.{A, B}
+use Rattle.ble_base.specs.declared.verdicts.Verdict.TheVariants.{Missed}
+use Rattle.adv_pdu.specs.declared.pdu.AdvPdu.{AdvPdu}
+use Rattle.journal.specs.declared.entries.Entry.TheVariants.{Turn}
+use Rattle.radio_replay.specs.Damage.{damaged_packet}
+use Rattle.radio_replay.specs.declared.fates.Fate.{Fate}
+use Rattle.journal_wants.specs.controller_model.declared.doing.Doing.{Doing}
+use Rattle.journal_wants.specs.controller_model.declared.doing.Doing.TheVariants.{Advertises, AwaitsRequest, AwaitsResponse, CentralListens, CentralSends, Connects, Initiates, PeripheralListens, PeripheralSends, Requests, Responds, Rests, Scans}
+use Rattle.journal_wants.specs.controller_model.Entering.{HasEntered, IsInEvent}
+use Rattle.journal_wants.specs.controller_model.Facts.{Facts, Idle, Listens, Sends, Use}
+use Rattle.journal_wants.specs.controller_model.Packets.{advertisement_sent, channel_listened, connect_sent, listens_on, request_sent, response_sent, sends_on, sends_pdu, use_for, use_of}
+use Rattle.journal_wants.specs.controller_model.open_links.OpenLinks.{OpenLink, facts_in, link_at}
+use Rattle.journal_wants.specs.journal_acks.Carried.{channel_entered}
+use Rattle.journal_wants.specs.journal_controls.journal_ends.Asked.{Words}
+use Rattle.journal_wants.specs.journal_data.Held.{links_open}
+use Rattle.journal_wants.specs.journal_data.HostLines.{link_under}
+use Rattle.journal_wants.specs.journal_sending.journal_fixing.OnLines.{kept_or}
+use Rattle.journal_wants.specs.run_model.Due.{Each, packet_in}
+use Rattle.journal_wants.specs.run_model.Feeding.{AreDistinct}
+use Rattle.journal_wants.specs.run_model.History.{Event, Hearing, Transmitted, TurnBegan, fates_used, packet_received, past_of, turns_begun}
+use Rattle.journal_wants.specs.run_model.Journal.{journal_of, side_of}
+use Rattle.journal_wants.specs.run_model.LinkEnds.{HaveAddresses}
+use Rattle.journal_wants.specs.run_model.Links.{links_of}
+use Rattle.journal_wants.specs.run_model.Run.{Given, GoesOn, Stop, Stops, facts_at, fate_at, history_of, is_lost, reaches, run_of, setup_at, use_at, verdict_where}
+use Rattle.journal_wants.specs.Station.{Setups, station_deciding}
+use Rattle.journal_wants.proofs.HostSet.{IsSetAs}
+use Rattle.journal_wants.proofs.RunStations.{doing_begun}
+use Rattle.journal_wants.proofs.controller_model.Exchanges.{always_in_event}
+use Rattle.journal_wants.proofs.journal_acks.Counting.{AreKnown}
+use Rattle.journal_wants.proofs.journal_acks.EntryLines.{channel_read}
+use Rattle.journal_wants.proofs.journal_acks.EntryNotes.{channel_if}
+use Rattle.journal_wants.proofs.journal_acks.Exchanging.{number_at}
+use Rattle.journal_wants.proofs.journal_acks.Seen.{IsSeen, seen_last, seen_packet, seen_stop, seen_turn}
+use Rattle.journal_wants.proofs.journal_acks.TwoStations.{IsOfTwo, hearing_of, one_hearing, other_is, other_of, own_differs, side_other}
+use Rattle.journal_wants.proofs.journal_acks.run_laws.ByCalls.{first_hears}
+use Rattle.journal_wants.proofs.journal_acks.run_laws.DistinctAccess.{AreApart}
+use Rattle.journal_wants.proofs.journal_acks.run_laws.Hearings.{sends_deaf}
+use Rattle.journal_wants.proofs.journal_acks.run_laws.TurnPlaces.{Within, stands_first}
+use Rattle.journal_wants.proofs.journal_acks.run_laws.TurnSteps.{IsListening}
+use Rattle.journal_wants.proofs.journal_data.EachLine.{lines_at, numbers_at}
+use Rattle.journal_wants.proofs.journal_data.HeldLinks.{under_is}
+use Rattle.journal_wants.proofs.journal_data.KeptData.{other_in}
+use Rattle.journal_wants.proofs.journal_data.Openness.{is_open}
+use Rattle.journal_wants.proofs.journal_leaving.OnlyOpen.{turn_of_line}
+use Rattle.journal_wants.proofs.journal_packets.AccessOrder.{AreNth}
+use Rattle.journal_wants.proofs.journal_packets.SoFar.{IsBelongingSoFar}
+use Rattle.journal_wants.proofs.journal_sending.AtRest.{by_side}
+use Rattle.journal_wants.proofs.run_model.EntryEvents.{is_aired, is_of_event}
+use Rattle.journal_wants.proofs.run_model.Journals.{each_front}
+use Rattle.journal_wants.proofs.run_model.Places.{each_at}
+use Rattle.journal_wants.proofs.run_model.Stations.{among, is_in, not_before}
+use Rattle.journal_wants.proofs.run_model.Walk.{AtPackets, IsKept, NoTurn}
+use Rattle.journal_moves.specs.Doing.{after_sending, doing_kept, doing_on}
+use Rattle.journal_moves.specs.Moves.{AllHeardAreListenedFor, AllOwedAreSent, AllPacketsAreOwed, IsListenedFor, IsOwed, IsPacketOf, NothingIsOwed, channel_listening, channel_under, phase_listening, phase_sending, sends_before}
+use Rattle.journal_moves.proofs.DoingPhases.{IsDoing, IsPhase, doing_at}
+use Rattle.journal_moves.proofs.KeptDoings.{saying_kept}
+use Rattle.journal_moves.proofs.OwedPackets.{packet_of}
+use Rattle.journal_moves.proofs.Phases.{phase_of}
+use Rattle.journal_moves.proofs.Ready.{sends_some, silent_rests}
+use Rattle.journal_anchors.proofs.RunPlaces.{IsToSend}
+use Rattle.journal_moves.proofs.SaidDoings.{AreSaying, HasForged, HasHeard, HasSent, IsFirstKnown, IsInPhase, IsKnown, Waits, said_or, sender_said}
+use Rattle.journal_moves.proofs.SaidLines.{begun_at, said_at}
+
+-- ---- the order of two packets in one phase
+
+no_less : (n : ℕ) → nat_lt n n ≡ false
+no_less n = grind arith
+
+and_false : (b : Bool) → (b && false) ≡ false
+and_false true = refl
+and_false false = refl
+
+-- B does not come before A
+later_by : (phases : ℕ) (one two : Option ℕ) → IsPhase phases one → IsPhase phases two
+    → (sends_before B A one two ≡ false) ⊎ (two ≡ None)
+later_by phases None two is is_too = inl refl
+later_by phases (Some one) None is is_too = inr refl
+later_by phases (Some one) (Some two) is is_too =
+    let same : one ≡ two = is ∙ sym is_too in
+    inl ((λ i. nat_lt (same i) two || ((one == two) && false)) ∙ ap (λ b. b || ((one == two) && false)) (no_less two)
+    ∙ and_false (one == two))
+
+sending_phase : (phases : ℕ) (doing : Doing) → IsPhase phases (phase_of doing) → IsPhase phases (phase_sending doing)
+sending_phase phases (Advertises channel) is = is
+sending_phase phases (Requests channel advertiser) is = is
+sending_phase phases (Connects channel link) is = is
+sending_phase phases (CentralSends handle) is = is
+sending_phase phases (PeripheralSends handle) is = is
+sending_phase phases (Responds channel) is = is
+sending_phase phases (Scans channel) is = tt
+sending_phase phases (Initiates channel) is = tt
+sending_phase phases (PeripheralListens handle) is = tt
+sending_phase phases (AwaitsRequest channel) is = tt
+sending_phase phases (CentralListens handle) is = tt
+sending_phase phases (AwaitsResponse channel) is = tt
+sending_phase phases Rests is = tt
+
+sent_none : (doing : Doing) → phase_sending (after_sending doing) ≡ None
+sent_none (Advertises channel) = refl
+sent_none (Requests channel advertiser) = refl
+sent_none (CentralSends handle) = refl
+sent_none other = refl
+
+none_before : (one other : Side) (phase two : Option ℕ) → phase ≡ None → sends_before one other phase two ≡ false
+none_before one other phase two is = ap (λ p. sends_before one other p two) is
+
+-- ---- who listens
+
+pdu_heard_not : (own channel : ℕ) (pdu : Option AdvPdu) (X : Type 0) → sends_pdu own pdu ≡ Listens channel → X
+pdu_heard_not own channel None X is = absurd (let h : Idle ≡ Listens channel = is in absurd cc)
+pdu_heard_not own channel (Some pdu) X is = absurd cc
+
+link_heard_not : (place : Option OpenLink) (channel : ℕ) (X : Type 0) → sends_on place ≡ Listens channel → X
+link_heard_not None channel X is = absurd (let h : Idle ≡ Listens channel = is in absurd cc)
+link_heard_not (Some link) channel X is = absurd cc
+
+-- a packet that is not missed was listened for on its channel
+not_missed : (wanted : Use) (fate : Fate) (channel : ℕ) (facts : Facts) (octets : List ℕ)
+    → verdict_where (reaches fate channel (channel_listened wanted)) facts octets ≢ Missed → wanted ≡ Listens channel
+not_missed (Sends own sent) fate channel facts octets heard = absurd (heard refl)
+not_missed Idle fate channel facts octets heard = absurd (heard refl)
+not_missed (Listens own) fate channel facts octets heard = by (not (is_lost fate)) (own == channel) refl heard
+  where
+    by : (left same : Bool) → (own == channel) ≡ same → verdict_where (left && same) facts octets ≢ Missed
+        → Listens own ≡ Listens channel
+    by true true same heard = ap Listens (eqb-true own channel same)
+    by true false same heard = absurd (heard refl)
+    by false same is heard = absurd (heard refl)
+
+-- who sends listens for nothing
+sender_deaf : (doing : Doing) (base : Facts) (channel : ℕ) → use_for base doing ≡ Listens channel
+    → phase_sending doing ≡ None
+sender_deaf (Advertises own) base channel is = pdu_heard_not own channel (advertisement_sent base) _ is
+sender_deaf (Responds own) base channel is = pdu_heard_not own channel (response_sent base) _ is
+sender_deaf (Requests own advertiser) base channel is = pdu_heard_not own channel (request_sent advertiser base) _ is
+sender_deaf (Connects own link) base channel is = pdu_heard_not own channel (connect_sent link) _ is
+sender_deaf (CentralSends handle) base channel is = link_heard_not (link_at handle base.links) channel _ is
+sender_deaf (PeripheralSends handle) base channel is = link_heard_not (link_at handle base.links) channel _ is
+sender_deaf (Scans own) base channel is = refl
+sender_deaf (Initiates own) base channel is = refl
+sender_deaf (PeripheralListens handle) base channel is = refl
+sender_deaf (AwaitsRequest own) base channel is = refl
+sender_deaf (CentralListens handle) base channel is = refl
+sender_deaf (AwaitsResponse own) base channel is = refl
+sender_deaf Rests base channel is = refl
+
+listening_is : (phases : ℕ) (doing : Doing) (base : Facts) (channel : ℕ) → use_for base doing ≡ Listens channel
+    → IsPhase phases (phase_of doing)
+    → phase_listening doing ≡ Some phases
+listening_is phases (Scans own) base channel listens is = ap Some is
+listening_is phases (Initiates own) base channel listens is = ap Some is
+listening_is phases (PeripheralListens handle) base channel listens is = ap Some is
+listening_is phases (AwaitsRequest own) base channel listens is = ap Some is
+listening_is phases (CentralListens handle) base channel listens is = ap Some is
+listening_is phases (AwaitsResponse own) base channel listens is = ap Some is
+listening_is phases Rests base channel listens is = absurd (let h : Idle ≡ Listens channel = listens in absurd cc)
+listening_is phases (Advertises own) base channel listens is =
+    pdu_heard_not own channel (advertisement_sent base) _ listens
+listening_is phases (Responds own) base channel listens is = pdu_heard_not own channel (response_sent base) _ listens
+listening_is phases (Requests own advertiser) base channel listens is =
+    pdu_heard_not own channel (request_sent advertiser base) _ listens
+listening_is phases (Connects own link) base channel listens is =
+    pdu_heard_not own channel (connect_sent link) _ listens
+listening_is phases (CentralSends handle) base channel listens is =
+    link_heard_not (link_at handle base.links) channel _ listens
+listening_is phases (PeripheralSends handle) base channel listens is =
+    link_heard_not (link_at handle base.links) channel _ listens
+
+some_phase : (phases : ℕ) (sending : Option ℕ) → IsPhase phases sending → is_some sending ≡ true
+    → sending ≡ Some phases
+some_phase phases None is some = absurd (let h : false ≡ true = some in absurd cc)
+some_phase phases (Some phase) is some = ap Some is
+
+last_channel : (count channel : ℕ) → nat_lt 0 count ≡ true → channel_if count channel ≡ Some channel
+last_channel zero channel none = absurd cc
+last_channel (suc count) channel some = refl
+
+-- the station of two whose packet comes while the other one is still to come
+no_more : (xs : List ℕ) (x : ℕ) (ys : List ℕ) (X : Type 0) → [] ≡ xs ++ x ∷ ys → X
+no_more [] x ys X is = absurd cc
+no_more (y ∷ xs) x ys X is = absurd cc
+
+first_one : (station : ℕ) (done left : List ℕ) → 0 ∷ 1 ∷ [] ≡ done ++ station ∷ left
+    → is_in (other_of station) done ≡ false → station ≡ 0
+first_one station [] left are out = let same : 0 ≡ station = cc in sym same
+first_one station (first ∷ []) left are out =
+    let zeroth : 0 ≡ first = cc in
+    let next : 1 ≡ station = cc in
+    absurd (
+    let h : true ≡ false = (λ i. (other_of (next i) == zeroth i) || false) ∙ out in
+    absurd cc
+    )
+first_one station (first ∷ second ∷ done) left are out =
+    let rest : [] ≡ done ++ station ∷ left = cc in no_more done station left _ rest
+
+-- ---- at the packet of a station
+
+-- a place at which a station is to send, with what all lines say there
+pub record IsSaidToSend (words : Words) (setups : Setups) (given : Given) (history : List Event) (station channel : ℕ)
+    (octets : List ℕ) : Type 0 where
+  pub phases : ℕ
+  pub done : List ℕ
+  pub left : List ℕ
+  pub stations_are : given.stations ≡ done ++ station ∷ left
+  pub is_wanted : use_at given station history ≡ Sends channel octets
+  pub saying : AreSaying words setups given (AtPackets phases done (station ∷ left)) history
+
+module _ (words : Words) (setups : Setups) (nth : AreNth) (apart : AreApart) (given : Given) (are_two : IsOfTwo given)
+    (distinct : AreDistinct given.stations) (six : HaveAddresses given)
+    (history : List Event) (station channel : ℕ) (octets : List ℕ)
+    (place : IsSaidToSend words setups given history station channel octets)
+    (known : Each (IsKnown words setups given) [] history) (first : IsFirstKnown words setups given history)
+    (set : IsSetAs (station_deciding words setups (side_of station) (journal_of history))
+    (facts_at given station history))
+    (to_send : IsToSend given history station channel octets) where
+  abbrev front_side : Side
+  front_side = side_of station
+
+  in_it : is_in station given.stations ≡ true
+  in_it = among given.stations place.done place.left station place.stations_are
+
+  not_yet : is_in station place.done ≡ false
+  not_yet = not_before given.stations place.done place.left station distinct place.stations_are
+
+  does : (other : ℕ) → is_in other given.stations ≡ true
+      → IsDoing (setup_at given other) (Within place.phases) (turns_begun history) (facts_at given other history)
+  does other in_other =
+      doing_at given (AtPackets place.phases place.done
+      (station ∷ place.left)) history other place.saying.hearing.stand in_other
+
+  said_is : (other : ℕ) → is_in other given.stations ≡ true
+      → doing_on words setups (side_of other) (journal_of history) ≡ said_or words setups given other history
+  said_is other in_other = ap (kept_or (said_at words setups other history)) (first other in_other)
+
+  abbrev doing : Doing
+  doing = (facts_at given station history).turn.doing
+
+  wanted : use_for (does station in_it).wants.base doing ≡ Sends channel octets
+  unfolding use_of
+  wanted = sym (does station in_it).wants.wanted ∙ place.is_wanted
+
+  own_is : doing_on words setups front_side (journal_of history) ≡ doing
+  own_is =
+      said_is station in_it
+      ∙ sender_said (is_in station place.done) (is_in (other_of station) place.done) not_yet
+      (sends_deaf given [] history station channel octets (place.saying.hearing.hears station in_it) place.is_wanted
+      (packet_received station history) refl)
+      (sends_some doing (does station in_it).wants.base channel octets wanted) (place.saying.says known station in_it)
+
+  -- ---- the other side
+
+  abbrev far : ℕ
+  far = other_of station
+
+  in_far : is_in far given.stations ≡ true
+  in_far = other_in given are_two station in_it
+
+  abbrev IsLater : Doing → Type 0
+  IsLater one = sends_before (side_of far) front_side (phase_sending one) (phase_sending doing) ≡ false
+
+  far_out : is_in (other_of far) place.done ≡ false
+  far_out =
+      subst (λ n. is_in n place.done ≡ false)
+      (other_is given are_two far station in_far in_it (own_differs station)) not_yet
+
+  -- it is still to come, so it is B
+  both_send : is_in far place.done ≡ false → (one : Doing) → one ≡ (facts_at given far history).turn.doing
+      → IsLater one
+  both_send out one same =
+      let zeroth = first_one station place.done place.left (sym are_two ∙ place.stations_are) out in
+      let own = sending_phase place.phases doing (does station in_it).in_phase in
+      let other = subst (λ d. IsPhase place.phases (phase_sending d)) (sym same)
+      (sending_phase place.phases (facts_at given far history).turn.doing (does far in_far).in_phase) in
+      let does_send = sends_some doing (does station in_it).wants.base channel octets wanted in
+      ap (λ n. sends_before (side_of (other_of n)) (side_of n) (phase_sending one) (phase_sending doing)) zeroth
+      ∙ by (later_by place.phases (phase_sending one) (phase_sending doing) other own) does_send
+    where
+      by : (sends_before B A (phase_sending one) (phase_sending doing) ≡ false) ⊎ (phase_sending doing ≡ None)
+          → is_some (phase_sending doing) ≡ true
+          → sends_before B A (phase_sending one) (phase_sending doing) ≡ false
+      by (inl later) sends = later
+      by (inr none) sends =
+          absurd (let h : true ≡ false = sym sends ∙ ap (λ (p : Option ℕ). is_some p) none in absurd cc)
+
+  quiet : (one : Doing) → phase_sending one ≡ None → IsLater one
+  quiet one none = none_before (side_of far) front_side (phase_sending one) (phase_sending doing) none
+
+  far_use : use_of (facts_at given far history)
+      ≡ use_for (does far in_far).wants.base (facts_at given far history).turn.doing
+  unfolding use_of
+  far_use = (does far in_far).wants.wanted
+
+  far_later : IsInPhase words setups given place.phases (is_in far place.done)
+      (is_in (other_of far) place.done) far history → IsLater (said_or words setups given far history)
+  far_later (Waits none silent (inl same)) = by (is_in far place.done) refl
+    where
+      by : (own : Bool) → is_in far place.done ≡ own → IsLater (said_or words setups given far history)
+      by true done =
+          quiet (said_or words setups given far history)
+          (ap phase_sending same
+          ∙ silent_rests (facts_at given far history).turn.doing (does far in_far).wants.base
+          (does far in_far).wants.ready
+          (ap packet_in (sym far_use) ∙ silent done))
+      by false out = both_send out (said_or words setups given far history) same
+  far_later (Waits none silent (inr stale)) = quiet (said_or words setups given far history) stale.silent
+  far_later (HasSent none sent sends said) =
+      quiet (said_or words setups given far history)
+      (ap (λ kept. phase_sending (kept_or kept (begun_at given far history))) said
+      ∙ sent_none (facts_at given far history).turn.doing)
+  far_later (HasHeard got_octets got is_far good said) =
+      absurd (let h : true ≡ false = sym is_far ∙ far_out in absurd cc)
+  far_later (HasForged got_octets got is_far silent rests matches) =
+      absurd (let h : true ≡ false = sym is_far ∙ far_out in absurd cc)
+
+  pub is_owed : IsOwed words setups (journal_of history) front_side channel octets
+  is_owed = record {
+    is_packet = subst (IsPacketOf (station_deciding words setups front_side (journal_of history))
+        (journal_of history) front_side channel octets) (sym own_is)
+        (packet_of nth apart given are_two six history station channel octets to_send
+        (station_deciding words setups front_side (journal_of history)) set doing refl);
+    in_order =
+        (λ i. sends_before (sym (side_other station) i) front_side
+        (phase_sending (doing_on words setups (sym (side_other station) i) (journal_of history)))
+        (phase_sending (own_is i)))
+        ∙ ap (λ one. sends_before (side_of far) front_side (phase_sending one) (phase_sending doing))
+        (said_is far in_far)
+        ∙ far_later (place.saying.says known far in_far);
+  }
+
+  -- ---- the other side hears it
+
+  module _ (lines_known : AreKnown given (IsBelongingSoFar given))
+      (listens : use_at given far history ≡ Listens channel) where
+    abbrev far_facts : Facts
+    far_facts = facts_at given far history
+
+    abbrev far_doing : Doing
+    far_doing = far_facts.turn.doing
+
+    far_wanted : far_facts.wanted ≡ Listens channel
+    unfolding use_of
+    far_wanted = listens
+
+    far_uses : (one : Doing) → far_doing ≡ one → use_for (does far in_far).wants.base one ≡ Listens channel
+    far_uses one is = ap (use_for (does far in_far).wants.base) (sym is) ∙ sym (does far in_far).wants.wanted
+        ∙ far_wanted
+
+    far_said : IsInPhase words setups given place.phases (is_in far place.done)
+        (is_in (other_of far) place.done) far history → said_or words setups given far history ≡ far_doing
+    far_said (Waits none silent (inl same)) = same
+    far_said (Waits none silent (inr stale)) =
+        absurd (let h : Idle ≡ Listens channel = far_uses Rests stale.rests in absurd cc)
+    far_said (HasSent none sent sends said) =
+        absurd (let h : true ≡ false = sym sends
+        ∙ ap (λ (p : Option ℕ). is_some p)
+        (sender_deaf far_doing (does far in_far).wants.base channel (far_uses far_doing refl)) in absurd cc)
+    far_said (HasHeard got_octets got is_far good said) =
+        absurd (let h : true ≡ false = sym is_far ∙ far_out in absurd cc)
+    far_said (HasForged got_octets got is_far silent rests matches) =
+        absurd (let h : true ≡ false = sym is_far ∙ far_out in absurd cc)
+
+    far_is : doing_on words setups (side_of far) (journal_of history) ≡ far_doing
+    far_is = said_is far in_far ∙ far_said (place.saying.says known far in_far)
+
+    on_link : (handle : ℕ) (found : Option OpenLink) → link_at handle far_facts.links ≡ found
+        → far_facts.wanted ≡ listens_on found → HasEntered found
+        → channel_under (side_of far) (journal_of history) handle ≡ Some channel
+    on_link handle None at uses entered = absurd (let h : Idle ≡ Listens channel = sym uses ∙ far_wanted in absurd cc)
+    on_link handle (Some link) at uses entered =
+        let one : Listens (facts_in link).event.channel ≡ Listens channel = sym uses ∙ far_wanted in
+        let same : (facts_in link).event.channel ≡ channel = cc in
+        let booked = (to_send.lines.are.well far in_far).booked in
+        let here = AtPackets to_send.phases to_send.done (station ∷ to_send.left) in
+        let number = number_at far handle history in
+        let under : link_under handle (links_open (side_of far) (journal_of history)) ≡ Some number =
+        under_is (setup_at given far).links (lines_at far history).links (numbers_at far history)
+        (is_open far_facts.links) booked.links handle
+        ∙ ap (λ (place : Option OpenLink). cond (is_some place) (Some number) None) at in
+        ap (option_and_then (λ one. channel_entered one (side_of far) (journal_of history))) under
+        ∙ channel_read (journal_of history) far number link
+        (lines_known.lines here history to_send.lines.counted.known far handle link in_far at)
+        ∙ last_channel (facts_in link).control.track.entered (facts_in link).event.channel entered ∙ ap Some same
+
+    on_channel_by : (one : Doing) → far_doing ≡ one
+        → channel_listening (side_of far) (journal_of history) one ≡ Some channel
+    on_channel_by (Scans due) is =
+        let one : Listens due ≡ Listens channel = far_uses (Scans due) is in let same : due ≡ channel = cc in
+        ap Some same
+    on_channel_by (Initiates due) is =
+        let one : Listens due ≡ Listens channel = far_uses (Initiates due) is in let same : due ≡ channel = cc in
+        ap Some same
+    on_channel_by (AwaitsRequest due) is =
+        let one : Listens due ≡ Listens channel = far_uses (AwaitsRequest due) is in let same : due ≡ channel = cc in
+        ap Some same
+    on_channel_by (AwaitsResponse due) is =
+        let one : Listens due ≡ Listens channel = far_uses (AwaitsResponse due) is in let same : due ≡ channel = cc in
+        ap Some same
+    on_channel_by (PeripheralListens handle) is =
+        on_link handle (link_at handle far_facts.links) refl
+        (subst (IsListening far_facts) is (does far in_far).phased.uses.in_turn.listens)
+        (subst (λ one. IsInEvent one far_facts.links) is (always_in_event (setup_at given far) (past_of far history)))
+    on_channel_by (CentralListens handle) is =
+        on_link handle (link_at handle far_facts.links) refl
+        (subst (IsListening far_facts) is (does far in_far).phased.uses.in_turn.listens)
+        (subst (λ one. IsInEvent one far_facts.links) is (always_in_event (setup_at given far) (past_of far history)))
+    on_channel_by Rests is = absurd (let h : Idle ≡ Listens channel = far_uses Rests is in absurd cc)
+    on_channel_by (Advertises own) is =
+        pdu_heard_not own channel (advertisement_sent (does far in_far).wants.base) _ (far_uses (Advertises own) is)
+    on_channel_by (Responds own) is =
+        pdu_heard_not own channel (response_sent (does far in_far).wants.base) _ (far_uses (Responds own) is)
+    on_channel_by (Requests own advertiser) is =
+        pdu_heard_not own channel (request_sent advertiser (does far in_far).wants.base) _
+        (far_uses (Requests own advertiser) is)
+    on_channel_by (Connects own link) is =
+        pdu_heard_not own channel (connect_sent link) _ (far_uses (Connects own link) is)
+    on_channel_by (CentralSends handle) is =
+        link_heard_not (link_at handle (does far in_far).wants.base.links) channel _
+        (far_uses (CentralSends handle) is)
+    on_channel_by (PeripheralSends handle) is =
+        link_heard_not (link_at handle (does far in_far).wants.base.links) channel _
+        (far_uses (PeripheralSends handle) is)
+
+    own_phase : phase_sending doing ≡ Some place.phases
+    own_phase =
+        some_phase place.phases (phase_sending doing) (sending_phase place.phases doing (does station in_it).in_phase)
+        (sends_some doing (does station in_it).wants.base channel octets wanted)
+
+    pub is_listened_for : IsListenedFor words setups (journal_of history) front_side channel
+    is_listened_for = record {
+      in_phase =
+          (λ i. phase_listening (doing_on words setups (sym (side_other station) i) (journal_of history)))
+          ∙ ap phase_listening far_is
+          ∙ listening_is place.phases far_doing (does far in_far).wants.base channel (far_uses far_doing refl)
+          (does far in_far).in_phase
+          ∙ sym own_phase ∙ ap phase_sending (sym own_is);
+      on_channel =
+          (λ i. channel_listening (sym (side_other station) i) (journal_of history)
+          (doing_on words setups (sym (side_other station) i) (journal_of history)))
+          ∙ ap (channel_listening (side_of far) (journal_of history)) far_is ∙ on_channel_by far_doing refl;
+    }
+
+-- ---- in a run
+
+module _ (words : Words) (setups : Setups) (nth : AreNth) (apart : AreApart) (given : Given) (are_two : IsOfTwo given)
+    (distinct : AreDistinct given.stations) (six : HaveAddresses given)
+    (known : Each (IsKnown words setups given) [] (history_of (run_of given))) where
+  -- before each packet its side has set by the lines what its controller has
+  abbrev pub IsSetBefore : Type 0
+  IsSetBefore = (before rest : List Event) (station channel : ℕ) (octets : List ℕ) (hearings : List Hearing)
+      → history_of (run_of given) ≡ before ++ Transmitted station channel octets hearings ∷ rest
+      → IsSetAs (station_deciding words setups (side_of station) (journal_of before))
+      (facts_at given station before) × IsToSend given before station channel octets
+
+  keeps : IsKept given (AreSaying words setups given)
+  keeps = saying_kept words setups given are_two distinct six
+
+  sees : IsSeen given (AreSaying words setups given) (AreSaying words setups given NoTurn)
+      (IsSaidToSend words setups given)
+  sees = record {
+    turn = λ history is. is;
+    packet = λ phases done left station channel octets history are wanted is.
+        record { phases = phases; done = done; left = left; stations_are = are; is_wanted = wanted; saying = is };
+  }
+
+  says_first : AreSaying words setups given NoTurn []
+  unfolding doing_kept journal_of doing_begun
+  says_first = record {
+    hearing = record { stand = stands_first given; hears = λ station in_it. first_hears given station };
+    says = λ all station in_it. refl;
+  }
+
+  known_before : (before rest : List Event) → history_of (run_of given) ≡ before ++ rest
+      → Each (IsKnown words setups given) [] before
+  known_before before rest at =
+      each_front (IsKnown words setups given) [] before rest (subst (Each (IsKnown words setups given) []) at known)
+
+  pub owed_at : (before rest : List Event) (station channel : ℕ) (octets : List ℕ) (hearing : Hearing)
+      (others : List Hearing)
+      → history_of (run_of given) ≡ before ++ Transmitted station channel octets (hearing ∷ others) ∷ rest
+      → IsSetAs (station_deciding words setups (side_of station) (journal_of before)) (facts_at given station before)
+      → IsToSend given before station channel octets
+      → IsOwed words setups (journal_of before) (side_of station) channel octets
+  owed_at before rest station channel octets hearing others at set to_send =
+      let event = Transmitted station channel octets (hearing ∷ others) in
+      let place = seen_packet given (AreSaying words setups given) keeps (AreSaying words setups given NoTurn)
+      (IsSaidToSend words setups given) sees says_first
+      before rest station channel octets (hearing ∷ others) at in
+      is_owed words setups nth apart given are_two distinct six before station channel octets place
+      (known_before before (event ∷ rest) at)
+      (each_at (IsKnown words setups given) (history_of (run_of given)) before rest event known at).first set to_send
+
+  pub owed_at_stop : (history : List Event) (stop : Stop) → run_of given ≡ Stops history stop
+      → IsFirstKnown words setups given history
+      → IsSetAs (station_deciding words setups (side_of stop.sender) (journal_of history))
+      (facts_at given stop.sender history)
+      → IsToSend given history stop.sender stop.channel stop.sent
+      → IsOwed words setups (journal_of history) (side_of stop.sender) stop.channel stop.sent
+  owed_at_stop history stop stops first set to_send =
+      let place = seen_stop given (AreSaying words setups given) keeps (AreSaying words setups given NoTurn)
+      (IsSaidToSend words setups given) sees says_first
+      history stop stops in
+      is_owed words setups nth apart given are_two distinct six history stop.sender stop.channel stop.sent place
+      (subst (Each (IsKnown words setups given) []) (ap history_of stops) known) first set to_send
+
+  -- what is not missed at the other station was listened for there
+  listened_at : (before rest : List Event) (station channel : ℕ) (octets : List ℕ) (hearing : Hearing)
+      (others : List Hearing)
+      → history_of (run_of given) ≡ before ++ Transmitted station channel octets (hearing ∷ others) ∷ rest
+      → IsSetAs (station_deciding words setups (side_of station) (journal_of before)) (facts_at given station before)
+      → IsToSend given before station channel octets → AreKnown given (IsBelongingSoFar given)
+      → use_at given (other_of station) before ≡ Listens channel
+      → IsListenedFor words setups (journal_of before) (side_of station) channel
+  listened_at before rest station channel octets hearing others at set to_send lines_known listens =
+      let event = Transmitted station channel octets (hearing ∷ others) in
+      let place = seen_packet given (AreSaying words setups given) keeps (AreSaying words setups given NoTurn)
+      (IsSaidToSend words setups given) sees says_first
+      before rest station channel octets (hearing ∷ others) at in
+      is_listened_for words setups nth apart given are_two distinct six before station channel octets place
+      (known_before before (event ∷ rest) at)
+      (each_at (IsKnown words setups given)
+      (history_of (run_of given)) before rest event known at).first set to_send lines_known listens
+
+  -- between turns
+  nothing_owed : (history : List Event) → AreSaying words setups given NoTurn history
+      → Each (IsKnown words setups given) [] history
+      → IsFirstKnown words setups given history → NothingIsOwed words setups (journal_of history)
+  nothing_owed history is all first =
+      by_side given are_two
+      (λ side. is_some (phase_sending (doing_on words setups side (journal_of history))) ≡ false)
+      (λ station in_it.
+      ap (λ doing. is_some (phase_sending doing))
+      (ap (kept_or (said_at words setups station history)) (first station in_it))
+      ∙ ap (λ (p : Option ℕ). is_some p) (is.says all station in_it))
+
+  pub owed_are_sent : AllOwedAreSent words setups (journal_of (history_of (run_of given)))
+  owed_are_sent = λ front rest slot a_on b_on is.
+      let one = is_of_event (history_of (run_of given)) front rest (Turn slot a_on b_on) is in
+      let turn = turn_of_line (links_of one.before) one.event slot a_on b_on one.entry_is in
+      let at = one.is_at ∙ ap (λ event. one.before ++ event ∷ one.after) turn.is in
+      let place = seen_turn given (AreSaying words setups given) keeps (AreSaying words setups given NoTurn)
+      (IsSaidToSend words setups given) sees says_first
+      one.before one.after turn.slot turn.radios at in
+      subst (NothingIsOwed words setups) (sym one.front_is)
+      (nothing_owed one.before place (known_before one.before (one.event ∷ one.after) one.is_at)
+      (each_at (IsKnown words setups given) (history_of (run_of given)) one.before one.after
+      (TurnBegan turn.slot turn.radios) known at))
+
+  pub nothing_owed_at_end : (history : List Event) → run_of given ≡ GoesOn history
+      → IsFirstKnown words setups given history
+      → NothingIsOwed words setups (journal_of history)
+  nothing_owed_at_end history goes first =
+      nothing_owed history
+      (seen_last given (AreSaying words setups given) keeps (AreSaying words setups given NoTurn)
+      (IsSaidToSend words setups given) sees says_first history goes)
+      (subst (Each (IsKnown words setups given) []) (ap history_of goes) known) first
+
+  pub heard_are_listened_for : IsSetBefore → AreKnown given (IsBelongingSoFar given)
+      → AllHeardAreListenedFor words setups (journal_of (history_of (run_of given)))
+  heard_are_listened_for at lines_known = λ front rest side channel octets fate verdict is heard.
+      let aired = is_aired given front rest side channel octets fate verdict is in
+      let both = at aired.before aired.after aired.station channel octets
+      (aired.hearing ∷ aired.others) aired.is_at in
+      let in_it = among given.stations both.1.done both.1.left aired.station both.1.stations_are in
+      let one = one_hearing given are_two aired.is_due.plan.fates aired.station channel octets aired.before in_it in
+      let hearings : aired.hearing ∷ aired.others
+      ≡ hearing_of given aired.is_due.plan.fates aired.station channel octets aired.before ∷ [] =
+      aired.is_due.hearings_are ∙ one in
+      let first : aired.hearing ≡ hearing_of given aired.is_due.plan.fates aired.station channel octets aired.before =
+      cc in
+      let far = other_of aired.station in
+      let fate_of = fate_at aired.is_due.plan.fates (fates_used aired.before) in
+      let listens = not_missed (use_at given far aired.before) fate_of channel (facts_at given far aired.before)
+      (damaged_packet fate_of octets)
+      (λ missed. heard (aired.verdict_is ∙ ap (λ (h : Hearing). h.verdict) first ∙ missed)) in
+      subst (λ entries. IsListenedFor words setups entries side channel) (sym aired.front_is)
+      (subst (λ one. IsListenedFor words setups (journal_of aired.before) one channel) (sym aired.side_is)
+      (listened_at aired.before aired.after aired.station channel octets aired.hearing aired.others aired.is_at both.0
+      both.1 lines_known listens))
+
+  -- each packet in the journal
+  pub packets_owed : IsSetBefore → AllPacketsAreOwed words setups (journal_of (history_of (run_of given)))
+  packets_owed at = λ front rest side channel octets fate verdict is.
+      let aired = is_aired given front rest side channel octets fate verdict is in
+      let both = at aired.before aired.after aired.station channel octets
+      (aired.hearing ∷ aired.others) aired.is_at in
+      subst (λ entries. IsOwed words setups entries side channel octets) (sym aired.front_is)
+      (subst (λ one. IsOwed words setups (journal_of aired.before) one channel octets) (sym aired.side_is)
+      (owed_at aired.before aired.after aired.station channel octets aired.hearing aired.others aired.is_at both.0
+      both.1))
