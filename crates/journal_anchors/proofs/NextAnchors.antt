@@ -1,7 +1,6 @@
 -- Before each packet and each turn of a run, and at its end, the anchor of the next event of each open end is in a later turn
 -- than the one that is under way.
-use Rattle.std.proofs.Common.{◌≡◌, ℕ, ◌-◌, ◌+◌, ◌<◌, ◌≤◌, Bool, true, false, Option, Some, None, is_none, List, [], ◌∷◌, ◌++◌, cond, length, refl, sym, ap, subst, ◌∙◌, append-nil, arith}
-use Rattle.ble_base.specs.declared.roles.Side.{Side}
+use Rattle.std.proofs.Common.{◌≡◌, ℕ, ◌-◌, ◌+◌, ◌<◌, ◌≤◌, Bool, true, false, Some, None, is_none, List, [], ◌∷◌, ◌++◌, cond, length, refl, sym, ap, subst, ◌∙◌, append-nil, arith}
 use Rattle.instants.specs.Track.{next_anchor_of}
 use Rattle.journal.specs.declared.entries.Entry.TheVariants.{Turn}
 use Rattle.journal_sending.specs.controller_model.Facts.{Facts, Setup, first_facts}
@@ -15,7 +14,6 @@ use Rattle.journal_sending.specs.journal_controls.journal_ends.Asked.{Words}
 use Rattle.journal_sending.specs.journal_controls.journal_ends.GivenWords.{GivesWords}
 use Rattle.journal_sending.specs.journal_data.Held.{links_open}
 use Rattle.journal_sending.specs.journal_data.HostLines.{link_under}
-use Rattle.journal_sending.specs.run_model.Feeding.{AreDistinct}
 use Rattle.journal_sending.specs.run_model.History.{Event, Transmitted, past_of, turns_begun}
 use Rattle.journal_sending.specs.run_model.Journal.{journal_of, side_of}
 use Rattle.journal_sending.specs.run_model.LinkEnds.{HaveAddresses}
@@ -48,7 +46,7 @@ use Rattle.journal_sending.proofs.run_model.EntryEvents.{is_aired, is_of_event}
 use Rattle.journal_sending.proofs.run_model.Fates.{turns_are}
 use Rattle.journal_sending.proofs.run_model.LinkEnds.{AreTaken, IsUnderstood}
 use Rattle.journal_sending.proofs.run_model.Stations.{is_in}
-use Rattle.journal_sending.proofs.run_model.Walk.{AtPackets, NoTurn, Place}
+use Rattle.journal_sending.proofs.run_model.Walk.{AtPackets, NoTurn}
 use Rattle.journal_anchors.specs.Anchors.{NoEventIsMissed, NoEventsAreMissed}
 use Rattle.journal_anchors.proofs.RunPlaces.{IsBetween, IsToSend, place_of_end, place_of_packet, place_of_turn}
 

@@ -2,7 +2,6 @@
 -- run, before each turn, and at its end.
 use Rattle.std.proofs.Common.{◌≡◌, ℕ, Bool, List, ◌∷◌, ◌++◌}
 use Rattle.journal_sending.specs.controller_model.Facts.{Sends}
-use Rattle.journal_sending.specs.run_model.Feeding.{AreDistinct}
 use Rattle.journal_sending.specs.run_model.History.{Event, Hearing, Transmitted, TurnBegan}
 use Rattle.journal_sending.specs.run_model.LinkEnds.{HaveAddresses}
 use Rattle.journal_sending.specs.run_model.Run.{Given, GoesOn, Stop, Stops, history_of, run_of, setup_at, use_at}

@@ -158,7 +158,7 @@ host_notes setup facts (KeyAnswered key slot) by_host = refl
 host_notes setup facts (Disconnected reason slot) by_host = refl
 host_notes setup facts other by_host = absurd by_host
 
-ends_moved : (step : ControlStep) (control : Control) → ((c : Control) → (moved step c).ends ≡ c.ends) → (control_after step control).ends ≡ control.ends
+pub ends_moved : (step : ControlStep) (control : Control) → ((c : Control) → (moved step c).ends ≡ c.ends) → (control_after step control).ends ≡ control.ends
 ends_moved step control keeps = by (is_none control.ends)
   where
     by : (goes_on : Bool) → (if goes_on then moved step control else control).ends ≡ control.ends

@@ -5,10 +5,10 @@ pub mod RequestsHeard
 mod ConnectLines
 mod SettingsHeld
 mod SettingsRead
-mod LinkedAddresses
+pub mod LinkedAddresses
 mod OffersMade
 mod BothKept
-mod PeripheralNotes
+pub mod PeripheralNotes
 mod ConnectsTaken
 mod ConnectsAwaited
 mod HeardTaken

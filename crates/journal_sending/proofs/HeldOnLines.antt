@@ -35,7 +35,7 @@ lines_by number lines facts held waiting booked same = record {
   sent = booked.sent ∙ ap (λ (pdus : List Pdu). pdu_lines number 1 (nonempty is_empty pdus)) same.sent;
 }
 
-octets_are : (number : ℕ) (lines : Lines) (facts : Facts) → IsOnLines number lines facts → octets_sent number lines ≡ length (sent_data facts.acknowledgement)
+pub octets_are : (number : ℕ) (lines : Lines) (facts : Facts) → IsOnLines number lines facts → octets_sent number lines ≡ length (sent_data facts.acknowledgement)
 octets_are number lines facts is =
     let pdus = facts.acknowledgement.sent in
     ap (λ (all : List PduLine). length (data_of_lines all)) is.sent ∙ ap length (lines_data number 1 (nonempty is_empty pdus) ∙ data_nonempty pdus)

@@ -2,7 +2,7 @@
 pub mod NextPieces
 pub mod SameData
 pub mod HeldOnLines
-mod AckedNext
+pub mod AckedNext
 pub mod SendsNext
 pub mod SendingEnds
 mod SentNotes

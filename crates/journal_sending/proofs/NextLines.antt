@@ -103,7 +103,7 @@ record IsCalledAt (given : Given) (station : ℕ) (history rest : List Event) (e
   submitted : (lines_at station (history ++ Called station step ∷ map (Noted station) earlier)).submitted ≡ (lines_at station history).submitted
   sent : (lines_at station (history ++ Called station step ∷ map (Noted station) earlier)).sent ≡ (lines_at station history).sent
 
-same_lines : (number : ℕ) (before now : Lines) (held : EndFacts) → now.submitted ≡ before.submitted → now.sent ≡ before.sent → IsOnLines number before held → IsOnLines number now held
+pub same_lines : (number : ℕ) (before now : Lines) (held : EndFacts) → now.submitted ≡ before.submitted → now.sent ≡ before.sent → IsOnLines number before held → IsOnLines number now held
 same_lines number before now held submitted sent is = record {
   given = (λ i. data_on number (record before { submitted = submitted i })) ∙ is.given;
   sent = ap (pdus_on number) sent ∙ is.sent;
@@ -257,7 +257,7 @@ module _ (whole : IsHeardWhole) (given : Given) (Q : Place → List Event → Ty
 -- ---- a line
 
 -- a note that sends none leaves the PDUs that are sent
-sending_leaves : (lines : Lines) (side : Side) (link_of : ℕ → ℕ) (last : ℕ) (note : Note) → is_sending note ≡ false
+pub sending_leaves : (lines : Lines) (side : Side) (link_of : ℕ → ℕ) (last : ℕ) (note : Note) → is_sending note ≡ false
     → (line_after 8 lines (entry_of side link_of last note)).sent ≡ lines.sent
 sending_leaves lines side link_of last (SentNote handle number llid body) none = absurd cc
 sending_leaves lines side link_of last (UpNote packet) none = refl
