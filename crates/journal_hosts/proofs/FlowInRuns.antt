@@ -247,7 +247,7 @@ piece_cut (piece ∷ pieces) (one ∷ front) rest note is =
     }
 
 -- no other call gives one
-abbrev IsNoData : Note → Type 0
+abbrev pub IsNoData : Note → Type 0
 IsNoData (UpNote packet) = is_acl_data packet.items ≡ false
 IsNoData note = ⊤
 
@@ -261,11 +261,11 @@ uncounted_none [] are = tt
 uncounted_none (UpNote packet ∷ notes) are = (are.0, uncounted_none notes are.1)
 uncounted_none (note ∷ notes) are = (tt, uncounted_none notes are.1)
 
-abbrev GoesOn : Step → Type 0
+abbrev pub GoesOn : Step → Type 0
 GoesOn TurnEnds = ⊥
 GoesOn step = ⊤
 
-goes_without : (setup : Setup) (facts : Facts) (step : Step) → GoesOn step → AllByRecursion IsNoData (notes_after setup facts step)
+pub goes_without : (setup : Setup) (facts : Facts) (step : Step) → GoesOn step → AllByRecursion IsNoData (notes_after setup facts step)
 goes_without setup facts (HostOctet octet) goes = uncounted_none (notes_after setup facts (HostOctet octet)) (octet_uncounted setup facts octet)
 goes_without setup facts (TurnBegins slot on) goes = no_reports (notes_after setup facts (TurnBegins slot on)) (begun_reports facts setup slot on)
 goes_without setup facts (PacketHeard octets) goes =

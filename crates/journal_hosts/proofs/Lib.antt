@@ -17,3 +17,4 @@ pub mod FlowInRuns
 pub mod FirstPieces
 pub mod NotedPieces
 pub mod PiecesInRuns
+pub mod DataLast

@@ -32,7 +32,7 @@ one_waits = one_taken ++ Up B data_up ∷ Took B 1 2 2 (0xAA ∷ []) ∷ []
 abbrev pub one_returned : List ℕ
 one_returned = 0x01 ∷ 0x35 ∷ 0x0C ∷ 0x05 ∷ 0x01 ∷ 0x00 ∷ 0x00 ∷ 0x01 ∷ 0x00 ∷ []
 
--- the same of the handle 1, which no link has
+-- the same for handle 1, which no link has
 abbrev pub other_returned : List ℕ
 other_returned = 0x01 ∷ 0x35 ∷ 0x0C ∷ 0x05 ∷ 0x01 ∷ 0x01 ∷ 0x00 ∷ 0x01 ∷ 0x00 ∷ []
 

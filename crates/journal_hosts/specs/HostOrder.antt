@@ -1,10 +1,12 @@
 -- The order in which a host receives the data of all links of its side: that in which its side took it (Core 5.2, volume
--- 4 part E, sections 4.2 and 5.4.2; that the links share one order is our choice).
-use Rattle.std.specs.Prelude.{◌≡◌, ℕ, ◌+◌, ◌==◌, Bool, true, List, [], ◌∷◌, ◌++◌, drop, filter, fold, length, not, take, Some, if◌then◌else◌}
+-- 4 part E, sections 4.2 and 5.4.2; that the links share one order is our choice). And when in a turn: as it ends (our
+-- choice).
+use Rattle.std.specs.Prelude.{◌≡◌, ⊤, ℕ, ◌+◌, ◌==◌, Bool, true, List, [], ◌∷◌, ◌++◌, drop, filter, fold, length, not, take, Option, None, Some, if◌then◌else◌}
 use Rattle.ble_base.specs.declared.roles.Side.{Side}
+use Rattle.ble_base.specs.declared.roles.Side.TheVariants.{A, B}
 use Rattle.host_view.specs.Noted.{is_acl_data}
 use Rattle.journal.specs.declared.entries.Entry.{Entry}
-use Rattle.journal.specs.declared.entries.Entry.TheVariants.{Shut, Took, Up}
+use Rattle.journal.specs.declared.entries.Entry.TheVariants.{Turn, Shut, Took, Up}
 use Rattle.journal_data.specs.controller_model.Data.{boundary_of}
 use Rattle.journal_data.specs.link_model.Data.{is_data}
 use Rattle.journal_data.specs.Held.{links_open}
@@ -57,3 +59,31 @@ abbrev pub AllComeInOrder : List Entry → Type 0
 AllComeInOrder journal = (front rest : List Entry) (side : Side) (octets : List ℕ)
     → journal ≡ front ++ Up side octets ∷ rest → is_acl_data octets ≡ true
     → IsOfFirst (waiting_for side front) (links_open side front) octets
+
+-- ---- as a turn ends
+
+-- the side whose host received the last packet of data of the turn that is under way
+abbrev pub handed_after : Option Side → Entry → Option Side
+handed_after last (Turn slot a_on b_on) = None
+handed_after last (Up side octets) = if is_acl_data octets then Some side else last
+handed_after last line = last
+
+abbrev pub last_handed : List Entry → Option Side
+last_handed front = fold handed_after None front
+
+-- A ends its turn first, and then B
+abbrev pub EndsNoEarlier : Side → Side → Type 0
+EndsNoEarlier A side = ⊤
+EndsNoEarlier B A = ⊥
+EndsNoEarlier B B = ⊤
+
+-- what may come after that packet: packets to hosts, links that are shut, and then the next turn
+abbrev pub MayFollowData : Side → Entry → Type 0
+MayFollowData last (Turn slot a_on b_on) = ⊤
+MayFollowData last (Up side octets) = EndsNoEarlier last side
+MayFollowData last (Shut side link reason) = EndsNoEarlier last side
+MayFollowData last line = ⊥
+
+abbrev pub AllDataComesLast : List Entry → Type 0
+AllDataComesLast journal = (front rest : List Entry) (line : Entry) (last : Side)
+    → journal ≡ front ++ line ∷ rest → last_handed front ≡ Some last → MayFollowData last line

@@ -1,12 +1,12 @@
-//! Flow control towards hosts. The body only calls the laws that it rests on: the contract is the
-//! law.
-ghost use Rattle.std.specs.Prelude.{◌≡◌, ℕ, List, length};
+//! Flow control towards hosts, and the order and the time of what they receive. The bodies only call
+//! the laws that they rest on: the contracts are the laws.
+ghost use Rattle.std.specs.Prelude.{◌≡◌, ◌∷◌, [], ℕ, List, length};
 ghost use Rattle.journal_hosts.specs.HostFlow.{KeepsHostFlow};
-ghost use Rattle.journal_hosts.specs.HostOrder.{AllComeInOrder};
+ghost use Rattle.journal_hosts.specs.HostOrder.{AllComeInOrder, AllDataComesLast};
 ghost use Rattle.radio_replay.specs.Script.{Script};
 ghost use Rattle.run_model.specs.Journal.{journal_of};
 ghost use Rattle.run_model.specs.Pair.{given_of};
-ghost use Rattle.run_model.specs.Run.{history_of, run_of};
+ghost use Rattle.run_model.specs.Run.{Given, history_of, run_of};
 
 /// In the journal of a run of a pair, whole or ended by damage, a host that receives a packet of
 /// data while its flow control is on holds fewer packets by then than it has buffers: those that it
@@ -39,3 +39,12 @@ pub fn data_of_all_links_comes_in_one_order()
     scan_init::laws::searches_give_each_valid_address();
     air_frame::laws::packet_tells_its_pdu();
 }
+
+/// In the journal of a run of two stations, with any number of links each, data goes up to a host as
+/// a turn ends: after a packet of data there are, up to the next turn, only packets to hosts and
+/// lines of links that are shut, and after one to the host of B only those of B (when it goes up is
+/// our choice).
+pub fn data_goes_up_as_its_turn_ends()
+    ensures { (given : Given) → given.stations ≡ 0 ∷ 1 ∷ []
+        → AllDataComesLast (journal_of (history_of (run_of given))) }
+{}

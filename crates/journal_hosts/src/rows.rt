@@ -1,15 +1,19 @@
-//! Worked examples: journals that the definitions of credits refuse.
-ghost use Rattle.std.specs.Prelude.{◌≡◌, ◌++◌, [], ◌∷◌, false, true};
-ghost use Rattle.ble_base.specs.declared.roles.Side.TheVariants.{B};
+//! Worked examples: journals that the definitions of credits, flow and order refuse, and right ones.
+ghost use Rattle.std.specs.Prelude.{◌≡◌, ◌++◌, [], ◌∷◌, false, true, None, Some};
+ghost use Rattle.ble_base.specs.declared.roles.Side.TheVariants.{A, B};
 ghost use Rattle.host_answers.specs.Flows.{most_received_on};
 ghost use Rattle.journal.specs.declared.entries.Entry.TheVariants.{Fed, Up};
-ghost use Rattle.run_model.specs.Rows.{reset_answer};
+ghost use Rattle.run_model.specs.Rows.{reset_answer, turn_entry};
 ghost use Rattle.journal_hosts.specs.CreditRows.{data_up};
 ghost use Rattle.journal_hosts.specs.FlowRows.{flow_turned_on, long_up, one_returned, one_taken};
 ghost use Rattle.journal_hosts.specs.FlowRows.{one_waits, other_returned};
 ghost use Rattle.journal_hosts.specs.HostFlow.{AllCanBeTaken, AllFitHostBuffers};
-ghost use Rattle.journal_hosts.specs.HostOrder.{AllComeInOrder, IsOfFirst, waiting_for};
-ghost use Rattle.journal_hosts.specs.OrderRows.{both_up, first_shut, second_as_start, second_up, two_take};
+ghost use Rattle.journal_hosts.specs.HostOrder.{AllComeInOrder, AllDataComesLast};
+ghost use Rattle.journal_hosts.specs.HostOrder.{IsOfFirst, last_handed, waiting_for};
+ghost use Rattle.journal_hosts.specs.OrderRows.{a_after_b, a_ends, both_end, both_up};
+ghost use Rattle.journal_hosts.specs.OrderRows.{first_shut, next_begins, packet_after_data};
+ghost use Rattle.journal_hosts.specs.OrderRows.{second_as_start, second_up, taken_after_data};
+ghost use Rattle.journal_hosts.specs.OrderRows.{two_take};
 ghost use Rattle.journal_data.specs.Held.{links_open};
 ghost use Rattle.journal_hosts.specs.HostFlow.{is_host_full, outstanding_on, waiting_on};
 ghost use Rattle.journal_hosts.specs.CreditRows.{after_the_other, before_data, before_packet};
@@ -96,4 +100,21 @@ pub fn wrong_orders_of_data_are_refused()
     ensures start { AllComeInOrder (first_shut ++ Up B second_as_start ∷ []) → ⊥ }
     ensures shut { AllComeInOrder (first_shut ++ Up B data_up ∷ []) → ⊥ }
     ensures nothing { AllComeInOrder (both_up ++ Up B data_up ∷ []) → ⊥ }
+{}
+
+/// Where both hosts receive data in a turn, A ends it first, here with a credit, and then B, which
+/// shuts a link here. After the next `turn` line no host has received any yet.
+pub fn worked_ends_of_turns()
+    ensures a { last_handed a_ends ≡ Some A }
+    ensures b { last_handed both_end ≡ Some B }
+    ensures turn { last_handed (both_end ++ turn_entry 4 ∷ []) ≡ None }
+    ensures right { AllDataComesLast next_begins }
+{}
+
+/// After data for a host no packet is on the air in that turn and no PDU is taken, and A does not
+/// end its turn after B.
+pub fn lines_after_data_are_refused()
+    ensures packet { AllDataComesLast packet_after_data → ⊥ }
+    ensures taken { AllDataComesLast taken_after_data → ⊥ }
+    ensures earlier { AllDataComesLast a_after_b → ⊥ }
 {}

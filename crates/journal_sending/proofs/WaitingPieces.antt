@@ -71,7 +71,7 @@ up_lines handle link (note ∷ since) =
 
 -- ---- pieces by handle
 
--- how many of these pieces are under so many handles from one on
+-- how many of these pieces are under handles of a range
 abbrev pieces_from : List (ℕ × Piece) → ℕ → ℕ → ℕ
 pieces_from received first zero = 0
 pieces_from received first (suc more) = length (filter (is_piece_on first) received) + pieces_from received (first + 1) more

@@ -24,9 +24,9 @@ pub use crate::taking::each_pdu_is_taken_at_once;
 pub use journal_due::each_line_of_a_procedure_is_where_it_is_due;
 pub use journal_hosts::{
     credits_of_a_turn_are_in_the_order_of_handles, data_fits_the_buffers_of_its_host,
-    data_of_all_links_comes_in_one_order, each_command_is_answered, each_credit_is_of_some_packets,
-    each_early_credit_is_of_one_packet, each_late_credit_comes_as_its_turn_ends,
-    each_late_end_is_reported_at_once,
+    data_goes_up_as_its_turn_ends, data_of_all_links_comes_in_one_order, each_command_is_answered,
+    each_credit_is_of_some_packets, each_early_credit_is_of_one_packet,
+    each_late_credit_comes_as_its_turn_ends, each_late_end_is_reported_at_once,
 };
 pub use journal_leaving::{
     a_pdu_is_understood, data_arrives_in_order_in_every_journal, each_enter_line_is_at_its_anchor,
