@@ -10,6 +10,7 @@ mod SaidDoings
 mod SaidSteps
 mod KeptDoings
 mod HearsAs
+mod HeardPackets
 mod OwedMoves
 mod RunMoves
 mod ForgedRests
@@ -22,3 +23,5 @@ mod FarAnswers
 mod HearingPlaces
 mod TakingCalls
 mod KnownCalls
+-- what the crates above use of those below
+pub use Rattle.journal_wants.proofs as journal_wants

@@ -1,39 +1,37 @@
 -- In the journal of a run of two stations each packet is what its side is to send next by the lines before it, and
 -- before each turn neither side is to send anything more.
-use Rattle.std.proofs.Common.{◌≡◌, ◌≢◌, ◌⊎◌, inl, inr, ℕ, zero, suc, ◌==◌, ◌&&◌, ◌||◌, Bool, true, false, not, Option, Some, None, List, [], ◌∷◌, ◌++◌, cond, refl, sym, ap, subst, ◌∙◌, arith}
-use Rattle.std.specs.Prelude.{is_some, nat_lt}
+use Rattle.std.proofs.Common.{◌≡◌, ◌≢◌, ◌⊎◌, inl, inr, ℕ, ◌==◌, ◌&&◌, ◌||◌, Bool, true, false, not, Option, Some, None, List, [], ◌∷◌, ◌++◌, cond, refl, sym, ap, subst, ◌∙◌, arith, if◌then◌else◌}
+use Rattle.std.specs.Prelude.{is_some, nat_lt, take}
 use Rattle.std.specs.Option.{option_and_then}
-use Rattle.std.proofs.lemmas.Bool.{eqb-true}
 use Rattle.ble_base.specs.declared.roles.Side.{Side}
 use Rattle.ble_base.specs.declared.roles.Side.TheVariants.{A, B}
 use Rattle.ble_base.specs.declared.verdicts.Verdict.TheVariants.{Missed}
-use Rattle.adv_pdu.specs.declared.pdu.AdvPdu.{AdvPdu}
 use Rattle.journal.specs.declared.entries.Entry.TheVariants.{Turn}
 use Rattle.radio_replay.specs.Damage.{damaged_packet}
 use Rattle.radio_replay.specs.declared.fates.Fate.{Fate}
 use Rattle.journal_wants.specs.controller_model.declared.doing.Doing.{Doing}
 use Rattle.journal_wants.specs.controller_model.declared.doing.Doing.TheVariants.{Advertises, AwaitsRequest, AwaitsResponse, CentralListens, CentralSends, Connects, Initiates, PeripheralListens, PeripheralSends, Requests, Responds, Rests, Scans}
 use Rattle.journal_wants.specs.controller_model.Entering.{HasEntered, IsInEvent}
-use Rattle.journal_wants.specs.controller_model.Facts.{Facts, Idle, Listens, Sends, Use}
-use Rattle.journal_wants.specs.controller_model.Packets.{advertisement_sent, channel_listened, connect_sent, listens_on, request_sent, response_sent, sends_on, sends_pdu, use_for, use_of}
-use Rattle.journal_wants.specs.controller_model.open_links.OpenLinks.{OpenLink, facts_in, link_at}
+use Rattle.journal_wants.specs.controller_model.Facts.{Facts, Idle, Listens, Sends}
+use Rattle.journal_wants.specs.controller_model.Packets.{advertisement_sent, channel_listened, connect_sent, listens_on, request_sent, response_sent, use_for, use_of, verdict_advertising, verdict_doing, verdict_of, verdict_of_link}
+use Rattle.journal_wants.specs.controller_model.open_links.OpenLinks.{OpenLink, facts_in, link_after, link_at}
 use Rattle.journal_wants.specs.journal_acks.Carried.{channel_entered}
 use Rattle.journal_wants.specs.journal_controls.journal_ends.Asked.{Words}
 use Rattle.journal_wants.specs.journal_data.Held.{links_open}
 use Rattle.journal_wants.specs.journal_data.HostLines.{link_under}
 use Rattle.journal_wants.specs.journal_sending.journal_fixing.OnLines.{kept_or}
-use Rattle.journal_wants.specs.run_model.Due.{Each, packet_in}
+use Rattle.journal_wants.specs.run_model.Due.{Each, IsPacketDue, packet_in}
 use Rattle.journal_wants.specs.run_model.Feeding.{AreDistinct}
 use Rattle.journal_wants.specs.run_model.History.{Event, Hearing, Transmitted, TurnBegan, fates_used, packet_received, past_of, turns_begun}
-use Rattle.journal_wants.specs.run_model.Journal.{journal_of, side_of}
+use Rattle.journal_wants.specs.run_model.Journal.{journal_of, mark_of, side_of}
 use Rattle.journal_wants.specs.run_model.LinkEnds.{HaveAddresses}
-use Rattle.journal_wants.specs.run_model.Links.{links_of}
-use Rattle.journal_wants.specs.run_model.Run.{Given, GoesOn, Stop, Stops, facts_at, fate_at, history_of, is_lost, reaches, run_of, setup_at, use_at, verdict_where}
+use Rattle.journal_wants.specs.run_model.Links.{is_advertising, links_of}
+use Rattle.journal_wants.specs.run_model.Run.{Given, GoesOn, Stop, Stops, facts_at, fate_at, hearing_at, history_of, reaches, run_of, setup_at, use_at, verdict_where}
 use Rattle.journal_wants.specs.Station.{Setups, station_deciding}
 use Rattle.journal_wants.proofs.HostSet.{IsSetAs}
 use Rattle.journal_wants.proofs.RunStations.{doing_begun}
 use Rattle.journal_wants.proofs.controller_model.Exchanges.{always_in_event}
-use Rattle.journal_wants.proofs.journal_acks.Counting.{AreKnown}
+use Rattle.journal_wants.proofs.journal_acks.Counting.{AreKnown, one_begun}
 use Rattle.journal_wants.proofs.journal_acks.EntryLines.{channel_read}
 use Rattle.journal_wants.proofs.journal_acks.EntryNotes.{channel_if}
 use Rattle.journal_wants.proofs.journal_acks.Exchanging.{number_at}
@@ -58,7 +56,7 @@ use Rattle.journal_wants.proofs.run_model.Places.{each_at}
 use Rattle.journal_wants.proofs.run_model.Stations.{among, is_in, not_before}
 use Rattle.journal_wants.proofs.run_model.Walk.{AtPackets, IsKept, NoTurn}
 use Rattle.journal_moves.specs.Doing.{after_sending, doing_kept, doing_on}
-use Rattle.journal_moves.specs.Moves.{AllHeardAreListenedFor, AllOwedAreSent, AllPacketsAreOwed, IsListenedFor, IsOwed, IsPacketOf, NothingIsOwed, channel_listening, channel_under, phase_listening, phase_sending, sends_before}
+use Rattle.journal_moves.specs.Moves.{AllAwaitedAreHeard, AllHeardAreListenedFor, AllOwedAreSent, AllPacketsAreOwed, IsAwaited, IsListenedFor, IsOwed, IsPacketOf, NothingIsOwed, channel_listening, channel_under, link_carrying, link_listening, phase_listening, phase_sending, sends_before}
 use Rattle.journal_moves.proofs.DoingPhases.{IsDoing, IsPhase, doing_at}
 use Rattle.journal_moves.proofs.KeptDoings.{saying_kept}
 use Rattle.journal_moves.proofs.OwedPackets.{packet_of}
@@ -67,6 +65,15 @@ use Rattle.journal_moves.proofs.Ready.{sends_some, silent_rests}
 use Rattle.journal_anchors.proofs.RunPlaces.{IsToSend}
 use Rattle.journal_moves.proofs.SaidDoings.{AreSaying, HasForged, HasHeard, HasSent, IsFirstKnown, IsInPhase, IsKnown, Waits, said_or, sender_said}
 use Rattle.journal_moves.proofs.SaidLines.{begun_at, said_at}
+use Rattle.journal.specs.declared.entries.Mark.TheVariants.{Pass as Passed}
+use Rattle.adv_pdu.specs.declared.pdu.ConnectFields.{ConnectFields}
+use Rattle.air_frame.specs.Packet.{access_octets}
+use Rattle.journal_wants.specs.controller_model.link_model.Step.{PacketSent}
+use Rattle.journal_wants.specs.journal_packets.Belonging.{link_of_packet}
+use Rattle.journal_wants.specs.journal_packets.Senders.{IsOfSendersLink}
+use Rattle.journal_wants.proofs.journal_acks.run_laws.OwnLinks.{sent_begins}
+use Rattle.journal_wants.proofs.run_model.LinkEnds.{wanted_is}
+use Rattle.journal_moves.proofs.HeardPackets.{begins_so, channel_same, heard_where, last_channel, link_heard_not, listening_is, not_missed, not_missed_advertising, not_missed_end, pdu_heard_not, sender_deaf, sent_later}
 
 -- ---- the order of two packets in one phase
 
@@ -111,76 +118,12 @@ sent_none other = refl
 none_before : (one other : Side) (phase two : Option ℕ) → phase ≡ None → sends_before one other phase two ≡ false
 none_before one other phase two is = ap (λ p. sends_before one other p two) is
 
--- ---- who listens
-
-pdu_heard_not : (own channel : ℕ) (pdu : Option AdvPdu) (X : Type 0) → sends_pdu own pdu ≡ Listens channel → X
-pdu_heard_not own channel None X is = absurd (let h : Idle ≡ Listens channel = is in absurd cc)
-pdu_heard_not own channel (Some pdu) X is = absurd cc
-
-link_heard_not : (place : Option OpenLink) (channel : ℕ) (X : Type 0) → sends_on place ≡ Listens channel → X
-link_heard_not None channel X is = absurd (let h : Idle ≡ Listens channel = is in absurd cc)
-link_heard_not (Some link) channel X is = absurd cc
-
--- a packet that is not missed was listened for on its channel
-not_missed : (wanted : Use) (fate : Fate) (channel : ℕ) (facts : Facts) (octets : List ℕ)
-    → verdict_where (reaches fate channel (channel_listened wanted)) facts octets ≢ Missed → wanted ≡ Listens channel
-not_missed (Sends own sent) fate channel facts octets heard = absurd (heard refl)
-not_missed Idle fate channel facts octets heard = absurd (heard refl)
-not_missed (Listens own) fate channel facts octets heard = by (not (is_lost fate)) (own == channel) refl heard
-  where
-    by : (left same : Bool) → (own == channel) ≡ same → verdict_where (left && same) facts octets ≢ Missed
-        → Listens own ≡ Listens channel
-    by true true same heard = ap Listens (eqb-true own channel same)
-    by true false same heard = absurd (heard refl)
-    by false same is heard = absurd (heard refl)
-
--- who sends listens for nothing
-sender_deaf : (doing : Doing) (base : Facts) (channel : ℕ) → use_for base doing ≡ Listens channel
-    → phase_sending doing ≡ None
-sender_deaf (Advertises own) base channel is = pdu_heard_not own channel (advertisement_sent base) _ is
-sender_deaf (Responds own) base channel is = pdu_heard_not own channel (response_sent base) _ is
-sender_deaf (Requests own advertiser) base channel is = pdu_heard_not own channel (request_sent advertiser base) _ is
-sender_deaf (Connects own link) base channel is = pdu_heard_not own channel (connect_sent link) _ is
-sender_deaf (CentralSends handle) base channel is = link_heard_not (link_at handle base.links) channel _ is
-sender_deaf (PeripheralSends handle) base channel is = link_heard_not (link_at handle base.links) channel _ is
-sender_deaf (Scans own) base channel is = refl
-sender_deaf (Initiates own) base channel is = refl
-sender_deaf (PeripheralListens handle) base channel is = refl
-sender_deaf (AwaitsRequest own) base channel is = refl
-sender_deaf (CentralListens handle) base channel is = refl
-sender_deaf (AwaitsResponse own) base channel is = refl
-sender_deaf Rests base channel is = refl
-
-listening_is : (phases : ℕ) (doing : Doing) (base : Facts) (channel : ℕ) → use_for base doing ≡ Listens channel
-    → IsPhase phases (phase_of doing)
-    → phase_listening doing ≡ Some phases
-listening_is phases (Scans own) base channel listens is = ap Some is
-listening_is phases (Initiates own) base channel listens is = ap Some is
-listening_is phases (PeripheralListens handle) base channel listens is = ap Some is
-listening_is phases (AwaitsRequest own) base channel listens is = ap Some is
-listening_is phases (CentralListens handle) base channel listens is = ap Some is
-listening_is phases (AwaitsResponse own) base channel listens is = ap Some is
-listening_is phases Rests base channel listens is = absurd (let h : Idle ≡ Listens channel = listens in absurd cc)
-listening_is phases (Advertises own) base channel listens is =
-    pdu_heard_not own channel (advertisement_sent base) _ listens
-listening_is phases (Responds own) base channel listens is = pdu_heard_not own channel (response_sent base) _ listens
-listening_is phases (Requests own advertiser) base channel listens is =
-    pdu_heard_not own channel (request_sent advertiser base) _ listens
-listening_is phases (Connects own link) base channel listens is =
-    pdu_heard_not own channel (connect_sent link) _ listens
-listening_is phases (CentralSends handle) base channel listens is =
-    link_heard_not (link_at handle base.links) channel _ listens
-listening_is phases (PeripheralSends handle) base channel listens is =
-    link_heard_not (link_at handle base.links) channel _ listens
+-- ---- who sends
 
 some_phase : (phases : ℕ) (sending : Option ℕ) → IsPhase phases sending → is_some sending ≡ true
     → sending ≡ Some phases
 some_phase phases None is some = absurd (let h : false ≡ true = some in absurd cc)
 some_phase phases (Some phase) is some = ap Some is
-
-last_channel : (count channel : ℕ) → nat_lt 0 count ≡ true → channel_if count channel ≡ Some channel
-last_channel zero channel none = absurd cc
-last_channel (suc count) channel some = refl
 
 -- the station of two whose packet comes while the other one is still to come
 no_more : (xs : List ℕ) (x : ℕ) (ys : List ℕ) (X : Type 0) → [] ≡ xs ++ x ∷ ys → X
@@ -336,14 +279,40 @@ module _ (words : Words) (setups : Setups) (nth : AreNth) (apart : AreApart) (gi
 
   -- ---- the other side hears it
 
+  abbrev far_facts : Facts
+  far_facts = facts_at given far history
+
+  abbrev far_doing : Doing
+  far_doing = far_facts.turn.doing
+
+  own_phase : phase_sending doing ≡ Some place.phases
+  own_phase =
+      some_phase place.phases (phase_sending doing) (sending_phase place.phases doing (does station in_it).in_phase)
+      (sends_some doing (does station in_it).wants.base channel octets wanted)
+
+  -- what the lines say of the link under a handle
+  far_under : (handle : ℕ) (found : Option OpenLink) → link_at handle far_facts.links ≡ found
+      → link_under handle (links_open (side_of far) (journal_of history))
+      ≡ cond (is_some found) (Some (number_at far handle history)) None
+  far_under handle found at =
+      under_is (setup_at given far).links (lines_at far history).links (numbers_at far history)
+      (is_open far_facts.links) (to_send.lines.are.well far in_far).booked.links handle
+      ∙ ap (λ (place : Option OpenLink). cond (is_some place) (Some (number_at far handle history)) None) at
+
+  -- and of its channel
+  far_channel : AreKnown given (IsBelongingSoFar given) → (handle : ℕ) (link : OpenLink)
+      → link_at handle far_facts.links ≡ Some link
+      → channel_under (side_of far) (journal_of history) handle
+      ≡ channel_if (facts_in link).control.track.entered (facts_in link).event.channel
+  far_channel lines_known handle link at =
+      let here = AtPackets to_send.phases to_send.done (station ∷ to_send.left) in
+      ap (option_and_then (λ one. channel_entered one (side_of far) (journal_of history)))
+      (far_under handle (Some link) at)
+      ∙ channel_read (journal_of history) far (number_at far handle history) link
+      (lines_known.lines here history to_send.lines.counted.known far handle link in_far at)
+
   module _ (lines_known : AreKnown given (IsBelongingSoFar given))
       (listens : use_at given far history ≡ Listens channel) where
-    abbrev far_facts : Facts
-    far_facts = facts_at given far history
-
-    abbrev far_doing : Doing
-    far_doing = far_facts.turn.doing
-
     far_wanted : far_facts.wanted ≡ Listens channel
     unfolding use_of
     far_wanted = listens
@@ -376,16 +345,7 @@ module _ (words : Words) (setups : Setups) (nth : AreNth) (apart : AreApart) (gi
     on_link handle (Some link) at uses entered =
         let one : Listens (facts_in link).event.channel ≡ Listens channel = sym uses ∙ far_wanted in
         let same : (facts_in link).event.channel ≡ channel = cc in
-        let booked = (to_send.lines.are.well far in_far).booked in
-        let here = AtPackets to_send.phases to_send.done (station ∷ to_send.left) in
-        let number = number_at far handle history in
-        let under : link_under handle (links_open (side_of far) (journal_of history)) ≡ Some number =
-        under_is (setup_at given far).links (lines_at far history).links (numbers_at far history)
-        (is_open far_facts.links) booked.links handle
-        ∙ ap (λ (place : Option OpenLink). cond (is_some place) (Some number) None) at in
-        ap (option_and_then (λ one. channel_entered one (side_of far) (journal_of history))) under
-        ∙ channel_read (journal_of history) far number link
-        (lines_known.lines here history to_send.lines.counted.known far handle link in_far at)
+        far_channel lines_known handle link at
         ∙ last_channel (facts_in link).control.track.entered (facts_in link).event.channel entered ∙ ap Some same
 
     on_channel_by : (one : Doing) → far_doing ≡ one
@@ -427,11 +387,6 @@ module _ (words : Words) (setups : Setups) (nth : AreNth) (apart : AreApart) (gi
         link_heard_not (link_at handle (does far in_far).wants.base.links) channel _
         (far_uses (PeripheralSends handle) is)
 
-    own_phase : phase_sending doing ≡ Some place.phases
-    own_phase =
-        some_phase place.phases (phase_sending doing) (sending_phase place.phases doing (does station in_it).in_phase)
-        (sends_some doing (does station in_it).wants.base channel octets wanted)
-
     pub is_listened_for : IsListenedFor words setups (journal_of history) front_side channel
     is_listened_for = record {
       in_phase =
@@ -445,6 +400,164 @@ module _ (words : Words) (setups : Setups) (nth : AreNth) (apart : AreApart) (gi
           (doing_on words setups (sym (side_other station) i) (journal_of history)))
           ∙ ap (channel_listening (side_of far) (journal_of history)) far_is ∙ on_channel_by far_doing refl;
     }
+
+  -- ---- what passes, and is awaited, is heard
+
+  module _ (lines_known : AreKnown given (IsBelongingSoFar given))
+      (awaited : IsAwaited words setups (journal_of history) front_side channel octets) where
+    said_listens : phase_listening (said_or words setups given far history) ≡ Some place.phases
+    said_listens =
+        ap phase_listening (sym (said_is far in_far))
+        ∙ (λ i. phase_listening (doing_on words setups (side_other station i) (journal_of history)))
+        ∙ awaited.listened.in_phase ∙ ap phase_sending own_is ∙ own_phase
+
+    said_same : IsInPhase words setups given place.phases (is_in far place.done)
+        (is_in (other_of far) place.done) far history → said_or words setups given far history ≡ far_doing
+    said_same (Waits none silent (inl same)) = same
+    said_same (Waits none silent (inr stale)) =
+        absurd (let earlier = stale.earlier place.phases said_listens in omega (arith, earlier))
+    said_same (HasSent none sent sends said) =
+        sent_later place.phases far_doing _ (does far in_far).in_phase
+        (sym (ap (λ kept. phase_listening (kept_or kept (begun_at given far history))) said) ∙ said_listens)
+    said_same (HasHeard got_octets got is_far good said) =
+        absurd (let h : true ≡ false = sym is_far ∙ far_out in absurd cc)
+    said_same (HasForged got_octets got is_far silent rests matches) =
+        absurd (let h : true ≡ false = sym is_far ∙ far_out in absurd cc)
+
+    far_same : doing_on words setups (side_of far) (journal_of history) ≡ far_doing
+    far_same = said_is far in_far ∙ said_same (place.saying.says known far in_far)
+
+    on_channel_heard : channel_listening (side_of far) (journal_of history) far_doing ≡ Some channel
+    on_channel_heard =
+        ap (channel_listening (side_of far) (journal_of history)) (sym far_same)
+        ∙ (λ i. channel_listening (side_other station i) (journal_of history)
+        (doing_on words setups (side_other station i) (journal_of history)))
+        ∙ awaited.listened.on_channel
+
+    abbrev carried : Option ℕ
+    carried = link_carrying (journal_of history) front_side channel octets
+
+    on_link_heard : link_listening (side_of far) (journal_of history) far_doing ≡ carried
+    on_link_heard =
+        ap (link_listening (side_of far) (journal_of history)) (sym far_same)
+        ∙ (λ i. link_listening (side_other station i) (journal_of history)
+        (doing_on words setups (side_other station i) (journal_of history)))
+        ∙ awaited.on_link
+
+    sender : is_advertising channel ≡ false → IsOfSendersLink given history station channel octets
+    sender off =
+        lines_known.sends to_send.phases to_send.done to_send.left station history to_send.stations_are
+        to_send.lines.counted.known channel octets to_send.is_wanted off
+
+    abbrev carried_if : Bool → Option ℕ
+    carried_if on = if on then None else link_of_packet (journal_of history) front_side octets
+
+    of_sender : (off : is_advertising channel ≡ false) → carried ≡ Some (number_at station (sender off).handle history)
+    of_sender off = ap carried_if off ∙ (sender off).belongs
+
+    of_none : None ≡ carried → is_advertising channel ≡ true
+    of_none none = by (is_advertising channel) refl
+      where
+        by : (on : Bool) → is_advertising channel ≡ on → is_advertising channel ≡ true
+        by true is = is
+        by false off =
+            absurd (let h : None ≡ Some (number_at station (sender off).handle history) = none ∙ of_sender off in
+            absurd cc)
+
+    abbrev Hears : Type 0
+    Hears = (use_at given far history ≡ Listens channel) × (verdict_of far_facts octets ≢ Missed)
+
+    judged : (one : Doing) → far_doing ≡ one → verdict_of far_facts octets ≡ verdict_doing far_facts.links one octets
+    unfolding verdict_of
+    judged one is = ap (λ (d : Doing). verdict_doing far_facts.links d octets) is
+
+    used_for : (one : Doing) → far_doing ≡ one → use_at given far history ≡ use_for (does far in_far).wants.base one
+    used_for one is =
+        sym (wanted_is given far history) ∙ (does far in_far).wants.wanted
+        ∙ ap (use_for (does far in_far).wants.base) is
+
+    hears_open : (due : ℕ) → use_at given far history ≡ Listens due
+        → verdict_of far_facts octets ≡ verdict_advertising due octets
+        → Some due ≡ Some channel → None ≡ carried → Hears
+    hears_open due uses judges on none =
+        let same : due ≡ channel = cc in (
+          uses ∙ ap Listens same,
+          subst (λ v. v ≢ Missed) (sym judges)
+              (not_missed_advertising due octets
+              (begins_so (station_deciding words setups front_side (journal_of history)) (journal_of history) front_side
+              channel octets (of_none none) doing
+              (packet_of nth apart given are_two six history station channel octets to_send
+              (station_deciding words setups front_side (journal_of history)) set doing refl))),
+        )
+
+    hears_link : (handle : ℕ) (found : Option OpenLink) → link_at handle far_facts.links ≡ found
+        → use_at given far history ≡ listens_on found
+        → verdict_of far_facts octets ≡ verdict_of_link found octets
+        → channel_under (side_of far) (journal_of history) handle ≡ Some channel
+        → link_under handle (links_open (side_of far) (journal_of history)) ≡ carried → Hears
+    hears_link handle None at uses judges on one = absurd (
+        let h : None ≡ Some channel =
+        sym (ap (option_and_then (λ number. channel_entered number (side_of far) (journal_of history)))
+        (far_under handle None at)) ∙ on in
+        absurd cc
+        )
+    hears_link handle (Some link) at uses judges on one =
+        (uses ∙ ap Listens channel_is, subst (λ v. v ≢ Missed) (sym judges) (by (is_advertising channel) refl))
+      where
+        number : Some (number_at far handle history) ≡ carried
+        number = sym (far_under handle (Some link) at) ∙ one
+
+        channel_is : (facts_in link).event.channel ≡ channel
+        channel_is = channel_same (facts_in link).control.track.entered (facts_in link).event.channel channel
+            (sym (far_channel lines_known handle link at) ∙ on)
+
+        by : (advertising : Bool) → is_advertising channel ≡ advertising
+            → verdict_of_link (Some link) octets ≢ Missed
+        by true is =
+            absurd (let h : Some (number_at far handle history) ≡ None = number ∙ ap carried_if is in absurd cc)
+        by false off =
+            let own = sender off in
+            let here = AtPackets to_send.phases to_send.done (station ∷ to_send.left) in
+            let both : Some (number_at station own.handle history) ≡ Some (number_at far handle history) =
+            sym (of_sender off) ∙ sym number in
+            let same : number_at station own.handle history ≡ number_at far handle history = cc in
+            let begun = one_begun history (number_at station own.handle history) (number_at far handle history)
+            station far (link_after (PacketSent own.slot) own.link) link same
+            (lines_known.begun here history to_send.lines.counted.known station own.handle
+            (link_after (PacketSent own.slot) own.link) in_it own.is_open)
+            (lines_known.begun here history to_send.lines.counted.known far handle link in_far at) in
+            not_missed_end link.setup (facts_in link) octets
+            (ap (take 4) own.packet ∙ sent_begins own.link.setup (facts_in own.link)
+            ∙ ap (λ (fields : ConnectFields). access_octets fields.access) begun.fields)
+
+    hears_by : (one : Doing) → far_doing ≡ one
+        → channel_listening (side_of far) (journal_of history) one ≡ Some channel
+        → link_listening (side_of far) (journal_of history) one ≡ carried → Hears
+    hears_by (Scans due) is on none = hears_open due (used_for (Scans due) is) (judged (Scans due) is) on none
+    hears_by (Initiates due) is on none =
+        hears_open due (used_for (Initiates due) is) (judged (Initiates due) is) on none
+    hears_by (AwaitsRequest due) is on none =
+        hears_open due (used_for (AwaitsRequest due) is) (judged (AwaitsRequest due) is) on none
+    hears_by (AwaitsResponse due) is on none =
+        hears_open due (used_for (AwaitsResponse due) is) (judged (AwaitsResponse due) is) on none
+    hears_by (PeripheralListens handle) is on one =
+        hears_link handle (link_at handle far_facts.links) refl
+        (sym (wanted_is given far history)
+        ∙ subst (IsListening far_facts) is (does far in_far).phased.uses.in_turn.listens)
+        (judged (PeripheralListens handle) is) on one
+    hears_by (CentralListens handle) is on one =
+        hears_link handle (link_at handle far_facts.links) refl
+        (sym (wanted_is given far history)
+        ∙ subst (IsListening far_facts) is (does far in_far).phased.uses.in_turn.listens)
+        (judged (CentralListens handle) is) on one
+    hears_by other is on one = absurd (let h : None ≡ Some channel = on in absurd cc)
+
+    pub is_heard : (fate : Fate) → Passed ≡ mark_of fate
+        → verdict_where (reaches fate channel (channel_listened (use_at given far history))) far_facts
+        (damaged_packet fate octets) ≢ Missed
+    is_heard fate passes =
+        let hears = hears_by far_doing refl on_channel_heard on_link_heard in
+        heard_where fate (use_at given far history) channel far_facts octets passes hears.0 hears.1
 
 -- ---- in a run
 
@@ -561,19 +674,43 @@ module _ (words : Words) (setups : Setups) (nth : AreNth) (apart : AreApart) (gi
       (IsSaidToSend words setups given) sees says_first history goes)
       (subst (Each (IsKnown words setups given) []) (ap history_of goes) known) first
 
+  -- what passes, and is awaited at the other station, is heard there
+  heard_at : (before rest : List Event) (station channel : ℕ) (octets : List ℕ) (hearing : Hearing)
+      (others : List Hearing)
+      → history_of (run_of given) ≡ before ++ Transmitted station channel octets (hearing ∷ others) ∷ rest
+      → IsSetAs (station_deciding words setups (side_of station) (journal_of before)) (facts_at given station before)
+      → IsToSend given before station channel octets → AreKnown given (IsBelongingSoFar given)
+      → IsAwaited words setups (journal_of before) (side_of station) channel octets
+      → (fate : Fate) → Passed ≡ mark_of fate
+      → (hearing_at given fate channel octets before (other_of station)).verdict ≢ Missed
+  heard_at before rest station channel octets hearing others at set to_send lines_known awaited =
+      let event = Transmitted station channel octets (hearing ∷ others) in
+      let place = seen_packet given (AreSaying words setups given) keeps (AreSaying words setups given NoTurn)
+      (IsSaidToSend words setups given) sees says_first
+      before rest station channel octets (hearing ∷ others) at in
+      is_heard words setups nth apart given are_two distinct six before station channel octets place
+      (known_before before (event ∷ rest) at)
+      (each_at (IsKnown words setups given)
+      (history_of (run_of given)) before rest event known at).first set to_send lines_known awaited
+
+  -- the one hearing of a packet
+  one_heard : (before : List Event) (station channel : ℕ) (octets : List ℕ) (hearing : Hearing) (others : List Hearing)
+      (due : IsPacketDue given before station channel octets (hearing ∷ others))
+      → IsToSend given before station channel octets
+      → hearing ≡ hearing_of given due.plan.fates station channel octets before
+  one_heard before station channel octets hearing others due place =
+      let in_it = among given.stations place.done place.left station place.stations_are in
+      let hearings : hearing ∷ others ≡ hearing_of given due.plan.fates station channel octets before ∷ [] =
+      due.hearings_are ∙ one_hearing given are_two due.plan.fates station channel octets before in_it in
+      cc
+
   pub heard_are_listened_for : IsSetBefore → AreKnown given (IsBelongingSoFar given)
       → AllHeardAreListenedFor words setups (journal_of (history_of (run_of given)))
   heard_are_listened_for at lines_known = λ front rest side channel octets fate verdict is heard.
       let aired = is_aired given front rest side channel octets fate verdict is in
       let both = at aired.before aired.after aired.station channel octets
       (aired.hearing ∷ aired.others) aired.is_at in
-      let in_it = among given.stations both.1.done both.1.left aired.station both.1.stations_are in
-      let one = one_hearing given are_two aired.is_due.plan.fates aired.station channel octets aired.before in_it in
-      let hearings : aired.hearing ∷ aired.others
-      ≡ hearing_of given aired.is_due.plan.fates aired.station channel octets aired.before ∷ [] =
-      aired.is_due.hearings_are ∙ one in
-      let first : aired.hearing ≡ hearing_of given aired.is_due.plan.fates aired.station channel octets aired.before =
-      cc in
+      let first = one_heard aired.before aired.station channel octets aired.hearing aired.others aired.is_due both.1 in
       let far = other_of aired.station in
       let fate_of = fate_at aired.is_due.plan.fates (fates_used aired.before) in
       let listens = not_missed (use_at given far aired.before) fate_of channel (facts_at given far aired.before)
@@ -583,6 +720,21 @@ module _ (words : Words) (setups : Setups) (nth : AreNth) (apart : AreApart) (gi
       (subst (λ one. IsListenedFor words setups (journal_of aired.before) one channel) (sym aired.side_is)
       (listened_at aired.before aired.after aired.station channel octets aired.hearing aired.others aired.is_at both.0
       both.1 lines_known listens))
+
+  pub awaited_are_heard : IsSetBefore → AreKnown given (IsBelongingSoFar given)
+      → AllAwaitedAreHeard words setups (journal_of (history_of (run_of given)))
+  awaited_are_heard at lines_known = λ front rest side channel octets verdict is awaited missed.
+      let aired = is_aired given front rest side channel octets Passed verdict is in
+      let both = at aired.before aired.after aired.station channel octets
+      (aired.hearing ∷ aired.others) aired.is_at in
+      let first = one_heard aired.before aired.station channel octets aired.hearing aired.others aired.is_due both.1 in
+      heard_at aired.before aired.after aired.station channel octets aired.hearing aired.others aired.is_at both.0
+      both.1 lines_known
+      (subst (λ one. IsAwaited words setups (journal_of aired.before) one channel octets) aired.side_is
+      (subst (λ entries. IsAwaited words setups entries side channel octets) aired.front_is awaited))
+      (fate_at aired.is_due.plan.fates (fates_used aired.before))
+      (aired.fate_is ∙ ap (λ (h : Hearing). mark_of h.fate) first)
+      (sym (ap (λ (h : Hearing). h.verdict) first) ∙ sym aired.verdict_is ∙ missed)
 
   -- each packet in the journal
   pub packets_owed : IsSetBefore → AllPacketsAreOwed words setups (journal_of (history_of (run_of given)))

@@ -19,7 +19,7 @@ use Rattle.journal_wants.proofs.journal_packets.AccessOrder.{AreNth}
 use Rattle.journal_wants.proofs.run_model.LinkEnds.{AreTaken, IsUnderstood}
 use Rattle.journal_moves.specs.Moves.{IsOwed, NothingIsOwed}
 use Rattle.journal_moves.specs.Owed.{MovesAreOwed}
-use Rattle.journal_moves.proofs.OwedMoves.{IsSetBefore, heard_are_listened_for, nothing_owed_at_end, owed_are_sent, owed_at_stop, packets_owed}
+use Rattle.journal_moves.proofs.OwedMoves.{IsSetBefore, awaited_are_heard, heard_are_listened_for, nothing_owed_at_end, owed_are_sent, owed_at_stop, packets_owed}
 use Rattle.journal_moves.proofs.SaidDoings.{IsFirstKnown, IsKnown}
 
 -- what is known before each event is known along the history
@@ -66,6 +66,8 @@ module _ (words : Words) (setups : Setups) (whole : IsHeardWhole) (understood : 
         owed = packets_owed words setups nth apart given are_two distinct six known both;
         sent = owed_are_sent words setups nth apart given are_two distinct six known;
         listened = heard_are_listened_for words setups nth apart given are_two distinct six known both
+            (known_of understood taken nth apart given are_two six);
+        heard = awaited_are_heard words setups nth apart given are_two distinct six known both
             (known_of understood taken nth apart given are_two six);
       }
 

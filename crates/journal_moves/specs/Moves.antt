@@ -1,7 +1,7 @@
 -- Which packets are on the air in a turn, from the lines of a journal alone: in each phase what both sides are to
 -- send, A before B, all of that, and nothing else (Core 5.2, volume 6 part B, sections 4.4.2 to 4.5.1; the phases of
 -- a turn, and who has the radio in it, are our choice).
-use Rattle.std.specs.Prelude.{◌≡◌, ◌≢◌, ℕ, ◌==◌, ◌&&◌, ◌||◌, nat_lt, Bool, true, false, List, ◌∷◌, ◌++◌, Option, Some, None, is_some}
+use Rattle.std.specs.Prelude.{◌≡◌, ◌≢◌, ℕ, ◌==◌, ◌&&◌, ◌||◌, nat_lt, Bool, true, false, List, ◌∷◌, ◌++◌, Option, Some, None, is_some, if◌then◌else◌}
 use Rattle.std.specs.Option.{option_and_then, option_map}
 use Rattle.ble_base.specs.Side.{other_side}
 use Rattle.ble_base.specs.declared.roles.Side.{Side}
@@ -14,6 +14,7 @@ use Rattle.advertise.specs.Advertising.{advertisement}
 use Rattle.journal.specs.declared.entries.Entry.{Entry}
 use Rattle.journal.specs.declared.entries.Entry.TheVariants.{Air, Turn}
 use Rattle.journal.specs.declared.entries.Mark.{Mark}
+use Rattle.journal.specs.declared.entries.Mark.TheVariants.{Pass as Passed}
 use Rattle.journal_wants.specs.controller_model.declared.doing.Doing.{Doing}
 use Rattle.journal_wants.specs.controller_model.declared.doing.Doing.TheVariants.{Advertises, AwaitsRequest, AwaitsResponse, CentralListens, CentralSends, Connects, Initiates, PeripheralListens, PeripheralSends, Requests, Responds, Scans}
 use Rattle.journal_wants.specs.controller_model.Packets.{advertising_packet, connect_sent}
@@ -157,3 +158,29 @@ abbrev pub AllHeardAreListenedFor : Words → Setups → List Entry → Type 0
 AllHeardAreListenedFor words setups journal = (front rest : List Entry) (side : Side) (channel : ℕ) (octets : List ℕ)
     (fate : Mark) (verdict : Verdict) → journal ≡ front ++ Air side channel octets fate verdict ∷ rest
     → verdict ≢ Missed → IsListenedFor words setups front side channel
+
+-- ---- and is heard where somebody does, if it passes
+
+-- the link on which a side listens
+abbrev pub link_listening : Side → List Entry → Doing → Option ℕ
+link_listening side front (PeripheralListens handle) = link_under handle (links_open side front)
+link_listening side front (CentralListens handle) = link_under handle (links_open side front)
+link_listening side front other = None
+
+-- the link of a packet: one on an advertising channel is of none
+abbrev pub link_carrying : List Entry → Side → ℕ → List ℕ → Option ℕ
+link_carrying front side channel octets =
+    if is_advertising channel then None else link_of_packet front side octets
+
+-- a packet of a side that comes after these entries finds the other side listening for it, on its link if it is of one
+pub record IsAwaited (words : Words) (setups : Setups) (front : List Entry) (side : Side) (channel : ℕ)
+    (octets : List ℕ) : Type 0 where
+  pub listened : IsListenedFor words setups front side channel
+  pub on_link : link_listening (other_side side) front (doing_on words setups (other_side side) front)
+      ≡ link_carrying front side channel octets
+
+-- damage may change the access address, so the packet passes
+abbrev pub AllAwaitedAreHeard : Words → Setups → List Entry → Type 0
+AllAwaitedAreHeard words setups journal = (front rest : List Entry) (side : Side) (channel : ℕ) (octets : List ℕ)
+    (verdict : Verdict) → journal ≡ front ++ Air side channel octets Passed verdict ∷ rest
+    → IsAwaited words setups front side channel octets → verdict ≢ Missed

@@ -1,15 +1,16 @@
 -- As a turn ends, nothing is left that waits for the host of a side, or that host is full, by the lines of a run.
 use Rattle.std.proofs.Common.{◌≡◌, ℕ, ◌+◌, ◌==◌, Bool, true, false, List, [], ◌∷◌, ◌++◌, inl, inr, length, refl, sym, ap, subst, ◌∙◌, append_assoc}
-use Rattle.std.specs.Prelude.{◌⊎◌, ⊤, map}
-use Rattle.std.proofs.lemmas.Bool.{eqb-true}
+use Rattle.std.specs.Prelude.{◌⊎◌, ◌&&◌, ⊤, flat_map, map}
+use Rattle.std.proofs.lemmas.Bool.{and_parts, eqb-true}
 use Rattle.acl_banks.specs.declared.pieces.Piece.{Piece}
 use Rattle.ble_base.specs.declared.notes.Note.{Note}
 use Rattle.host_view.specs.Flow.{left_of, outstanding}
+use Rattle.journal_sending.specs.journal_data.open_links.declared.ended.LinkEnded.{LinkEnded}
 use Rattle.journal_sending.specs.journal_data.open_links.Turns.{ending_in}
 use Rattle.journal_sending.specs.controller_model.Data.{event_completed, facts_handed, notes_pieces, pieces_handed}
 use Rattle.journal_sending.specs.controller_model.Events.{notes_of_events}
 use Rattle.journal_sending.specs.controller_model.Facts.{Facts}
-use Rattle.journal_sending.specs.controller_model.Links.{ends_for, notes_leaving}
+use Rattle.journal_sending.specs.controller_model.Links.{ends_for, notes_ended, notes_leaving}
 use Rattle.journal_sending.specs.controller_model.declared.doing.Doing.TheVariants.{Rests}
 use Rattle.journal_sending.specs.controller_model.Packets.{facts_doing}
 use Rattle.journal_sending.specs.controller_model.Side.{facts_of, notes_after}
@@ -22,12 +23,19 @@ use Rattle.journal_sending.specs.journal_data.open_links.Data.{completed_from}
 use Rattle.journal_sending.specs.journal_hosts.HostFlow.{is_host_full}
 use Rattle.journal_sending.specs.run_model.History.{Event, Called, Noted, past_of}
 use Rattle.journal_sending.specs.run_model.Journal.{journal_of, side_of}
+use Rattle.journal_sending.specs.journal_packets.Belonging.{is_side}
+use Rattle.journal_sending.specs.run_model.Readers.{turn_packets}
 use Rattle.journal_sending.specs.run_model.Run.{Given, after_call, facts_at, history_of, run_of, setup_at}
-use Rattle.journal_sending.proofs.run_model.Stations.{in_more_other, in_more_same, is_in}
+use Rattle.journal_sending.proofs.journal_acks.TwoStations.{IsOfTwo, other_is}
+use Rattle.journal_sending.proofs.journal_data.OneCall.{far_side}
+use Rattle.journal_sending.proofs.journal_data.Openness.{AreNot, all_append, handed_not, is_shutting}
+use Rattle.journal_sending.proofs.journal_hosts.QuietTurns.{IsSilent}
+use Rattle.journal_sending.proofs.run_model.Stations.{among, in_more_other, in_more_same, is_in}
 use Rattle.journal_sending.proofs.run_model.Walk.{Place, NoTurn, AtFeeds, AtBegins, AfterPhases, AtPackets, AtListening, AtEnds, IsKept}
 use Rattle.journal_sending.proofs.journal_data.run_laws.Hearings.{other_facts, own_facts}
 use Rattle.journal_pdus.specs.Settled.{was_full}
-use Rattle.journal_pdus.proofs.FullLines.{call_full, call_full_on, now_full}
+use Rattle.journal_pdus.proofs.FullLines.{ShutNoneEarly, call_full, call_full_on, now_full}
+use Rattle.journal_moves.proofs.journal_wants.StillTurns.{none_ends_silent}
 
 -- ---- a call in which a turn ends
 
@@ -39,6 +47,19 @@ IsFullThen given history station =
     ≡ (facts_at given station history).view.flow.acl_count
     → is_host_full (side_of station) (journal_of (history ++ Called station TurnEnds ∷ map (Noted station) (notes_pieces (facts_at given station history)))) ≡ true
 
+-- in a turn in which no packet was on the air, none of these notes shuts a link
+abbrev pub ShutNoneSilent : List Event → List Note → Type 0
+ShutNoneSilent history notes = IsSilent history → AreNot is_shutting notes
+
+none_early : (own : Bool) (history : List Event) (notes : List Note) → ShutNoneSilent history notes
+    → (own && (turn_packets (journal_of history) == 0)) ≡ true → AreNot is_shutting notes
+none_early own history notes none early =
+    none (eqb-true (turn_packets (journal_of history)) 0 (and_parts own (turn_packets (journal_of history) == 0) early).1)
+
+last_not : (first last : List Note) → AreNot is_shutting (first ++ last) → AreNot is_shutting last
+last_not [] last none = none
+last_not (note ∷ first) last none = last_not first last none.1
+
 -- nothing waits for the host of a station, or it is full
 abbrev pub IsHandedOver : Given → ℕ → List Event → Type 0
 IsHandedOver given station history =
@@ -48,12 +69,22 @@ module _ (given : Given) (history : List Event) (station : ℕ) (full : IsFullTh
   abbrev facts : Facts
   facts = facts_at given station history
 
+  abbrev pub reports : List Note
+  reports = notes_of_events facts.view (map event_completed (completed_from 0 facts.links))
+
+  -- what is reported, and notes of links that end, of which there are none where no packet was on the air
+  pub none_reported : (more : List Note) → ShutNoneSilent history more → ShutNoneSilent history (reports ++ more)
+  none_reported more none = λ silent.
+      all_append (λ note. is_shutting note ≡ false) reports more
+      (last_not (notes_pieces facts) reports (handed_not is_shutting (λ octets. refl) facts)) (none silent)
+
   -- after its data and other notes
-  pub left_or_full : (rest : List Note) → (left_of facts.view facts.received ≡ [])
+  pub left_or_full : (rest : List Note) → ShutNoneSilent history rest → (left_of facts.view facts.received ≡ [])
       ⊎ (was_full (side_of station) (journal_of (history ++ Called station TurnEnds ∷ map (Noted station) (notes_pieces facts ++ rest))) ≡ true)
-  left_or_full rest = elim (all_or_full facts.view facts.received (never_more (setup_at given station) (past_of station history))) [
+  left_or_full rest none_shut = elim (all_or_full facts.view facts.received (never_more (setup_at given station) (past_of station history))) [
     | inl none ↦ inl none
-    | inr all ↦ inr (call_full_on (side_of station) station TurnEnds (notes_pieces facts) rest history (now_full (side_of station) _ (full all.0 all.1)))
+    | inr all ↦ inr (call_full_on (side_of station) station TurnEnds (notes_pieces facts) rest history
+        (none_early (is_side (side_of station) (side_of station)) history rest none_shut) (now_full (side_of station) _ (full all.0 all.1)))
   ]
 
   none_left : left_of facts.view facts.received ≡ [] → (facts_at given station (after_call given station TurnEnds history)).received ≡ []
@@ -62,11 +93,14 @@ module _ (given : Given) (history : List Event) (station : ℕ) (full : IsFullTh
       ap (λ (f : Facts). f.received) (own_facts given station TurnEnds history ∙ ap (λ f. facts_doing Rests f) (leaving_is (facts_handed facts)))
       ∙ ap (λ (received : List (ℕ × Piece)). received_shut received ended) none ∙ shut_none ended
 
-  pub over_then : IsHandedOver given station (after_call given station TurnEnds history)
-  over_then =
-      let reports = notes_of_events facts.view (map event_completed (completed_from 0 facts.links)) in
+  pub over_then : (IsSilent history → ends_for ending_in (facts_handed facts) ≡ [])
+      → IsHandedOver given station (after_call given station TurnEnds history)
+  over_then none_ends =
       let leaving = notes_leaving (facts_handed facts) in
-      elim (left_or_full (reports ++ leaving)) [
+      let none_shut = none_reported leaving (λ silent.
+      subst (λ (ended : List LinkEnded). AreNot is_shutting (flat_map (notes_ended (facts_handed facts).view) ended))
+      (sym (none_ends silent)) tt) in
+      elim (left_or_full (reports ++ leaving) none_shut) [
         | inl none ↦ inl (none_left none)
         | inr was ↦ inr (subst (λ notes. was_full (side_of station) (journal_of (history ++ Called station TurnEnds ∷ map (Noted station) notes)) ≡ true)
             (sym (append_assoc (notes_pieces facts) reports leaving)) was)
@@ -88,7 +122,7 @@ HandedAt given station (AfterPhases phases) history = ⊤
 HandedAt given station (AtPackets phases done left) history = ⊤
 HandedAt given station (AtListening phases done left) history = ⊤
 
-module _ (given : Given)
+module _ (given : Given) (are_two : IsOfTwo given)
     (full : (station : ℕ) (before rest : List Event) → history_of (run_of given) ≡ before ++ Called station TurnEnds ∷ rest → IsFullThen given before station) where
   -- at each place that the run comes to
   abbrev pub AreHanded : Place → List Event → Type 0
@@ -99,19 +133,27 @@ module _ (given : Given)
   unfolding facts_of
   handed_first = λ rest at station in_it. inl refl
 
-  end_by : (done : List ℕ) (station : ℕ) (history : List Event) → IsHandedOver given station (after_call given station TurnEnds history)
-      → (other : ℕ) (same : Bool) → (other == station) ≡ same → HandedIf (is_in other done) given other history
+  end_by : (done : List ℕ) (station : ℕ) (history : List Event) → is_in station given.stations ≡ true
+      → IsHandedOver given station (after_call given station TurnEnds history)
+      → (other : ℕ) (same : Bool) → is_in other given.stations ≡ true → (other == station) ≡ same → HandedIf (is_in other done) given other history
       → HandedIf (is_in other (done ++ station ∷ [])) given other (after_call given station TurnEnds history)
-  end_by done station history own other true is handed =
+  end_by done station history in_it own other true in_too is handed =
       subst (λ b. HandedIf b given other (after_call given station TurnEnds history)) (sym (in_more_same other station done is))
       (subst (λ n. IsHandedOver given n (after_call given station TurnEnds history)) (sym (eqb-true other station is)) own)
-  end_by done station history own other false is handed =
+  end_by done station history in_it own other false in_too is handed =
       subst (λ b. HandedIf b given other (after_call given station TurnEnds history)) (sym (in_more_other other station done is)) (by (is_in other done) handed)
     where
+      apart : is_side (side_of station) (side_of other) ≡ false
+      apart = ap (λ n. is_side (side_of station) (side_of n)) (other_is given are_two station other in_it in_too is) ∙ far_side station
+
+      never : ShutNoneEarly (side_of other) station history (notes_after (setup_at given station) (facts_at given station history) TurnEnds)
+      never = λ early.
+          absurd (let h : false ≡ true = ap (λ own. own && (turn_packets (journal_of history) == 0)) (sym apart) ∙ early in absurd cc)
+
       by : (ended : Bool) → HandedIf ended given other history → HandedIf ended given other (after_call given station TurnEnds history)
       by true one = elim one [
         | inl none ↦ inl (ap (λ (f : Facts). f.received) (other_facts given station TurnEnds history other is) ∙ none)
-        | inr was ↦ inr (call_full (side_of other) station TurnEnds (notes_after (setup_at given station) (facts_at given station history) TurnEnds) history was)
+        | inr was ↦ inr (call_full (side_of other) station TurnEnds (notes_after (setup_at given station) (facts_at given station history) TurnEnds) history never was)
       ]
       by false one = tt
 
@@ -132,8 +174,10 @@ module _ (given : Given)
     on_end = λ done left station history are some has rest is other in_it.
         let noted = map (Noted station) (notes_after (setup_at given station) (facts_at given station history) TurnEnds) in
         let at = is ∙ append_assoc history (Called station TurnEnds ∷ noted) rest in
-        end_by done station history (over_then given history station (full station history (noted ++ rest) at))
-        other (other == station) refl (has (Called station TurnEnds ∷ noted ++ rest) at other in_it);
+        end_by done station history (among given.stations done left station are)
+        (over_then given history station (full station history (noted ++ rest) at)
+        (λ silent. none_ends_silent given are_two station history (noted ++ rest) at silent))
+        other (other == station) in_it refl (has (Called station TurnEnds ∷ noted ++ rest) at other in_it);
     on_ended = λ history has rest is station in_it.
         subst (λ b. HandedIf b given station history) in_it (has rest is station in_it);
   }

@@ -66,5 +66,6 @@ without_mixing words mixed a b script journal unmixed is = record {
   sealed = is.sealed;
   host_flow = is.host_flow;
   host_order = is.host_order;
+  data_last = is.data_last;
   arrives = λ front rest at side link none. is.arrives front rest at side link (unmixed link front rest at);
 }

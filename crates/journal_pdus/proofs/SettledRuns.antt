@@ -130,7 +130,7 @@ module _ (whole : IsHeardWhole) (understood : IsUnderstood) (taken : AreTaken) (
     packet = λ phases done left station channel octets history are wanted is. tt;
   }
 
-  sees_handed : IsSeen given (AreHanded given full) (AreHanded given full NoTurn) IsAny
+  sees_handed : IsSeen given (AreHanded given are_two full) (AreHanded given are_two full NoTurn) IsAny
   sees_handed = record { turn = λ history has. has; packet = λ phases done left station channel octets history are wanted has. tt }
 
   pub settled_lines : AllAreSettled (journal_of (history_of (run_of given)))
@@ -140,11 +140,11 @@ module _ (whole : IsHeardWhole) (understood : IsUnderstood) (taken : AreTaken) (
       let at = one.is_at ∙ ap (λ event. one.before ++ event ∷ one.after) turn.is in
       subst AreSettled (sym one.front_is)
       (seen_turn given P run_kept IsSettledIf IsAny sees (known_first given) one.before one.after turn.slot turn.radios at
-      (seen_turn given (AreHanded given full) (handed_kept given full) (AreHanded given full NoTurn) IsAny sees_handed (handed_first given full)
+      (seen_turn given (AreHanded given are_two full) (handed_kept given are_two full) (AreHanded given are_two full NoTurn) IsAny sees_handed (handed_first given are_two full)
       one.before one.after turn.slot turn.radios at (TurnBegan turn.slot turn.radios ∷ one.after) at))
 
   pub settled_last : (history : List Event) → run_of given ≡ GoesOn history → AreSettled (journal_of history)
   settled_last history goes =
       seen_last given P run_kept IsSettledIf IsAny sees (known_first given) history goes
-      (seen_last given (AreHanded given full) (handed_kept given full) (AreHanded given full NoTurn) IsAny sees_handed (handed_first given full) history goes
+      (seen_last given (AreHanded given are_two full) (handed_kept given are_two full) (AreHanded given are_two full NoTurn) IsAny sees_handed (handed_first given are_two full) history goes
       [] (ap (λ run. history_of run) goes ∙ sym (append-nil history)))

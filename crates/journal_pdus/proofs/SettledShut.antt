@@ -1,7 +1,7 @@
 -- Where a link is shut after the packets of a turn, its host has received all that its side took, or could take no more, and is
 -- told of all its packets that are acknowledged.
 use Rattle.std.proofs.Common.{◌≡◌, ℕ, Bool, true, false, nat_lt, Option, Some, None, List, [], ◌∷◌, ◌++◌, inl, inr, refl, sym, ap, subst, ◌∙◌, append_assoc, arith, if◌then◌else◌}
-use Rattle.std.specs.Prelude.{All, map, ⊤}
+use Rattle.std.specs.Prelude.{All, flat_map, map, ⊤}
 use Rattle.std.proofs.lemmas.Bool.Decides.{nat_tests}
 use Rattle.ble_base.specs.declared.error_codes.ErrCode.{ErrCode}
 use Rattle.ble_base.specs.declared.notes.Note.{Note}
@@ -11,11 +11,10 @@ use Rattle.host_view.specs.Flow.{left_of}
 use Rattle.hci_cmd.specs.declared.command.Command.TheVariants.{Reset}
 use Rattle.journal.specs.declared.entries.Entry.{Entry}
 use Rattle.journal.specs.declared.entries.Entry.TheVariants.{Shut}
-use Rattle.journal_sending.specs.controller_model.Data.{event_completed, facts_handed, notes_handed, notes_pieces}
-use Rattle.journal_sending.specs.controller_model.Events.{notes_of_events}
+use Rattle.journal_sending.specs.controller_model.Data.{facts_handed, notes_handed, notes_pieces}
 use Rattle.journal_sending.specs.controller_model.Facts.{Facts}
 use Rattle.journal_sending.specs.controller_model.Host.{commands_accepted_after}
-use Rattle.journal_sending.specs.controller_model.Links.{notes_leaving}
+use Rattle.journal_sending.specs.controller_model.Links.{ends_for, notes_ended, notes_leaving}
 use Rattle.journal_sending.specs.controller_model.Shutting.{IsShut, leaving as shut_leaving, overdue as shut_overdue, reset as shut_reset}
 use Rattle.journal_sending.specs.controller_model.Side.{notes_after}
 use Rattle.journal_sending.specs.controller_model.Since.{data_waiting}
@@ -25,7 +24,9 @@ use Rattle.journal_sending.proofs.journal_data.link_model.Sending.{past_together
 use Rattle.journal_sending.specs.journal_data.link_model.Acknowledgement.{Acknowledgement}
 use Rattle.journal_sending.specs.journal_data.link_model.Facts.{Facts as EndFacts}
 use Rattle.journal_sending.specs.journal_data.link_model.Step.{DataReported}
-use Rattle.journal_sending.specs.journal_data.open_links.Data.{complete_in, completed_from, link_reported}
+use Rattle.journal_sending.specs.journal_data.open_links.Data.{complete_in, link_reported}
+use Rattle.journal_sending.specs.journal_data.open_links.declared.ended.LinkEnded.{LinkEnded}
+use Rattle.journal_sending.specs.journal_data.open_links.Turns.{ending_in}
 use Rattle.journal_sending.specs.journal_data.open_links.OpenLinks.{OpenLink, facts_in, link_after, link_at}
 use Rattle.journal_sending.specs.run_model.Due.{Each}
 use Rattle.journal_sending.specs.run_model.Feeding.{AreDistinct}
@@ -64,13 +65,15 @@ use Rattle.journal_sending.proofs.journal_data.FewLinks.{HaveFewLinks}
 use Rattle.journal_sending.proofs.journal_data.KeptData.{own_numbers}
 use Rattle.journal_sending.proofs.journal_data.Openness.{AreNot, handed_not, is_shutting}
 use Rattle.journal_sending.specs.journal_leaving.Reasons.{packets_passed}
+use Rattle.journal_sending.proofs.journal_hosts.QuietTurns.{IsSilent}
 use Rattle.journal_sending.proofs.journal_leaving.QuietTurns.{in_call_passed, is_early, none_passed, passed_at}
 use Rattle.journal_sending.proofs.journal_leaving.ShutCalls.{handed}
 use Rattle.journal_sending.proofs.journal_leaving.ShutLines.{shut_in}
 use Rattle.journal_pdus.specs.Exchanged.{AllAreSettledAsShut}
 use Rattle.journal_pdus.specs.Settled.{IsSettled, was_full}
-use Rattle.journal_pdus.proofs.HandedUp.{IsFullThen, left_or_full}
+use Rattle.journal_pdus.proofs.HandedUp.{IsFullThen, left_or_full, none_reported, reports}
 use Rattle.journal_pdus.proofs.SettledEnds.{credited_end, received_end}
+use Rattle.journal_moves.proofs.journal_wants.StillTurns.{none_ends_silent}
 use Rattle.journal_sending.proofs.Together.{IsKnownAt, known_first, known_kept}
 
 -- ---- notes of two parts
@@ -90,6 +93,12 @@ in_second kind (one ∷ first) second (other ∷ earlier) note later none is are
     let same : one ≡ other = cc in
     let rest = in_second kind first second earlier note later none.1 is cc in
     record { part = rest.part; earlier_is = λ i. sym same i ∷ rest.earlier_is i; second_is = rest.second_is }
+
+-- among no notes none shuts a link
+shuts_none : (part : List Note) (handle : ℕ) (reason : ErrCode) (later : List Note) → part ++ ShutNote handle reason ∷ later ≡ []
+    → AreNot is_shutting part
+shuts_none [] handle reason later is = absurd cc
+shuts_none (note ∷ part) handle reason later is = absurd cc
 
 -- ---- a link whose complete packets are reported
 
@@ -126,17 +135,19 @@ module _ (given : Given) (few_links : HaveFewLinks given) (eight : (station : �
   called_then notes = history ++ Called station TurnEnds ∷ map (Noted station) notes
 
   -- a link that is shut in the call, before the line of that
-  settled_leaving : IsFullThen given history station → (handle : ℕ) (reason : ErrCode) (link : OpenLink) → link_at handle facts.links ≡ Some link
+  settled_leaving : IsFullThen given history station → (IsSilent history → ends_for ending_in (facts_handed facts) ≡ []) → (handle : ℕ) (reason : ErrCode) (link : OpenLink) → link_at handle facts.links ≡ Some link
       → (earlier later : List Note) → notes_after (setup_at given station) facts TurnEnds ≡ earlier ++ ShutNote handle reason ∷ later
       → IsSettled (number_at station handle history) side (journal_of (called_then earlier))
-  settled_leaving full handle reason link at earlier later are =
+  settled_leaving full none_ends handle reason link at earlier later are =
       let number = number_at station handle history in
       let journal = journal_of (called_then earlier) in
       let reported = link_reported link in
-      let reports = notes_of_events facts.view (map event_completed (completed_from 0 facts.links)) in
       let left = left_of facts.view facts.received in
       let parts = in_second is_shutting (notes_handed facts) (notes_leaving (facts_handed facts)) earlier (ShutNote handle reason) later
       (handed_not is_shutting (λ octets. refl) facts) refl are in
+      let none_shut = none_reported given history station full parts.part (λ silent.
+      shuts_none parts.part handle reason later
+      (sym parts.second_is ∙ ap (λ (ended : List LinkEnded). flat_map (notes_ended (facts_handed facts).view) ended) (none_ends silent))) in
       let none : All SendsNone earlier =
       first_part SendsNone earlier (ShutNote handle reason ∷ later)
       (subst (All SendsNone) are
@@ -145,10 +156,10 @@ module _ (given : Given) (few_links : HaveFewLinks given) (eight : (station : �
       let booked : IsEndBooked number (lines_of 8 side journal) (facts_in reported) (data_waiting handle left) =
       subst (λ notes. IsEndBooked number (lines_at station (called_then notes)) (facts_in reported) (data_waiting handle left)) (sym parts.earlier_is)
       (booked_within given station history (few_links.links station) known.own known.well (eight station) handle link at parts.part (ShutNote handle reason ∷ later) parts.second_is) in record {
-        received = elim (left_or_full given history station full (reports ++ parts.part)) [
+        received = elim (left_or_full given history station full (reports given history station full ++ parts.part) none_shut) [
           | inl waits ↦ inl (received_end number side journal (facts_in reported) (data_waiting handle left) booked (ap (data_waiting handle) waits))
           | inr was ↦ inr (subst (λ notes. was_full side (journal_of (called_then notes)) ≡ true)
-              (sym (parts.earlier_is ∙ append_assoc (notes_pieces facts) reports parts.part)) was)
+              (sym (parts.earlier_is ∙ append_assoc (notes_pieces facts) (reports given history station full) parts.part)) was)
         ];
         credited = credited_end number side journal (facts_in reported) (data_waiting handle left) booked
             (past_together reported.setup reported.past)
@@ -237,6 +248,7 @@ module _ (whole : IsHeardWhole) (understood : IsUnderstood) (taken : AreTaken) (
         let line = shut_line side number reason in
         let station = call.station in
         let facts = facts_at given station call.base in
+        let called = call.called ∙ ap (λ one. call.base ++ Called station one ∷ call.after) ends in
         let own = number_at station call.handle call.base in
         let was = handed facts call.handle link is_open in
         let known =
@@ -244,7 +256,8 @@ module _ (whole : IsHeardWhole) (understood : IsUnderstood) (taken : AreTaken) (
         (each_at (OfCall given (AreKnownEnding given)) (history_of (run_of given)) call.base call.after (Called station step) run_ending call.called) in
         let so : IsSettled own (side_of station) (journal_of (call.base ++ Called station TurnEnds ∷ map (Noted station) call.earlier)) =
         settled_leaving given few_links eight station call.base known
-        (full station call.base call.after (call.called ∙ ap (λ one. call.base ++ Called station one ∷ call.after) ends))
+        (full station call.base call.after called)
+        (λ silent. none_ends_silent given are_two station call.base call.after called silent)
         call.handle reason was.link was.was call.earlier call.later
         (ap (notes_after (setup_at given station) facts) (sym ends) ∙ call.notes_are) in
         to_line given front line call (λ one entries of. IsSettled one of entries)

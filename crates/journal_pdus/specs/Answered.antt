@@ -15,7 +15,7 @@ use Rattle.journal_sending.specs.journal_packets.Belonging.{is_answer}
 
 -- it is judged good, or forged where its integrity code is wrong for the end that hears it. One with a payload of more
 -- octets than that end receives may be broken: an end that does not open what it hears has no room for an integrity code
--- after so many
+-- after this many
 pub data IsHeardAs (most channel : ℕ) (octets : List ℕ) (verdict : Verdict) : Type 0 where
   IsRead : is_handed verdict ≡ true → IsHeardAs most channel octets verdict
   IsTooLong : verdict ≡ Broken → most + 2 < length (pdu_in channel octets) → IsHeardAs most channel octets verdict

@@ -28,7 +28,7 @@ use Rattle.journal_sending.specs.journal_hosts.Credits.{AllCreditsAreOfOne, AllC
 use Rattle.journal_sending.specs.journal_hosts.Credits.{AllEarlyCreditsComeAtOnce, AllLateCreditsComeLast}
 use Rattle.journal_sending.specs.journal_hosts.Ends.{AllLateEndsAreReported}
 use Rattle.journal_sending.specs.journal_hosts.HostFlow.{KeepsHostFlow}
-use Rattle.journal_sending.specs.journal_hosts.HostOrder.{AllComeInOrder}
+use Rattle.journal_sending.specs.journal_hosts.HostOrder.{AllComeInOrder, AllDataComesLast}
 use Rattle.journal_sending.specs.journal_leaving.Reasons.{AllAreShutAs, AllEndInTime, AllStayOpen}
 use Rattle.journal_sending.specs.Resting.{IsAtRest}
 use Rattle.journal_moves.specs.journal_anchors.Anchors.{NoEventIsMissed, NoEventsAreMissed}
@@ -145,6 +145,8 @@ pub record IsLawfulWith (words : Words) (mixed : Mixed) (a b : List ℕ) (script
   pub host_flow : KeepsHostFlow journal
   -- and each packet of data to a host is of the first piece that waits for it, of whichever link
   pub host_order : AllComeInOrder journal
+  -- as its turn ends
+  pub data_last : AllDataComesLast journal
   -- data arrives in order, and is credited only as it is accepted
   pub arrives : AllDataArrives mixed journal
 

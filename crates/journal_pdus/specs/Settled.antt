@@ -5,7 +5,7 @@ use Rattle.ble_base.specs.declared.roles.Side.{Side}
 use Rattle.acl_banks.specs.History.{whole_packets}
 use Rattle.acl_banks.specs.Packets.{Marked}
 use Rattle.journal.specs.declared.entries.Entry.{Entry}
-use Rattle.journal.specs.declared.entries.Entry.TheVariants.{Air, Fed, Turn}
+use Rattle.journal.specs.declared.entries.Entry.TheVariants.{Air, Fed, Shut, Turn}
 use Rattle.journal_sending.specs.journal_acks.Carried.{SentLine, sent_line_of}
 use Rattle.journal_sending.specs.journal_acks.Exchange.{exchange_of}
 use Rattle.journal_sending.specs.journal_data.Delivered.{host_buffers}
@@ -13,25 +13,29 @@ use Rattle.journal_sending.specs.journal_data.HostLines.{OpenUnder}
 use Rattle.journal_sending.specs.journal_data.Lines.{accepted_on, credited_on, data_on, empties_on, lines_of, pdus_on, received_on}
 use Rattle.journal_sending.specs.journal_hosts.HostFlow.{is_host_full}
 use Rattle.journal_sending.specs.journal_packets.Belonging.{is_side}
+use Rattle.journal_sending.specs.run_model.Readers.{turn_packets}
 use Rattle.journal_sending.specs.Outgoing.{data_of_lines}
 
 -- ---- what is handed up
 
--- a turn begins, a packet is on the air, or the host of a side gives octets
-abbrev pub goes_on : Side → Entry → Bool
-goes_on side (Turn slot a_on b_on) = true
-goes_on side (Air sender channel octets fate verdict) = true
-goes_on side (Fed other octets) = is_side other side
-goes_on side line = false
+-- after these lines a turn begins, a packet is on the air, the host of a side gives octets, or a link of it is shut
+-- before the packets of a turn, which makes room in that turn
+abbrev pub goes_on : Side → List Entry → Entry → Bool
+goes_on side front (Turn slot a_on b_on) = true
+goes_on side front (Air sender channel octets fate verdict) = true
+goes_on side front (Fed other octets) = is_side other side
+goes_on side front (Shut other link reason) = is_side other side && (turn_packets front == 0)
+goes_on side front line = false
 
 -- these lines come after `front`
 abbrev pub full_from : Side → List Entry → Bool → List Entry → Bool
 full_from side front full [] = full
 full_from side front full (line ∷ lines) =
-    full_from side (front ++ line ∷ []) ((full && not (goes_on side line)) || is_host_full side (front ++ line ∷ [])) lines
+    full_from side (front ++ line ∷ [])
+    ((full && not (goes_on side front line)) || is_host_full side (front ++ line ∷ [])) lines
 
 -- the host of a side could take no more at one of the lines since such a line, or at that: so as the turn ended. The
--- packets of a link that is shut then count as taken only from then on
+-- packets of a link that is shut as a turn ends count as taken only from then on
 unfoldable pub was_full : Side → List Entry → Bool
 was_full side journal = full_from side [] false journal
 

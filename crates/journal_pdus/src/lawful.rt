@@ -142,6 +142,7 @@ pub fn each_journal_is_lawful()
     journal_sending::each_late_end_is_reported_at_once();
     journal_sending::data_fits_the_buffers_of_its_host();
     journal_sending::data_of_all_links_comes_in_one_order();
+    journal_sending::data_goes_up_as_its_turn_ends();
     journal_hearings::each_request_is_heard();
     journal_hearings::each_heard_link_is_opened();
     journal_hearings::each_opened_link_was_to_open();

@@ -50,7 +50,7 @@ IsResolved station history (EnterNote handle event channel) =
     IsUnderHandle station (history ++ Noted station (EnterNote handle event channel) ∷ []) (number_at station handle history) handle
 IsResolved station history note = ⊤
 
--- the lines say the same of a side but for its radio and what its host has set
+-- what the lines say of a side is equal, but for its radio and what its host has set
 pub record IsInSameTurn (before after : Station) : Type 0 where
   pub served : after.served ≡ before.served
   pub on : after.on ≡ before.on

@@ -33,7 +33,7 @@ use Rattle.journal_wants.proofs.TurnBegun.{HasBegun, turn_same}
 
 -- ---- the links that the lines have under handles
 
--- lines that say the same of open links, of links begun and of events say the same of a link
+-- where lines agree on open links, links begun and events, they agree on a link
 pub linked_same : (words : Words) (side : Side) (one other : List Entry) (handle : ℕ) → links_open side one ≡ links_open side other
     → links_begun one ≡ links_begun other → ((number : ℕ) → event_on words side number one ≡ event_on words side number other)
     → linked_under words side one handle ≡ linked_under words side other handle

@@ -1,11 +1,12 @@
 -- Journals of a host with one buffer, or with two links, that receives what it must not, or does not receive what it must.
 use Rattle.std.specs.Prelude.{List, [], ◌∷◌, ◌++◌}
+use Rattle.ble_base.specs.declared.roles.Role.TheVariants.{Peripheral}
 use Rattle.ble_base.specs.declared.roles.Side.TheVariants.{B}
 use Rattle.journal.specs.declared.entries.Entry.{Entry}
-use Rattle.journal.specs.declared.entries.Entry.TheVariants.{Fed, Took, Up}
+use Rattle.journal.specs.declared.entries.Entry.TheVariants.{Fed, Opened, Shut, Took, Up}
 use Rattle.run_model.specs.Rows.{turn_entry}
-use Rattle.journal_pdus.specs.journal_hosts.CreditRows.{data_up}
-use Rattle.journal_pdus.specs.journal_hosts.FlowRows.{long_up, one_returned, one_taken, one_waits, other_returned}
+use Rattle.journal_pdus.specs.journal_hosts.CreditRows.{data_up, end_report}
+use Rattle.journal_pdus.specs.journal_hosts.FlowRows.{flow_turned_on, long_up, one_returned, one_taken, one_waits, other_returned}
 use Rattle.journal_pdus.specs.journal_hosts.OrderRows.{first_shut, second_up, two_take}
 
 -- its side has taken two PDUs, and it has received one. It returns that one
@@ -43,6 +44,16 @@ kept_back = one_taken ++ turn_entry 1 ∷ []
 -- the second, once it has returned the first
 abbrev pub kept_after_return : List Entry
 kept_after_return = room_again ++ turn_entry 1 ∷ []
+
+-- the packet that waits of the second of two links, once the first one, of which it holds a packet, is shut in a turn
+-- without a packet
+abbrev pub shut_in_turn : List Entry
+shut_in_turn =
+    flow_turned_on ++ Opened B 2 1 Peripheral ∷ Took B 1 1 2 (0xAA ∷ []) ∷ Up B data_up ∷ Took B 2 1 2 (0xAA ∷ [])
+    ∷ turn_entry 1 ∷ Shut B 1 (record { 0 = 0x16 }) ∷ Up B end_report ∷ []
+
+abbrev pub kept_after_shut : List Entry
+kept_after_shut = shut_in_turn ++ turn_entry 2 ∷ []
 
 -- ---- out of order
 

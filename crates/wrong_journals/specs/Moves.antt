@@ -5,9 +5,10 @@ use Rattle.ble_base.specs.declared.verdicts.Verdict.TheVariants.{Good, Missed}
 use Rattle.journal.specs.declared.entries.Entry.{Entry}
 use Rattle.journal.specs.declared.entries.Entry.TheVariants.{Air, Fed, Up}
 use Rattle.journal.specs.declared.entries.Mark.TheVariants.{Lost, Pass}
+use Rattle.journal_pdus.specs.controller_model.Rows.{advertisement_ending}
 use Rattle.journal_pdus.specs.journal_moves.Rows.{advertised, anchor_begins, central_sent}
 use Rattle.journal_pdus.specs.journal_moves.journal_wants.Rows.{asked_once_more}
-use Rattle.run_model.specs.Rows.{answer, connectable_packet, enabling_octets, first_packet, first_reply, turn_entry}
+use Rattle.run_model.specs.Rows.{advertisement_opening, answer, connectable_packet, enabling_octets, first_packet, first_reply, turn_entry}
 
 -- ---- a packet that is to be on the air is not
 
@@ -47,3 +48,12 @@ advertises_twice = advertised ++ Air A 37 connectable_packet Pass Good ∷ []
 
 abbrev pub heard_by_none : List Entry
 heard_by_none = advertiser_asked ++ Air A 37 connectable_packet Pass Good ∷ []
+
+-- ---- a packet passes, and is missed by a side that listens for it
+
+-- B scans on the channel of the advertisement
+abbrev pub scanner_asked : List Entry
+scanner_asked = advertisement_opening []
+
+abbrev pub missed_by_scanner : List Entry
+missed_by_scanner = scanner_asked ++ Air A 37 (advertisement_ending 0xDA) Pass Missed ∷ []

@@ -9,7 +9,8 @@ ghost use Rattle.journal_pdus.specs.Exchanged.{AllAreSettled, AllAreSettledAsShu
 ghost use Rattle.ble_base.specs.declared.roles.Side.TheVariants.{B};
 ghost use Rattle.journal_pdus.specs.journal_hosts.FlowRows.{one_waits};
 ghost use Rattle.journal_pdus.specs.Settled.{IsHandedUp};
-ghost use Rattle.wrong_journals.specs.Flowing.{full_again, kept_after_return, kept_back};
+ghost use Rattle.wrong_journals.specs.Flowing.{full_again, kept_after_return, kept_after_shut};
+ghost use Rattle.wrong_journals.specs.Flowing.{kept_back};
 ghost use Rattle.wrong_journals.specs.Flowing.{returned_elsewhere, returned_twice};
 ghost use Rattle.wrong_journals.specs.Flowing.{second_before_first, up_beyond};
 ghost use Rattle.wrong_journals.specs.Flowing.{up_of_shut_link, up_too_long};
@@ -41,7 +42,8 @@ pub fn wrong_credits_are_refused()
 /// A host with one buffer receives no second packet before it has returned the first; what it
 /// returns makes room once, and only for the link of that handle. It receives no packet that is
 /// longer than its buffer. What waits is handed up before the next turn where it can take one, also
-/// since it returned one in that turn; while it is full, the next packet waits.
+/// since it returned one in that turn, or since a link was shut in a turn without a packet; while it
+/// is full, the next packet waits.
 pub fn wrong_flow_to_a_host_is_refused()
     ensures beyond { AllCanBeTaken up_beyond → ⊥ }
     ensures returned_twice { AllCanBeTaken returned_twice → ⊥ }
@@ -49,6 +51,7 @@ pub fn wrong_flow_to_a_host_is_refused()
     ensures too_long { AllFitHostBuffers up_too_long → ⊥ }
     ensures kept_back { AllAreSettled kept_back → ⊥ }
     ensures after_return { AllAreSettled kept_after_return → ⊥ }
+    ensures after_shut { AllAreSettled kept_after_shut → ⊥ }
     ensures full { IsHandedUp 1 B one_waits × IsHandedUp 1 B full_again }
 {}
 

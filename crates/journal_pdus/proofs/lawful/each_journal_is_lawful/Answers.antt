@@ -125,6 +125,7 @@ returns-clause-lawful c = λ a b script six six_too.
       };
       host_flow = c.data_fits_the_buffers_of_its_host.ensures a b script six six_too;
       host_order = c.data_of_all_links_comes_in_one_order.ensures a b script six six_too;
+      data_last = c.data_goes_up_as_its_turn_ends.ensures given refl;
       arrives = c.data_arrives_in_order_in_every_journal.ensures a b script mixed six six_too followed;
     }
 

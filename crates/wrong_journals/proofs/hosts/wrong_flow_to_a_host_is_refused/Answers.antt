@@ -10,7 +10,7 @@ use Rattle.journal_pdus.specs.journal_data.Lines.{lines_of}
 use Rattle.journal_pdus.specs.journal_hosts.CreditRows.{data_up}
 use Rattle.journal_pdus.specs.journal_hosts.FlowRows.{long_up, one_taken, one_waits, other_returned}
 use Rattle.journal_pdus.specs.journal_hosts.HostFlow.{held_on}
-use Rattle.wrong_journals.specs.Flowing.{full_again, room_again}
+use Rattle.wrong_journals.specs.Flowing.{full_again, room_again, shut_in_turn}
 use Rattle.wrong_journals.proofs.Differing.{not_handed}
 use Rattle.wrong_journals.proofs.hosts.wrong_flow_to_a_host_is_refused.Goals as goal
 
@@ -40,6 +40,11 @@ pub returns-clause-after_return : goal.returns-clause-after_return
 unfolding was_full held_on lines_of frames command_of layout_of layouts little_endian
 returns-clause-after_return c lawful =
     not_handed _ _ _ (lawful room_again [] 1 true (Some true) refl B [] [] (record { link = 1; handle = 0 }) refl).received refl refl
+
+pub returns-clause-after_shut : goal.returns-clause-after_shut
+unfolding was_full held_on lines_of frames command_of layout_of layouts little_endian
+returns-clause-after_shut c lawful =
+    not_handed _ _ _ (lawful shut_in_turn [] 2 true (Some true) refl B [] [] (record { link = 2; handle = 1 }) refl).received refl refl
 
 pub returns-clause-full : goal.returns-clause-full
 unfolding was_full held_on lines_of frames command_of layout_of layouts little_endian
