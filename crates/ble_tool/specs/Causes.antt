@@ -31,10 +31,11 @@ Told = Script → List Entry → List ℕ
 abbrev pub journal_text : Told
 journal_text script journal = text journal
 
--- a fact of what is told of some journal of this kind: a journal of these streams and of this schedule's text, which has
--- no line at fault. It is lawful: it follows the schedule; links are those of their CONNECT_INDs, and each PDU goes out
--- and is taken as it is due; after each of its lines, on each link, what the host of one side received is the first octets of what the host of
--- the other submitted, and no packet is reported as complete that the other side did not accept whole
+-- a fact of what is written of some journal of this kind: a journal of these streams and of this schedule's text, which
+-- has no line at fault. It is lawful: it follows the schedule; links are those of their CONNECT_INDs, and each PDU goes
+-- out and is taken as it is due; after each of its lines, on each link, what the host of one side received is the first
+-- octets of what the host of the other submitted, and no packet is reported as complete that the other side did not
+-- accept whole
 pub record OfJournal (told : Told) (is_journal : Script → Given → List Entry → Type 0) (fact : List ℕ → Type 0)
     (a b schedule : List ℕ) : Type 0 where
   pub config_a : Config
@@ -47,7 +48,7 @@ pub record OfJournal (told : Told) (is_journal : Script → Given → List Entry
   pub lawful : IsLawful a b (record { a = config_a; b = config_b; turns = turns }) journal
   pub holds : fact (told (record { a = config_a; b = config_b; turns = turns }) journal)
 
--- the journal of the whole run: all turns begin, and at the end nothing waits for a host
+-- the journal of the whole run: all turns begin, and at the end nothing waits for a host that could take it
 pub record IsWholeRun (script : Script) (given : Given) (journal : List Entry) : Type 0 where
   pub is_run : IsRun given journal
   pub whole : IsWhole script journal

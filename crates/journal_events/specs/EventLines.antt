@@ -1,5 +1,5 @@
--- The event of a link that an end entered last, from the lines of a journal alone: what it heard in it, whether a packet of
--- it says that more waits, and how long payloads may be (Core 5.2, volume 6 part B, sections 4.5.1, 4.5.6 and 4.5.10).
+-- The event of a link that an end entered last, from the lines of a journal alone: what it heard in it, whether a packet
+-- of it says that more waits, and how long payloads may be (Core 5.2, volume 6 part B, sections 4.5.1, 4.5.6 and 4.5.10).
 use Rattle.std.specs.Prelude.{ℕ, ◌==◌, ◌&&◌, ◌||◌, not, Bool, false, true, List, [], ◌∷◌, ◌++◌, Option, Some, None, if◌then◌else◌}
 use Rattle.ble_base.specs.declared.roles.Side.{Side}
 use Rattle.journal.specs.declared.entries.Entry.{Entry}

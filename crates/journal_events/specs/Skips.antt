@@ -1,6 +1,6 @@
 -- Which events of a link an end skips, from the lines of a journal alone: those after an event in which it heard a good
--- packet, up to its latency, while it is idle (Core 5.2, volume 6 part B, section 4.5.1; that it always does so, and when it
--- is idle, is our choice).
+-- packet, up to its latency, while it is idle (Core 5.2, volume 6 part B, section 4.5.1; that it always does so, and
+-- when it is idle, is our choice).
 use Rattle.std.specs.Prelude.{ℕ, ◌+◌, ◌==◌, ◌&&◌, ◌||◌, nat_le, nat_lt, not, Bool, false, List, Option, Some, None}
 use Rattle.ble_base.specs.declared.roles.Role.{Role}
 use Rattle.ble_base.specs.declared.roles.Role.TheVariants.{Central, Peripheral}

@@ -1,4 +1,4 @@
--- Where in a turn each controller of a run stands, and what it does there: in each phase it sends or listens in that
+-- Where in a turn each controller of a run is, and what it does there: in each phase it sends or listens in that
 -- phase, or rests, and it wants the radio for what it does.
 use Rattle.std.proofs.Common.{◌≡◌, ℕ, suc, Bool, true, false, Option, Some, None, List, refl, ap, arith}
 use Rattle.std.specs.Prelude.{⊤}

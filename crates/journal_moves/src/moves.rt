@@ -18,8 +18,9 @@ ghost use Rattle.journal_wants.specs.run_model.Run.{Given, GoesOn, Stop, Stops, 
 /// side does first in a turn is decided among what its lines say that it wants: its links at the
 /// anchors of their events, but for those that a peripheral skips, its advertiser, its scanner and
 /// its initiator. A packet is heard only where the other side listens for it, in its phase and on
-/// its channel (Core 5.2, volume 6 part B, sections 4.4.2 to 4.5.1; the phases, and who has the radio
-/// in a turn, are our choice). The packet at which damage ends a run is due as those before it are.
+/// its channel, and one that passes is not missed there (Core 5.2, volume 6 part B, sections 4.4.2 to
+/// 4.5.1; the phases, and who has the radio in a turn, are our choice). The packet at which damage
+/// ends a run is due as those before it are.
 pub fn the_moves_of_each_turn_are_owed()
     ensures aired { (words : Words) (given : Given) → given.stations ≡ 0 ∷ 1 ∷ []
         → HaveAddresses given → GivesWords given words

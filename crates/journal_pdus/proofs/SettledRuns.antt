@@ -1,5 +1,5 @@
 -- Before each turn of a run of a pair, and at its end, each host has received all data that its side took, or could take no
--- more, and is told of all its packets that are acknowledged.
+-- more, and all its packets that are acknowledged are reported to it.
 use Rattle.std.proofs.Common.{◌≡◌, ℕ, true, Some, List, [], ◌∷◌, ◌++◌, inl, inr, sym, ap, subst, ◌∙◌, append-nil}
 use Rattle.ble_base.specs.declared.roles.Side.{Side}
 use Rattle.journal.specs.declared.entries.Entry.TheVariants.{Turn}

@@ -1,5 +1,5 @@
--- Where a link is shut after the packets of a turn, its host has received all that its side took, or could take no more, and is
--- told of all its packets that are acknowledged.
+-- Where a link is shut after the packets of a turn, its host has received all that its side took, or could take no
+-- more, and all its packets that are acknowledged are reported to it.
 use Rattle.std.proofs.Common.{◌≡◌, ℕ, Bool, true, false, nat_lt, Option, Some, None, List, [], ◌∷◌, ◌++◌, inl, inr, refl, sym, ap, subst, ◌∙◌, append_assoc, arith, if◌then◌else◌}
 use Rattle.std.specs.Prelude.{All, flat_map, map, ⊤}
 use Rattle.std.proofs.lemmas.Bool.Decides.{nat_tests}

@@ -155,8 +155,9 @@ abbrev pub IsLawful : (a b : List ℕ) (script : Script) → List Entry → Type
 IsLawful a b script journal = IsLawfulWith (words_by script) (is_mixed (words_by script)) a b script journal
 
 -- the journal of a whole run: all turns of the script begin, and at the end nothing is under way, nothing waits for a
--- host, no link was to end, no event of a link was missed, neither side is to send anything more, no line of a procedure
--- is due, and each CONNECT_IND has opened its link at both sides
+-- host that could take it, no open link was to end, no event of a link was missed, neither side is to send anything
+-- more, no line of a procedure is due, and each CONNECT_IND has opened its link at the side that sent it, and at the
+-- side that heard it and is to open it
 pub record IsWhole (script : Script) (journal : List Entry) : Type 0 where
   pub turns : AreAllTurns script journal
   pub at_rest : IsAtRest (words_by script) journal

@@ -22,8 +22,9 @@ use crate::links::{
 /// indications of the central hold and enter an event alike (`journal_indications`), and a side sends
 /// only in the turn of the event that it entered last, or in the next turn where MD says that more
 /// waits; each packet is what its side is to send next in the turn, by what wins the slot among all
-/// that the side wants, before the next turn nothing more is to be sent, and what is heard was
-/// listened for (`journal_moves`); lines name links that are open at their side; each link that is
+/// that the side wants, before the next turn nothing more is to be sent, what is heard was listened
+/// for, and what passes and is listened for is not missed (`journal_moves`); no open end leaves out an
+/// event of its link (`journal_anchors`); lines name links that are open at their side; each link that is
 /// shut has its reason, none that is to end stays open after that turn (`journal_leaving`), and a
 /// Reset leaves none; a line of a control procedure comes where it is due by the lines before and
 /// nowhere else (`journal_due`); where two procedures collide, the next PDU of the central is the
@@ -36,8 +37,8 @@ use crate::links::{
 /// opens a link as its peripheral exactly where it heard the CONNECT_IND and is to open it
 /// (`journal_hearings`); each command is answered once, complete packets are reported in their order,
 /// a host whose flow control is on never holds more packets of data than it can take, none of them
-/// longer than its buffers, and each packet of data to a host is of the first piece that waits for
-/// it, of whichever link (`journal_hosts`); and data arrives in order
+/// longer than its buffers, each packet of data to a host is of the first piece that waits for it, of
+/// whichever link, and goes up as its turn ends (`journal_hosts`); and data arrives in order
 /// (`journal_sending::data_arrives_in_order_in_every_journal`). The packet at which damage ends a run
 /// is due as those before it are.
 ///

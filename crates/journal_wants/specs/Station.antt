@@ -1,5 +1,6 @@
 -- What a side wants of the radio in each turn, what has it, and what the side does first in it, from the lines of a
--- journal alone (Core 5.2, volume 6 part B, sections 4.4.2 to 4.5.1; who has the radio, and for how many slots, is our choice).
+-- journal alone (Core 5.2, volume 6 part B, sections 4.4.2 to 4.5.1; who has the radio, and for how many slots, is our
+-- choice).
 use Rattle.std.specs.Prelude.{ℕ, ◌==◌, Bool, true, false, List, [], ◌∷◌, ◌++◌, fold, Option, Some, None, is_some, if◌then◌else◌}
 use Rattle.std.specs.List.{find}
 use Rattle.std.specs.Option.{option_map}
