@@ -12,7 +12,9 @@ mod KeptDoings
 mod HearsAs
 mod HeardPackets
 mod OwedMoves
+mod JudgedPackets
 mod RunMoves
+mod JudgedRuns
 mod ForgedRests
 mod SaidRuns
 mod Connecting
@@ -23,5 +25,6 @@ mod FarAnswers
 mod HearingPlaces
 mod TakingCalls
 mod KnownCalls
+mod SaidInRuns
 -- what the crates above use of those below
 pub use Rattle.journal_wants.proofs as journal_wants

@@ -1,6 +1,6 @@
 -- In the journal of a run of two stations each packet is what its side is to send next by the lines before it, and
 -- before each turn neither side is to send anything more.
-use Rattle.std.proofs.Common.{◌≡◌, ◌≢◌, ◌⊎◌, inl, inr, ℕ, ◌==◌, ◌&&◌, ◌||◌, Bool, true, false, not, Option, Some, None, List, [], ◌∷◌, ◌++◌, cond, refl, sym, ap, subst, ◌∙◌, arith, if◌then◌else◌}
+use Rattle.std.proofs.Common.{◌≡◌, ◌≢◌, ◌⊎◌, inl, inr, ℕ, ◌==◌, ◌&&◌, ◌||◌, Bool, true, false, Option, Some, None, List, [], ◌∷◌, ◌++◌, cond, refl, sym, ap, subst, ◌∙◌, arith, if◌then◌else◌}
 use Rattle.std.specs.Prelude.{is_some, nat_lt, take}
 use Rattle.std.specs.Option.{option_and_then}
 use Rattle.ble_base.specs.declared.roles.Side.{Side}
@@ -291,7 +291,7 @@ module _ (words : Words) (setups : Setups) (nth : AreNth) (apart : AreApart) (gi
       (sends_some doing (does station in_it).wants.base channel octets wanted)
 
   -- what the lines say of the link under a handle
-  far_under : (handle : ℕ) (found : Option OpenLink) → link_at handle far_facts.links ≡ found
+  pub far_under : (handle : ℕ) (found : Option OpenLink) → link_at handle far_facts.links ≡ found
       → link_under handle (links_open (side_of far) (journal_of history))
       ≡ cond (is_some found) (Some (number_at far handle history)) None
   far_under handle found at =
@@ -401,15 +401,20 @@ module _ (words : Words) (setups : Setups) (nth : AreNth) (apart : AreApart) (gi
           ∙ ap (channel_listening (side_of far) (journal_of history)) far_is ∙ on_channel_by far_doing refl;
     }
 
-  -- ---- what passes, and is awaited, is heard
+  -- ---- where the lines say that it is listened for, the other side listens
+
+  pub judged : (heard : List ℕ) (one : Doing) → far_doing ≡ one
+      → verdict_of far_facts heard ≡ verdict_doing far_facts.links one heard
+  unfolding verdict_of
+  judged heard one is = ap (λ (d : Doing). verdict_doing far_facts.links d heard) is
 
   module _ (lines_known : AreKnown given (IsBelongingSoFar given))
-      (awaited : IsAwaited words setups (journal_of history) front_side channel octets) where
+      (listened : IsListenedFor words setups (journal_of history) front_side channel) where
     said_listens : phase_listening (said_or words setups given far history) ≡ Some place.phases
     said_listens =
         ap phase_listening (sym (said_is far in_far))
         ∙ (λ i. phase_listening (doing_on words setups (side_other station i) (journal_of history)))
-        ∙ awaited.listened.in_phase ∙ ap phase_sending own_is ∙ own_phase
+        ∙ listened.in_phase ∙ ap phase_sending own_is ∙ own_phase
 
     said_same : IsInPhase words setups given place.phases (is_in far place.done)
         (is_in (other_of far) place.done) far history → said_or words setups given far history ≡ far_doing
@@ -424,22 +429,78 @@ module _ (words : Words) (setups : Setups) (nth : AreNth) (apart : AreApart) (gi
     said_same (HasForged got_octets got is_far silent rests matches) =
         absurd (let h : true ≡ false = sym is_far ∙ far_out in absurd cc)
 
-    far_same : doing_on words setups (side_of far) (journal_of history) ≡ far_doing
+    pub far_same : doing_on words setups (side_of far) (journal_of history) ≡ far_doing
     far_same = said_is far in_far ∙ said_same (place.saying.says known far in_far)
 
-    on_channel_heard : channel_listening (side_of far) (journal_of history) far_doing ≡ Some channel
+    pub on_channel_heard : channel_listening (side_of far) (journal_of history) far_doing ≡ Some channel
     on_channel_heard =
         ap (channel_listening (side_of far) (journal_of history)) (sym far_same)
         ∙ (λ i. channel_listening (side_other station i) (journal_of history)
         (doing_on words setups (side_other station i) (journal_of history)))
-        ∙ awaited.listened.on_channel
+        ∙ listened.on_channel
 
+    used_for : (one : Doing) → far_doing ≡ one → use_at given far history ≡ use_for (does far in_far).wants.base one
+    used_for one is =
+        sym (wanted_is given far history) ∙ (does far in_far).wants.wanted
+        ∙ ap (use_for (does far in_far).wants.base) is
+
+    pub event_channel : (handle : ℕ) (link : OpenLink) → link_at handle far_facts.links ≡ Some link
+        → channel_under (side_of far) (journal_of history) handle ≡ Some channel
+        → (facts_in link).event.channel ≡ channel
+    event_channel handle link at on =
+        channel_same (facts_in link).control.track.entered (facts_in link).event.channel channel
+        (sym (far_channel lines_known handle link at) ∙ on)
+
+    pub some_under : (handle : ℕ) (X : Type 0) → link_at handle far_facts.links ≡ None
+        → channel_under (side_of far) (journal_of history) handle ≡ Some channel → X
+    some_under handle X at on = absurd (
+        let h : None ≡ Some channel =
+        sym (ap (option_and_then (λ number. channel_entered number (side_of far) (journal_of history)))
+        (far_under handle None at)) ∙ on in
+        absurd cc
+        )
+
+    uses_link : (handle : ℕ) (found : Option OpenLink) → link_at handle far_facts.links ≡ found
+        → use_at given far history ≡ listens_on found
+        → channel_under (side_of far) (journal_of history) handle ≡ Some channel
+        → use_at given far history ≡ Listens channel
+    uses_link handle None at uses on = some_under handle _ at on
+    uses_link handle (Some link) at uses on = uses ∙ ap Listens (event_channel handle link at on)
+
+    uses_open : (due : ℕ) → use_at given far history ≡ Listens due → Some due ≡ Some channel
+        → use_at given far history ≡ Listens channel
+    uses_open due uses on = let same : due ≡ channel = cc in uses ∙ ap Listens same
+
+    uses_by : (one : Doing) → far_doing ≡ one
+        → channel_listening (side_of far) (journal_of history) one ≡ Some channel
+        → use_at given far history ≡ Listens channel
+    uses_by (Scans due) is on = uses_open due (used_for (Scans due) is) on
+    uses_by (Initiates due) is on = uses_open due (used_for (Initiates due) is) on
+    uses_by (AwaitsRequest due) is on = uses_open due (used_for (AwaitsRequest due) is) on
+    uses_by (AwaitsResponse due) is on = uses_open due (used_for (AwaitsResponse due) is) on
+    uses_by (PeripheralListens handle) is on =
+        uses_link handle (link_at handle far_facts.links) refl
+        (sym (wanted_is given far history)
+        ∙ subst (IsListening far_facts) is (does far in_far).phased.uses.in_turn.listens) on
+    uses_by (CentralListens handle) is on =
+        uses_link handle (link_at handle far_facts.links) refl
+        (sym (wanted_is given far history)
+        ∙ subst (IsListening far_facts) is (does far in_far).phased.uses.in_turn.listens) on
+    uses_by other is on = absurd (let h : None ≡ Some channel = on in absurd cc)
+
+    pub far_listens : use_at given far history ≡ Listens channel
+    far_listens = uses_by far_doing refl on_channel_heard
+
+  -- ---- what passes, and is awaited, is heard
+
+  module _ (lines_known : AreKnown given (IsBelongingSoFar given))
+      (awaited : IsAwaited words setups (journal_of history) front_side channel octets) where
     abbrev carried : Option ℕ
     carried = link_carrying (journal_of history) front_side channel octets
 
     on_link_heard : link_listening (side_of far) (journal_of history) far_doing ≡ carried
     on_link_heard =
-        ap (link_listening (side_of far) (journal_of history)) (sym far_same)
+        ap (link_listening (side_of far) (journal_of history)) (sym (far_same lines_known awaited.listened))
         ∙ (λ i. link_listening (side_other station i) (journal_of history)
         (doing_on words setups (side_other station i) (journal_of history)))
         ∙ awaited.on_link
@@ -465,51 +526,27 @@ module _ (words : Words) (setups : Setups) (nth : AreNth) (apart : AreApart) (gi
             absurd cc)
 
     abbrev Hears : Type 0
-    Hears = (use_at given far history ≡ Listens channel) × (verdict_of far_facts octets ≢ Missed)
+    Hears = verdict_of far_facts octets ≢ Missed
 
-    judged : (one : Doing) → far_doing ≡ one → verdict_of far_facts octets ≡ verdict_doing far_facts.links one octets
-    unfolding verdict_of
-    judged one is = ap (λ (d : Doing). verdict_doing far_facts.links d octets) is
-
-    used_for : (one : Doing) → far_doing ≡ one → use_at given far history ≡ use_for (does far in_far).wants.base one
-    used_for one is =
-        sym (wanted_is given far history) ∙ (does far in_far).wants.wanted
-        ∙ ap (use_for (does far in_far).wants.base) is
-
-    hears_open : (due : ℕ) → use_at given far history ≡ Listens due
-        → verdict_of far_facts octets ≡ verdict_advertising due octets
-        → Some due ≡ Some channel → None ≡ carried → Hears
-    hears_open due uses judges on none =
-        let same : due ≡ channel = cc in (
-          uses ∙ ap Listens same,
-          subst (λ v. v ≢ Missed) (sym judges)
-              (not_missed_advertising due octets
-              (begins_so (station_deciding words setups front_side (journal_of history)) (journal_of history) front_side
-              channel octets (of_none none) doing
-              (packet_of nth apart given are_two six history station channel octets to_send
-              (station_deciding words setups front_side (journal_of history)) set doing refl))),
-        )
+    hears_open : (due : ℕ) → verdict_of far_facts octets ≡ verdict_advertising due octets → None ≡ carried → Hears
+    hears_open due judges none =
+        subst (λ v. v ≢ Missed) (sym judges)
+        (not_missed_advertising due octets
+        (begins_so (station_deciding words setups front_side (journal_of history)) (journal_of history) front_side
+        channel octets (of_none none) doing
+        (packet_of nth apart given are_two six history station channel octets to_send
+        (station_deciding words setups front_side (journal_of history)) set doing refl)))
 
     hears_link : (handle : ℕ) (found : Option OpenLink) → link_at handle far_facts.links ≡ found
-        → use_at given far history ≡ listens_on found
         → verdict_of far_facts octets ≡ verdict_of_link found octets
         → channel_under (side_of far) (journal_of history) handle ≡ Some channel
         → link_under handle (links_open (side_of far) (journal_of history)) ≡ carried → Hears
-    hears_link handle None at uses judges on one = absurd (
-        let h : None ≡ Some channel =
-        sym (ap (option_and_then (λ number. channel_entered number (side_of far) (journal_of history)))
-        (far_under handle None at)) ∙ on in
-        absurd cc
-        )
-    hears_link handle (Some link) at uses judges on one =
-        (uses ∙ ap Listens channel_is, subst (λ v. v ≢ Missed) (sym judges) (by (is_advertising channel) refl))
+    hears_link handle None at judges on one = some_under lines_known awaited.listened handle _ at on
+    hears_link handle (Some link) at judges on one =
+        subst (λ v. v ≢ Missed) (sym judges) (by (is_advertising channel) refl)
       where
         number : Some (number_at far handle history) ≡ carried
         number = sym (far_under handle (Some link) at) ∙ one
-
-        channel_is : (facts_in link).event.channel ≡ channel
-        channel_is = channel_same (facts_in link).control.track.entered (facts_in link).event.channel channel
-            (sym (far_channel lines_known handle link at) ∙ on)
 
         by : (advertising : Bool) → is_advertising channel ≡ advertising
             → verdict_of_link (Some link) octets ≢ Missed
@@ -533,31 +570,23 @@ module _ (words : Words) (setups : Setups) (nth : AreNth) (apart : AreApart) (gi
     hears_by : (one : Doing) → far_doing ≡ one
         → channel_listening (side_of far) (journal_of history) one ≡ Some channel
         → link_listening (side_of far) (journal_of history) one ≡ carried → Hears
-    hears_by (Scans due) is on none = hears_open due (used_for (Scans due) is) (judged (Scans due) is) on none
-    hears_by (Initiates due) is on none =
-        hears_open due (used_for (Initiates due) is) (judged (Initiates due) is) on none
-    hears_by (AwaitsRequest due) is on none =
-        hears_open due (used_for (AwaitsRequest due) is) (judged (AwaitsRequest due) is) on none
-    hears_by (AwaitsResponse due) is on none =
-        hears_open due (used_for (AwaitsResponse due) is) (judged (AwaitsResponse due) is) on none
+    hears_by (Scans due) is on none = hears_open due (judged octets (Scans due) is) none
+    hears_by (Initiates due) is on none = hears_open due (judged octets (Initiates due) is) none
+    hears_by (AwaitsRequest due) is on none = hears_open due (judged octets (AwaitsRequest due) is) none
+    hears_by (AwaitsResponse due) is on none = hears_open due (judged octets (AwaitsResponse due) is) none
     hears_by (PeripheralListens handle) is on one =
-        hears_link handle (link_at handle far_facts.links) refl
-        (sym (wanted_is given far history)
-        ∙ subst (IsListening far_facts) is (does far in_far).phased.uses.in_turn.listens)
-        (judged (PeripheralListens handle) is) on one
+        hears_link handle (link_at handle far_facts.links) refl (judged octets (PeripheralListens handle) is) on one
     hears_by (CentralListens handle) is on one =
-        hears_link handle (link_at handle far_facts.links) refl
-        (sym (wanted_is given far history)
-        ∙ subst (IsListening far_facts) is (does far in_far).phased.uses.in_turn.listens)
-        (judged (CentralListens handle) is) on one
+        hears_link handle (link_at handle far_facts.links) refl (judged octets (CentralListens handle) is) on one
     hears_by other is on one = absurd (let h : None ≡ Some channel = on in absurd cc)
 
     pub is_heard : (fate : Fate) → Passed ≡ mark_of fate
         → verdict_where (reaches fate channel (channel_listened (use_at given far history))) far_facts
         (damaged_packet fate octets) ≢ Missed
     is_heard fate passes =
-        let hears = hears_by far_doing refl on_channel_heard on_link_heard in
-        heard_where fate (use_at given far history) channel far_facts octets passes hears.0 hears.1
+        heard_where fate (use_at given far history) channel far_facts octets passes
+        (far_listens lines_known awaited.listened)
+        (hears_by far_doing refl (on_channel_heard lines_known awaited.listened) on_link_heard)
 
 -- ---- in a run
 
@@ -589,7 +618,14 @@ module _ (words : Words) (setups : Setups) (nth : AreNth) (apart : AreApart) (gi
     says = λ all station in_it. refl;
   }
 
-  known_before : (before rest : List Event) → history_of (run_of given) ≡ before ++ rest
+  pub place_at : (before rest : List Event) (station channel : ℕ) (octets : List ℕ) (hearings : List Hearing)
+      → history_of (run_of given) ≡ before ++ Transmitted station channel octets hearings ∷ rest
+      → IsSaidToSend words setups given before station channel octets
+  place_at =
+      seen_packet given (AreSaying words setups given) keeps (AreSaying words setups given NoTurn)
+      (IsSaidToSend words setups given) sees says_first
+
+  pub known_before : (before rest : List Event) → history_of (run_of given) ≡ before ++ rest
       → Each (IsKnown words setups given) [] before
   known_before before rest at =
       each_front (IsKnown words setups given) [] before rest (subst (Each (IsKnown words setups given) []) at known)
@@ -602,9 +638,7 @@ module _ (words : Words) (setups : Setups) (nth : AreNth) (apart : AreApart) (gi
       → IsOwed words setups (journal_of before) (side_of station) channel octets
   owed_at before rest station channel octets hearing others at set to_send =
       let event = Transmitted station channel octets (hearing ∷ others) in
-      let place = seen_packet given (AreSaying words setups given) keeps (AreSaying words setups given NoTurn)
-      (IsSaidToSend words setups given) sees says_first
-      before rest station channel octets (hearing ∷ others) at in
+      let place = place_at before rest station channel octets (hearing ∷ others) at in
       is_owed words setups nth apart given are_two distinct six before station channel octets place
       (known_before before (event ∷ rest) at)
       (each_at (IsKnown words setups given) (history_of (run_of given)) before rest event known at).first set to_send
@@ -632,9 +666,7 @@ module _ (words : Words) (setups : Setups) (nth : AreNth) (apart : AreApart) (gi
       → IsListenedFor words setups (journal_of before) (side_of station) channel
   listened_at before rest station channel octets hearing others at set to_send lines_known listens =
       let event = Transmitted station channel octets (hearing ∷ others) in
-      let place = seen_packet given (AreSaying words setups given) keeps (AreSaying words setups given NoTurn)
-      (IsSaidToSend words setups given) sees says_first
-      before rest station channel octets (hearing ∷ others) at in
+      let place = place_at before rest station channel octets (hearing ∷ others) at in
       is_listened_for words setups nth apart given are_two distinct six before station channel octets place
       (known_before before (event ∷ rest) at)
       (each_at (IsKnown words setups given)
@@ -685,16 +717,14 @@ module _ (words : Words) (setups : Setups) (nth : AreNth) (apart : AreApart) (gi
       → (hearing_at given fate channel octets before (other_of station)).verdict ≢ Missed
   heard_at before rest station channel octets hearing others at set to_send lines_known awaited =
       let event = Transmitted station channel octets (hearing ∷ others) in
-      let place = seen_packet given (AreSaying words setups given) keeps (AreSaying words setups given NoTurn)
-      (IsSaidToSend words setups given) sees says_first
-      before rest station channel octets (hearing ∷ others) at in
+      let place = place_at before rest station channel octets (hearing ∷ others) at in
       is_heard words setups nth apart given are_two distinct six before station channel octets place
       (known_before before (event ∷ rest) at)
       (each_at (IsKnown words setups given)
       (history_of (run_of given)) before rest event known at).first set to_send lines_known awaited
 
   -- the one hearing of a packet
-  one_heard : (before : List Event) (station channel : ℕ) (octets : List ℕ) (hearing : Hearing) (others : List Hearing)
+  pub one_heard : (before : List Event) (station channel : ℕ) (octets : List ℕ) (hearing : Hearing) (others : List Hearing)
       (due : IsPacketDue given before station channel octets (hearing ∷ others))
       → IsToSend given before station channel octets
       → hearing ≡ hearing_of given due.plan.fates station channel octets before

@@ -23,7 +23,7 @@ use Rattle.journal_moves.proofs.OwedMoves.{IsSetBefore, awaited_are_heard, heard
 use Rattle.journal_moves.proofs.SaidDoings.{IsFirstKnown, IsKnown}
 
 -- what is known before each event is known along the history
-each_from : (fact : List Event → Event → Type 0) (history before events : List Event) → history ≡ before ++ events
+pub each_from : (fact : List Event → Event → Type 0) (history before events : List Event) → history ≡ before ++ events
     → ((front rest : List Event) (event : Event) → history ≡ front ++ event ∷ rest → fact front event)
     → Each fact before events
 each_from fact history before [] is all = tt

@@ -1,6 +1,7 @@
 -- The definitions of this crate.
 pub mod Doing
 pub mod Moves
+pub mod Verdicts
 pub mod Owed
 pub mod Rows
 -- what the crates above use of those below

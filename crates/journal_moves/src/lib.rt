@@ -5,6 +5,8 @@
 mod moves;
 mod rows;
 
-pub use crate::moves::the_moves_of_each_turn_are_owed;
-pub use crate::rows::worked_moves;
+pub use crate::moves::{
+    each_packet_that_is_listened_for_is_judged, the_moves_of_each_turn_are_owed,
+};
+pub use crate::rows::{worked_moves, worked_verdicts};
 pub use journal_anchors::no_end_misses_an_event;

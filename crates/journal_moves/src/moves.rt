@@ -3,6 +3,7 @@
 ghost use Rattle.std.specs.Prelude.{◌≡◌, ◌≤◌, ◌∷◌, [], ℕ, List};
 ghost use Rattle.journal_moves.specs.Moves.{IsOwed, NothingIsOwed};
 ghost use Rattle.journal_moves.specs.Owed.{MovesAreOwed};
+ghost use Rattle.journal_moves.specs.Verdicts.{AllListenedForAreJudged};
 ghost use Rattle.journal_wants.specs.Setups.{setups_of};
 ghost use Rattle.journal_wants.specs.journal_controls.journal_ends.Asked.{Words};
 ghost use Rattle.journal_wants.specs.journal_controls.journal_ends.GivenWords.{GivesWords};
@@ -38,6 +39,27 @@ pub fn the_moves_of_each_turn_are_owed()
         → ((station : ℕ) → (setup_at given station).host_buffers ≡ 8)
         → run_of given ≡ Stops history stop
         → IsOwed words (setups_of given) (journal_of history) (side_of stop.sender) stop.channel stop.sent }
+{
+    journal_wants::a_pdu_is_understood();
+    advertise::laws::connections_are_taken();
+    scan_init::laws::searches_give_each_valid_address();
+    air_frame::laws::packet_tells_its_pdu();
+}
+
+/// In the journal of a run of two stations, with at most six links each, where each has eight buffers
+/// for packets of its host, each packet that is not lost, and finds the other side listening in its
+/// phase and on its channel, has the verdict that the lines before it give for the octets that the
+/// radio left of it. On an advertising channel it is good exactly where they are the packet of a PDU
+/// on such a channel. On a data channel that depends on the link on which the other side listens:
+/// on its access address and its CRCInit, on how many octets its end receives, whether the end opens
+/// what it hears, and whether the PDU is new to it and sealed for its next counter (Core 5.2, volume
+/// 6 part B, sections 2.1, 2.4, 3.1.1, 4.5.9, 4.5.10 and 5.1.3.1; the verdicts are our choice).
+pub fn each_packet_that_is_listened_for_is_judged()
+    ensures { (words : Words) (given : Given) → given.stations ≡ 0 ∷ 1 ∷ []
+        → HaveAddresses given → GivesWords given words
+        → ((station : ℕ) → (setup_at given station).links ≤ 6)
+        → ((station : ℕ) → (setup_at given station).host_buffers ≡ 8)
+        → AllListenedForAreJudged words (setups_of given) (journal_of (history_of (run_of given))) }
 {
     journal_wants::a_pdu_is_understood();
     advertise::laws::connections_are_taken();

@@ -32,6 +32,7 @@ without_mixing words mixed a b script journal unmixed is = record {
   in_events = is.in_events;
   continued = is.continued;
   moves = is.moves;
+  judged = is.judged;
   held = is.held;
   shut = is.shut;
   in_time = is.in_time;

@@ -34,6 +34,7 @@ use Rattle.journal_sending.specs.Resting.{IsAtRest}
 use Rattle.journal_moves.specs.journal_anchors.Anchors.{NoEventIsMissed, NoEventsAreMissed}
 use Rattle.journal_moves.specs.Moves.{NothingIsOwed}
 use Rattle.journal_moves.specs.Owed.{MovesAreOwed}
+use Rattle.journal_moves.specs.Verdicts.{AllListenedForAreJudged}
 use Rattle.journal_moves.specs.journal_wants.Setups.{setups_by}
 use Rattle.journal_seals.specs.journal_sealing.Mixed.{is_mixed}
 use Rattle.journal_slots.specs.SecondSlot.{AllAreContinued}
@@ -115,6 +116,8 @@ pub record IsLawfulWith (words : Words) (mixed : Mixed) (a b : List ℕ) (script
   -- each packet is what its side is to send next, by what has the radio there; all that a side is to send is on the air
   -- before the next turn; and the other side listens for what it hears
   pub moves : MovesAreOwed words (setups_by script) journal
+  -- what is listened for, and not lost, has the verdict of the lines
+  pub judged : AllListenedForAreJudged words (setups_by script) journal
   -- lines name links that are open at their side, and a link is opened under the next free handle
   pub held : LinesAreOfOpenLinks journal
   -- each link that is shut has its reason, and one that is open as a turn begins had none in the turn before

@@ -134,6 +134,7 @@ pub fn each_journal_is_lawful()
     journal_sending::nothing_is_under_way_between_turns();
     journal_moves::no_end_misses_an_event();
     journal_moves::the_moves_of_each_turn_are_owed();
+    journal_moves::each_packet_that_is_listened_for_is_judged();
     journal_slots::each_second_slot_has_its_reason();
     journal_sending::each_command_is_answered();
     journal_sending::each_credit_is_of_some_packets();

@@ -53,7 +53,8 @@ same_bits end ack is = (λ i. record { sn = is_odd (is.acked i); nesn = is_odd (
 pub counts_as : (end : Exchanged) (facts : Facts) (pdu : List ℕ) → IsCounted end facts.acknowledgement → counts_here facts pdu ≡ counts_by end pdu
 counts_as end facts pdu is = ap (λ (bits : AckBits). is_new bits (header_in pdu) && not (is_empty (pdu_of pdu))) (sym (same_bits end facts.acknowledgement is))
 
-forged_as : (end : Exchanged) (facts : Facts) (pdu : List ℕ) → IsCounted end facts.acknowledgement → is_forged_pdu facts pdu ≡ is_wrong (Some (keyed_of facts)) end pdu
+-- and its code is wrong
+pub forged_as : (end : Exchanged) (facts : Facts) (pdu : List ℕ) → IsCounted end facts.acknowledgement → is_forged_pdu facts pdu ≡ is_wrong (Some (keyed_of facts)) end pdu
 forged_as end facts pdu is =
     let right = is_right facts.encryption.end (first_octet pdu) (drop 2 pdu) in
     none_read (counts_here facts pdu) right facts.encryption.end pdu refl

@@ -1,10 +1,10 @@
 -- Journals in which a side does not send what it is to send, or sends something else.
 use Rattle.std.specs.Prelude.{List, [], ◌∷◌, ◌++◌}
 use Rattle.ble_base.specs.declared.roles.Side.TheVariants.{A, B}
-use Rattle.ble_base.specs.declared.verdicts.Verdict.TheVariants.{Good, Missed}
+use Rattle.ble_base.specs.declared.verdicts.Verdict.TheVariants.{Broken, Good, Missed}
 use Rattle.journal.specs.declared.entries.Entry.{Entry}
 use Rattle.journal.specs.declared.entries.Entry.TheVariants.{Air, Fed, Up}
-use Rattle.journal.specs.declared.entries.Mark.TheVariants.{Lost, Pass}
+use Rattle.journal.specs.declared.entries.Mark.TheVariants.{Damage, Lost, Pass}
 use Rattle.journal_pdus.specs.controller_model.Rows.{advertisement_ending}
 use Rattle.journal_pdus.specs.journal_moves.Rows.{advertised, anchor_begins, central_sent}
 use Rattle.journal_pdus.specs.journal_moves.journal_wants.Rows.{asked_once_more}
@@ -57,3 +57,16 @@ scanner_asked = advertisement_opening []
 
 abbrev pub missed_by_scanner : List Entry
 missed_by_scanner = scanner_asked ++ Air A 37 (advertisement_ending 0xDA) Pass Missed ∷ []
+
+-- ---- a packet is judged otherwise than the side that listens judges it
+
+abbrev pub broken_at_scanner : List Entry
+broken_at_scanner = scanner_asked ++ Air A 37 (advertisement_ending 0xDA) Pass Broken ∷ []
+
+-- a bit of its PDU was changed, and not one of its access address
+abbrev pub changed_and_missed : List Entry
+changed_and_missed = scanner_asked ++ Air A 37 (advertisement_ending 0xDA) (Damage 8 (1 ∷ [])) Missed ∷ []
+
+-- the packet of a central passes
+abbrev pub broken_at_peripheral : List Entry
+broken_at_peripheral = anchor_begins ++ Air B 25 first_packet Pass Broken ∷ []

@@ -38,7 +38,9 @@ pub use crate::hosts::{
     wrong_credits_are_refused, wrong_data_is_refused, wrong_flow_to_a_host_is_refused,
     wrong_orders_of_data_are_refused,
 };
-pub use crate::moves::{silent_sides_are_refused, wrong_moves_are_refused};
+pub use crate::moves::{
+    misjudged_packets_are_refused, silent_sides_are_refused, wrong_moves_are_refused,
+};
 pub use crate::orders::wrong_orders_of_turns_are_refused;
 pub use crate::procedure_lines::{
     lines_that_are_due_are_right, lines_that_are_not_due_are_refused,

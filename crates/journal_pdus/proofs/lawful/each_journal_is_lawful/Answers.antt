@@ -18,6 +18,7 @@ use Rattle.journal_sending.specs.journal_due.ProcedureLines.{NoneIsDue}
 use Rattle.journal_sending.proofs.TakenInRuns.{eight_air}
 use Rattle.journal_moves.specs.Moves.{IsOwed, NothingIsOwed}
 use Rattle.journal_moves.specs.Owed.{MovesAreOwed}
+use Rattle.journal_moves.specs.Verdicts.{AllListenedForAreJudged}
 use Rattle.journal_moves.specs.journal_wants.Setups.{setups_by, setups_of}
 use Rattle.journal_moves.specs.journal_wants.Station.{Setups}
 use Rattle.journal_words.specs.Drawn.{words_by}
@@ -67,6 +68,8 @@ returns-clause-lawful c = λ a b script six six_too.
       continued = c.each_second_slot_has_its_reason.ensures given refl addresses;
       moves = subst (λ (setups : Setups). MovesAreOwed words setups (journal_of (history_of (run_of given)))) (setups_are a b script)
           (c.the_moves_of_each_turn_are_owed.ensures.aired words given refl addresses gives (pair_links a b script).links (eight_of a b script));
+      judged = subst (λ (setups : Setups). AllListenedForAreJudged words setups (journal_of (history_of (run_of given)))) (setups_are a b script)
+          (c.each_packet_that_is_listened_for_is_judged.ensures words given refl addresses gives (few_of a b script) (eight_of a b script));
       held = c.lines_are_of_open_links_in_every_journal.ensures a b script six six_too;
       shut = c.each_shut_line_has_its_reason_by_the_lines.ensures words given refl addresses gives;
       in_time = c.links_end_in_time_by_the_lines.ensures.in_time words given refl addresses gives;
