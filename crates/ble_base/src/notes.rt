@@ -24,8 +24,8 @@ pub enum Note {
         handle: u16,
         reason: ErrCode,
     },
-    /// A data channel PDU with a payload was fixed as the next to be sent. `number` counts such
-    /// PDUs of this sender on the link from 1; `llid` and `body` are those of the PDU, before any
+    /// A data channel PDU with a payload was sent for the first time. `number` counts such PDUs of
+    /// this sender on the link from 1; `llid` and `body` are those of the PDU, before any
     /// encryption.
     Sent {
         handle: u16,

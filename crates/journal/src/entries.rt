@@ -63,9 +63,9 @@ pub enum Entry {
         link: u64,
         reason: ErrCode,
     },
-    /// A PDU with a payload was fixed as the next to be sent. `number` counts such PDUs from 1 for
-    /// each sender and link; `llid` is 1 to 3 (Core 5.2, volume 6 part B, section 2.4); the body is
-    /// the payload before any encryption.
+    /// A PDU with a payload was sent for the first time. `number` counts such PDUs from 1 for each
+    /// sender and link; `llid` is 1 to 3 (Core 5.2, volume 6 part B, section 2.4); the body is the
+    /// payload before any encryption.
     Sent {
         side: Side,
         link: u64,

@@ -188,7 +188,7 @@ fn read_air(alloc: Global, words: Words<'_>) -> Result<Option<Entry>, AllocError
     }))
 }
 
-/// Reads a PDU that was fixed as the next.
+/// Reads a PDU that was sent for the first time.
 fn read_sent(alloc: Global, words: Words<'_>) -> Result<Option<Entry>, AllocError>
     ensures { IfOk result (λ entry. entry ≡ sent_in (five_words words.entry)) }
 {

@@ -1,6 +1,5 @@
-//! Ends of a link that encrypt nothing: with their phase of encryption they go by their control
-//! part alone (Core 5.2, volume 6 part B, section 5.1.3; that links do not encrypt yet is our
-//! choice). Definitions and laws; no code.
+//! Ends of a link that encrypt nothing: until an encryption starts, an end with its phase goes by
+//! its control part alone (Core 5.2, volume 6 part B, section 5.1.3). Definitions and laws; no code.
 #![tactic(auto)]
 
 mod laws;
