@@ -1,10 +1,10 @@
 """Counts the instructions of `ble pair` on three links that carry nothing but empty PDUs, and compares what a turn costs
-more than an idle one with one such link."""
+more than an idle one with one such link, and what it costs to open them where access addresses are far away."""
 import os
 import sys
 import tempfile
 
-from links import per_turn
+from links import instructions, per_turn
 from runs import CREATE, INTERVAL, ON, Load, idle, run
 
 # LE Set Random Address, with its first octet; a host has another address for its second and its third link.
@@ -15,6 +15,8 @@ PUBLIC, OWN_RANDOM = 0, 1
 APART = 8
 # How much more three links may cost than one, over idle turns.
 MOST = 3
+# Where the search for access addresses begins: usually; before the longest row that has none; and where it takes most steps.
+CURSORS = b"71764129", b"f8000000", b"aaaaaa40"
 
 
 def create(own):
@@ -42,6 +44,12 @@ def links(count):
     return load
 
 
+def from_cursor(cursor, load):
+    """The same load, where both sides search from there."""
+    load.schedule = load.schedule.replace(CURSORS[0], cursor)
+    return load
+
+
 def main():
     program = os.path.abspath(sys.argv[1])
     with tempfile.TemporaryDirectory() as folder:
@@ -52,6 +60,12 @@ def main():
         print(f"An idle turn: {still:,.0f} instructions")
         print(f"More in a turn with one idle link: {one:,.0f}")
         print(f"More in a turn with three idle links: {three:,.0f}, {three / one:.2f} times; the aim is at most {MOST}")
+        usual, row, steps = (
+            instructions(program, folder, from_cursor(cursor, links(3)(64))) for cursor in CURSORS
+        )
+        print(f"64 turns that open three links: {usual:,} instructions")
+        print(f"  before the longest row with no access address: {row / usual:.3f} times")
+        print(f"  where the search takes most steps: {steps / usual:.3f} times")
 
 
 if __name__ == "__main__":

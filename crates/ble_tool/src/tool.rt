@@ -1,60 +1,15 @@
 //! A call of the program: from its words to its status.
-ghost use Rattle.std.specs.Prelude.{◌≡◌, ◌↔◌, ◌⊎◌, Some, IsNone, map, length, OnOk, IfErr};
-ghost use Rattle.std.specs.Prelude.{string_bytes, vec_items};
-ghost use Rattle.ble_tool.specs.Causes.{IsWorkDone, IsWorkFault, IsPerformed, IsNotPerformed};
-ghost use Rattle.ble_tool.specs.Commands.{command_of, files_of};
-ghost use Rattle.ble_tool.specs.Ending.{IsEnding, CanPerform, NoneHasRisen, IsReliable};
-ghost use Rattle.ble_tool.specs.Puts.{Says};
-ghost use Rattle.ble_tool.specs.World.{world_of, reads_of, writes_of};
-ghost use Rattle.ble_tool.specs.declared.commands.Command.{Command};
+ghost use Rattle.std.specs.Prelude.{◌≡◌, ◌↔◌, ◌⊎◌, Some, IsNone, map, string_bytes};
+ghost use Rattle.ble_tool.specs.Ending.{IsEnding};
+ghost use Rattle.program.specs.Commands.{command_of};
+ghost use Rattle.program.specs.Ending.{CanPerform, NoneHasRisen, IsReliable};
+ghost use Rattle.program.specs.Puts.{Says};
+ghost use Rattle.program.specs.World.{world_of, reads_of, writes_of};
+ghost use Rattle.program.specs.declared.commands.Command.{Command};
 
-use crate::commands::Command;
-use crate::faults::Fault;
-use crate::makes::make;
-use crate::messages::{refuse_words, report};
-use crate::pairs::pair;
-use crate::reading::read_files;
 use outside::{Files, Sink};
+use program::run_words;
 use std::alloc::Global;
-
-/// Does the work of a command over the octets of its files.
-fn work<O: Sink>(
-    alloc: Global,
-    command: &Command<'_>,
-    contents: &[Vec<u8>],
-    out: &mut O,
-) -> Result<(), Fault>
-    requires { length contents.now ≡ length (files_of command.now) }
-    ensures ok { OnOk result (IsWorkDone command.now
-        (writes_of O.written O.is_reliable O.faults out.old out.new)
-        (map vec_items contents.now)) }
-    ensures err { IfErr result (λ fault. IsWorkFault command.now
-        (writes_of O.written O.is_reliable O.faults out.old out.new) fault
-        (map vec_items contents.now)) }
-{
-    match command {
-        Command::Pair(_) => pair(alloc, contents, out),
-        Command::Make(number) => make(alloc, *number, out),
-    }
-}
-
-/// Reads the files of a command, and does its work.
-fn perform<F: Files, O: Sink>(
-    alloc: Global,
-    command: &Command<'_>,
-    files: &mut F,
-    out: &mut O,
-) -> Result<(), Fault>
-    ensures ok { OnOk result (IsPerformed command.now (world_of
-        (reads_of F.content F.is_reliable F.faults files.old files.new)
-        (writes_of O.written O.is_reliable O.faults out.old out.new))) }
-    ensures err { IfErr result (IsNotPerformed command.now (world_of
-        (reads_of F.content F.is_reliable F.faults files.old files.new)
-        (writes_of O.written O.is_reliable O.faults out.old out.new))) }
-{
-    let contents = read_files(alloc, files, command)?;
-    work(alloc, command, &contents, out)
-}
 
 /// Does what the words after the program's name say, and gives the exit status (our choice).
 ///
@@ -78,6 +33,11 @@ fn perform<F: Files, O: Sink>(
 /// Each status but 5 has its cause in the words, the files and the output. What is claimed of the
 /// content of files and output holds where `files` and `out` make it known: there, with status 0,
 /// `out` has grown by exactly the text of the journal, or by that line.
+///
+/// Each journal is lawful: it follows the schedule; links are those of their CONNECT_INDs, and each
+/// PDU goes out and is taken as it is due; after each of its lines what one host receives of a link
+/// is the first octets of what the other submitted, and no packet is reported as complete that the
+/// other side did not accept whole (Core 5.2, volume 4 part E, section 4.1).
 pub fn ble_tool<F: Files, O: Sink, E: Sink>(
     alloc: Global,
     words: &Vec<String>,
@@ -113,14 +73,6 @@ pub fn ble_tool<F: Files, O: Sink, E: Sink>(
         (writes_of O.written O.is_reliable O.faults out.old out.new) in
         IsEnding given world (Says E.written E.faults E.wants_memory err.old err.new) result }
 {
-    let Some(command) = Command::of(words.as_slice()) else {
-        return refuse_words(err);
-    };
-    match perform(alloc, &command, files, out) {
-        Ok(()) => 0,
-        Err(fault) => {
-            report(err, &command, &fault);
-            fault.status()
-        }
-    }
+    journal_pdus::each_journal_is_lawful();
+    run_words(alloc, words, files, out, err)
 }

@@ -8,8 +8,8 @@ use crate::ends::End;
 use crate::journals::{put_shown, put_turn, put_word};
 use crate::links::{Link, Loss};
 use crate::pdus::Kind;
-use ble_tool::ble_tool;
 use outside::{MemFiles, MemSink};
+use program::run_words;
 use std::alloc::{AllocError, Global};
 use std::process::Abort;
 
@@ -261,7 +261,7 @@ fn journal_of(alloc: Global, run: &Run) -> Result<MemSink, AllocError> {
 fn called(alloc: Global, words: &Vec<String>, files: &mut MemFiles) -> MemSink {
     let mut out = MemSink::new(alloc);
     let mut err = MemSink::new(alloc);
-    ble_tool(alloc, words, files, &mut out, &mut err);
+    run_words(alloc, words, files, &mut out, &mut err);
     out
 }
 

@@ -24,6 +24,7 @@ pub(crate) fn take(
         "command" => put_status(view, call, told),
         "map" => put_octets(told, &view.map().bits().to_be_bytes()),
         "accepts" => put_answer(told, view.accept_list().has(listed(call))),
+        "encrypted" => put_answer(told, view.was_encrypted(number(call.words[0]))),
         _ => note(view, call, *told.allocator()),
     }
 }
@@ -76,9 +77,10 @@ fn note(view: &mut HostView, call: Call<'_>, alloc: Global) -> Result<(), AllocE
             handle,
             reason: ErrCode::CONNECTION_TIMEOUT,
         }),
+        "took" => view.note(&taken(handle, octets_of(alloc, call.words[1]).as_slice())),
         "done" => view.note(&Note::Done {
             handle,
-            kind: Kind::Phy,
+            kind: kind_of(call.words[1]),
         }),
         "up" => view.note(&packet(octets_of(alloc, call.words[0]).as_slice())),
         _ => view.address_left(false),
@@ -93,6 +95,27 @@ fn opened(role: Role, handle: u16) -> Note {
         role,
         own: Address::default(),
         peer: PEER,
+    }
+}
+
+/// A control PDU is taken, without the octets that do not fit.
+fn taken(handle: u16, octets: &[u8]) -> Note {
+    let mut body = ArrayVec::new();
+    let _ = body.try_extend_from_slice(octets);
+    Note::Took {
+        handle,
+        number: 1,
+        llid: 3,
+        body,
+    }
+}
+
+/// The procedure with this name; the others stand for a change of PHYs.
+fn kind_of(name: &str) -> Kind {
+    match name {
+        "encrypt" => Kind::Encrypt,
+        "version" => Kind::Version,
+        _ => Kind::Phy,
     }
 }
 
@@ -139,6 +162,49 @@ view command 201b 0000 = 00
 view status 201b 0000 = 0c
 view done 0
 view address_left
+# A peripheral is encrypted by the first LL_START_ENC_RSP after its host gave a key. One before that \
+    changes nothing, so that the encryption that follows is the first.
+view new
+view peripheral 0
+view took 0 06
+view encrypted 0 = no
+view up 043e0d05000001020304050607080a0b
+view took 0 06
+view encrypted 0 = no
+view command 201a 0000000102030405060708090a0b0c0d0e0f = 00
+view took 0 0b
+view encrypted 0 = no
+view took 0 06
+view encrypted 0 = yes
+# It stays so while a key is asked for again.
+view up 043e0d05000001020304050607080a0b
+view encrypted 0 = yes
+view command 201b 0000 = 00
+view took 0 06
+view encrypted 0 = yes
+# A peripheral whose host has no key is not encrypted.
+view new
+view peripheral 0
+view up 043e0d05000001020304050607080a0b
+view command 201b 0000 = 00
+view took 0 06
+view encrypted 0 = no
+# A central is encrypted once its procedure is done, and not by LL_START_ENC_RSP before.
+view new
+view central 0
+view took 0 06
+view encrypted 0 = no
+view command 2019 000001020304050607080a0b000102030405060708090a0b0c0d0e0f = 00
+view took 0 06
+view done 0
+view encrypted 0 = no
+view done 0 encrypt
+view encrypted 0 = yes
+# A new link under its handle is not.
+view shut 0
+view encrypted 0 = no
+view central 0
+view encrypted 0 = no
 # Channels without a link, and on one of a central.
 view new
 view map = 0000001fffffffff
@@ -174,6 +240,25 @@ view command 2032 00000001010000 = 00
 view status 2032 00000001010000 = 0c
 view status 2020 0000060006000000480000000000 = 0c
 view status 2021 00003b = 0c
+# The version of the peer may be asked for again once it is known.
+view new
+view central 0
+view command 041d 0000 = 00
+view status 041d 0000 = 0c
+view done 0 version
+view status 041d 0000 = 00
+# Of three packets that the host received it has taken two, and then one.
+view new
+view command 0c31 01 = 00
+view command 0c33 1b000003000000 = 00
+view peripheral 0
+view up 02002001005a
+view up 02002001005a
+view up 02002001005a
+view command 0c35 0100000200 = 00
+view status 0c35 0100000200 = 12
+view command 0c35 0100000100 = 00
+view status 0c35 0100000100 = 12
 # The accept list.
 view new
 view command 2011 01010101010101 = 00

@@ -2,7 +2,7 @@
 ghost use Rattle.std.specs.Prelude.{◌≤◌, length};
 
 use crate::driving::{Given, first_wrong};
-use simulated_pair::{Journal, Schedule, simulate};
+use pair_world::{Journal, Schedule, run_pair};
 use std::alloc::{AllocError, Global};
 use std::process::Abort;
 use test_words::octets_of;
@@ -120,7 +120,7 @@ fn journal_of(alloc: Global, a: &[u8], b: &[u8], schedule: &Schedule) -> Journal
     requires a { 1 ≤ length schedule.now.a.words.items }
     requires b { 1 ≤ length schedule.now.b.words.items }
 {
-    match simulate(alloc, a, b, schedule) {
+    match run_pair(alloc, a, b, schedule) {
         Ok(journal) => journal,
         Err(_) => Journal::new(alloc),
     }

@@ -74,6 +74,20 @@ turn 98 = a enter 4 34 took 4 3 06 done Encrypt lengths 251 27 b enter 4 34 sent
 air 122 = 788bb548785f0ad2038e8bad33 - a b
 a lengths = (251, 27)
 b lengths = (27, 251)
+# A version that crosses it so is known as it is answered.
+new
+air 2 = - - a b
+a ask encrypt
+b ask version
+air 26 = 039078563412efcdab74241302f1e0dfcebdac24abdcba 0c0bffff0100 a b
+a knows_version = no
+b key 27
+air 50 = - 047968574635241302bebaafde a b
+air 51 = - 05 a b
+air 74 = 9fcda7f448 - a b
+a knows_version = no
+turn 98 = a enter 4 34 took 4 3 06 done Encrypt b enter 4 34 sent 4 3 06
+a knows_version = yes
 # A central keeps one request: a second one ends the link. So does, after LL_ENC_RSP, data or
 # another LL_ENC_RSP.
 new

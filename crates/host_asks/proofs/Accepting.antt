@@ -43,7 +43,7 @@ use Rattle.link_commands.proofs.open_links.link_model.KnownEnds.{IsPast}
 use Rattle.host_view.specs.declared.links.Link.{Link}
 use Rattle.host_view.specs.View.{View}
 use Rattle.host_view.specs.declared.links.Asked.{Asked}
-use Rattle.host_view.specs.Changes.{answered, asking, with_asked}
+use Rattle.host_view.specs.Changes.{asking, completed, with_asked}
 use Rattle.host_view.specs.Links.{is_asked, is_central_role, link_in, update_kind}
 use Rattle.host_view.specs.Refusals.{are_parameters, asked_row, both_phys_rows, count_if, first_refusal, link_rows, parameters_row}
 use Rattle.host_view.specs.Status.{connection_update_rows, data_length_rows, disconnect_rows, enable_encryption_rows, is_data_length, is_reason, parameter_request_row, rows_of}
@@ -176,10 +176,11 @@ answer_knows link facts answer waits answers knows lasts =
       version = knows.version;
     }
 
--- ---- whether a request for a key waits
+-- ---- whether a request for a key waits, and whether the host gave one
 
-pub key_known : (link : Link) (facts : Facts) (waits : Bool) → KnowsAsks link facts → KnowsAsks (record link { waits_for_key = waits }) facts
-key_known link facts waits knows =
+pub key_known : (link : Link) (facts : Facts) (waits keyed : Bool) → KnowsAsks link facts
+    → KnowsAsks (record link { waits_for_key = waits; keyed = keyed }) facts
+key_known link facts waits keyed knows =
     record {
       table =
           record {
@@ -226,10 +227,10 @@ pub record IsCarriedOut (setup : Setup) (moment : Moment) (step : Option Step) (
   pub may : WordsFit moment → MayComeIf step facts
   pub keeps : (facts_commanded setup step facts).control.ends ≡ None → KnowsAsks after (facts_commanded setup step facts)
 
-unknown_by : (same knows kept told : Bool) → ((knows || kept) ≡ true → told ≡ true) → (same && told) ≡ false → (same && knows) ≡ false
-unknown_by false knows kept told is none = refl
-unknown_by true true kept told is none = absurd (let h : false ≡ true = sym none ∙ is refl in cc)
-unknown_by true false kept told is none = refl
+unknown_by : (same knows told : Bool) → (knows ≡ true → told ≡ true) → (same && told) ≡ false → (same && knows) ≡ false
+unknown_by false knows told is none = refl
+unknown_by true true told is none = absurd (let h : false ≡ true = sym none ∙ is refl in cc)
+unknown_by true false told is none = refl
 
 may_by : (x same known : Bool) → x ≡ true → (same && known) ≡ false → (false || (x && not (same && known))) ≡ true
 may_by x same known is none = rw (is, none) refl
@@ -248,7 +249,7 @@ asks_out setup moment link facts ask knows new fits other no_map unknown comes =
                 ap (λ (b : Bool). b || (may_ask_of facts.control.table (kind_of_ask ask) && not (is_same_kind (kind_of_ask ask) version_kind && facts.encryption.knows_version))) no_map
                 ∙ may_by (may_ask_of facts.control.table (kind_of_ask ask)) (is_same_kind (kind_of_ask ask) version_kind) facts.encryption.knows_version
                 (may_ask_new facts.control.table (kind_of_ask ask) link.asked other knows.table.asked new)
-                (unknown_by (is_same_kind (kind_of_ask ask) version_kind) facts.encryption.knows_version _ (is_some facts.peer.version) knows.version unknown);
+                (unknown_by (is_same_kind (kind_of_ask ask) version_kind) facts.encryption.knows_version (is_some facts.peer.version) knows.version unknown);
           };
       keeps = λ lasts. asked_knows link facts ask new knows lasts comes;
     }
@@ -264,7 +265,7 @@ asked_again k kind asked new other =
     by false is = asked_with k kind true asked other ∙ ap (λ (b : Bool). if b then true else is_asked kind asked) is
 
 known_out : (setup : Setup) (moment : Moment) (link : Link) (facts : Facts) (k : Kind) → KnowsAsks link facts → is_asked k link.asked ≡ false
-    → IsCarriedOut setup moment None (answered k (asking k link)) facts
+    → IsCarriedOut setup moment None (completed k (asking k link)) facts
 known_out setup moment link facts k knows new =
     record {
       may = λ words. tt;
@@ -390,9 +391,9 @@ carried_out setup view (LeEnableEncryption given rand ediv key) handle moment li
     asks_out setup moment link facts (Encrypt (rand % 2 ^ 64) (ediv % 2 ^ 16) (reverse key) moment.skd_m moment.iv_m) knows
     (passes (is_asked encrypt_kind link.asked) _ _ at_central.1).0 (encrypt_fits rand ediv moment) refl refl refl refl
 carried_out setup view (LeKeyReply given key) handle moment link facts ok about is knows =
-    record { may = λ words. tt; keeps = λ lasts. key_known link _ false (key_knows (Some (reverse key)) moment.slot link facts knows) }
+    record { may = λ words. tt; keeps = λ lasts. key_known link _ false true (key_knows (Some (reverse key)) moment.slot link facts knows) }
 carried_out setup view (LeKeyNegative given) handle moment link facts ok about is knows =
-    record { may = λ words. tt; keeps = λ lasts. key_known link _ false (key_knows None moment.slot link facts knows) }
+    record { may = λ words. tt; keeps = λ lasts. key_known link _ false link.keyed (key_knows None moment.slot link facts knows) }
 carried_out setup view other handle moment link facts ok about is knows = absurd (cc)
 
 pub command_may_come : (view : View) (command : Command) (handle : ℕ) (moment : Moment) (link : Link) (facts : Facts)

@@ -42,7 +42,7 @@ use Rattle.link_commands.specs.open_links.link_model.Setup.{Setup}
 use Rattle.link_commands.specs.open_links.link_model.Step.{Step, DataGiven, DataReported, Disconnected, EventEntered, KeyAnswered, PacketReceived, PacketSent, PduFixed, ProcedureAsked, RequestAnswered, WordsGiven}
 use Rattle.link_commands.specs.open_links.link_model.Verdicts.{pdu_of}
 use Rattle.link_commands.proofs.open_links.link_model.Ending.{gone_stays}
-use Rattle.link_commands.proofs.open_links.link_model.KnownEnds.{IsPast, knows_before_taking, past_knows}
+use Rattle.link_commands.proofs.open_links.link_model.KnownEnds.{IsPast, knows_accepted, knows_before_taking, past_knows}
 use Rattle.link_commands.proofs.open_links.link_model.Views.{DataTaking, Ended, Knows, Same, acked_control, acked_view, data_view, entered_view, key_view, taken_accepted, taken_view}
 use Rattle.host_view.specs.declared.links.Link.{Link}
 use Rattle.host_view.specs.Links.{is_asked}
@@ -318,6 +318,7 @@ module _ (setup : Setup) (slot : ℕ) (room : Bool) (header : DataHeader) (pdu :
         version =
             data_version (accepted && is_data pdu) taken
             (taken_version pdu slot (accepted_if accepted pdu now)
+            (knows_accepted accepted pdu now (knows_before_taking setup facts p setup.link.role slot header))
             (gone_version answers slot own (acked_version (has_acknowledged facts header) (heard_in_slot slot header.md facts) knows.version))
             takes (ap (λ (c : Control). c.ends) (sym same) ∙ lasts));
       })

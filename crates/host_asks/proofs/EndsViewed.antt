@@ -24,7 +24,7 @@ use Rattle.link_commands.specs.open_links.link_model.Setup.{Setup}
 use Rattle.link_commands.specs.open_links.link_model.Step.{Step}
 use Rattle.link_commands.specs.open_links.link_model.Facts.{Facts}
 use Rattle.link_commands.proofs.open_links.link_model.KnownEnds.{IsPast}
-use Rattle.host_view.specs.Changes.{answered, view_after}
+use Rattle.host_view.specs.Changes.{completed, view_after}
 use Rattle.host_view.specs.Refusals.{count_if}
 use Rattle.host_view.specs.Status.{status_of}
 use Rattle.host_view.specs.declared.links.Link.{Link}
@@ -97,8 +97,8 @@ handed_with effect link facts outstanding knows = handed_known link facts outsta
 
 key_with : (effect : Effect) (link : Link) (facts : Facts) (waits : Bool) → KnowsAsks (link_with_request effect link) facts
     → KnowsAsks (link_with_request effect (record link { waits_for_key = waits })) facts
-key_with (AskHost least most latency timeout) link facts waits knows = key_known (link_with_request (AskHost least most latency timeout) link) facts waits knows
-key_with effect link facts waits knows = key_known link facts waits knows
+key_with (AskHost least most latency timeout) link facts waits knows = key_known (link_with_request (AskHost least most latency timeout) link) facts waits link.keyed knows
+key_with effect link facts waits knows = key_known link facts waits link.keyed knows
 
 parameters_with : (effect : Effect) (link : Link) (facts : Facts) → KnowsAsks (link_with_request effect link) facts
     → KnowsAsks (link_with_request effect (record link { waits_for_parameters = true })) facts
@@ -200,7 +200,7 @@ step_known view setup facts step p other known lasts =
     }
 
 answered_view : (view : View) (handle : ℕ) (kind : Kind) (link : Link) → link_in view.links handle ≡ Some link
-    → link_in (view_noted view (Done handle kind)).links handle ≡ Some (answered kind link)
+    → link_in (view_noted view (Done handle kind)).links handle ≡ Some (completed kind link)
 answered_view view handle kind link is =
     notes_own handle view (Done handle kind ∷ []) (refl, tt) ∙ option_some (λ l. fold link_after_note l (Done handle kind ∷ [])) (link_in view.links handle) link is
 

@@ -62,7 +62,7 @@ use Rattle.procedure_events.specs.procedures.Taking.{facts_with, outcome_of}
 use Rattle.link_commands.proofs.open_links.table_laws.Begun.{Begins, begins_of}
 use Rattle.host_view.specs.declared.links.Asked.{Asked}
 use Rattle.host_view.specs.declared.links.Link.{Link}
-use Rattle.host_view.specs.Changes.{asking}
+use Rattle.host_view.specs.Changes.{asking, is_encryption}
 use Rattle.host_view.specs.Links.{is_asked}
 use Rattle.host_view.specs.Refusals.{count_if}
 use Rattle.host_asks.specs.Knowing.{KnowsTable}
@@ -70,9 +70,13 @@ use Rattle.host_asks.specs.Noting.{link_with_request}
 use Rattle.host_asks.proofs.Keeping.{KnowsKinds, asked_done, asked_refused, asks_one, own_begun, own_over}
 use Rattle.host_asks.proofs.Outcomes.{KeepsAsks, takes_pdu, waits_after}
 
--- a procedure is refused, and one is done
+-- a procedure is refused, and one is done, with which the link may be encrypted
+abbrev pub encrypted_done : Option Kind → Bool → Bool
+encrypted_done None encrypted = encrypted
+encrypted_done (Some kind) encrypted = is_encryption kind || encrypted
+
 abbrev pub link_done : Option Kind → Link → Link
-link_done done link = record link { asked = asked_done done link.asked }
+link_done done link = record link { asked = asked_done done link.asked; encrypted = encrypted_done done link.encrypted }
 
 abbrev pub link_refused : Option (Kind × ErrCode) → Link → Link
 link_refused refused link = record link { asked = asked_refused refused link.asked }

@@ -1,22 +1,25 @@
--- An end knows the version of its peer where it took LL_VERSION_IND, also while that is kept.
-use Rattle.std.proofs.Common.{◌≡◌, ℕ, Bool, true, false, ◌&&◌, ◌||◌, if◌then◌else◌, List, Option, Some, None, is_none, is_some, refl, ap, sym, ◌∙◌}
+-- An end knows the version of its peer where its procedures saw LL_VERSION_IND.
+use Rattle.std.proofs.Common.{◌≡◌, ℕ, Bool, true, false, ◌&&◌, ◌||◌, not, nat_le, if◌then◌else◌, List, Option, Some, None, is_none, is_some, refl, ap, sym, ◌∙◌, subst}
 use Rattle.ble_base.specs.ErrorCodes.{memory_capacity_exceeded, mic_failure}
 use Rattle.ble_base.specs.declared.error_codes.ErrCode.{ErrCode}
+use Rattle.ble_base.specs.declared.roles.Role.{Role}
 use Rattle.data_pdu.specs.declared.ctrl.Ctrl.{Ctrl}
 use Rattle.data_pdu.specs.declared.ctrl.Ctrl.TheVariants.{VersionInd}
 use Rattle.data_pdu.specs.declared.ctrl.CtrlRead.{CtrlRead}
 use Rattle.data_pdu.specs.declared.ctrl.CtrlRead.TheVariants.{Bare, Known, Unknown}
 use Rattle.link_commands.specs.open_links.control_model.Control.{Enters as control_enters}
-use Rattle.link_commands.specs.open_links.link_model.phased_end.Taking.{drawn}
+use Rattle.procedure_events.specs.procedure_stages.Closing.{is_open}
+use Rattle.procedure_events.specs.procedure_stages.Queue.{waiting_in}
+use Rattle.link_commands.specs.open_links.link_model.phased_end.Taking.{drawn, is_answered_in}
 use Rattle.link_commands.specs.open_links.link_model.phased_end.enc_phase.declared.classes.PduClass.TheVariants.{Data}
 use Rattle.link_commands.specs.open_links.link_model.phased_end.enc_phase.declared.facts.PhaseFacts.{PhaseFacts}
 use Rattle.link_commands.specs.open_links.link_model.phased_end.enc_phase.declared.facts.PhaseFacts.TheVariants.{Clear}
 use Rattle.link_commands.specs.open_links.link_model.phased_end.enc_phase.declared.facts.Transition.TheVariants.{Ask as AskTransition, Refuse}
-use Rattle.link_commands.specs.open_links.link_model.phased_end.enc_phase.Phases.{may_follow, phase_after}
+use Rattle.link_commands.specs.open_links.link_model.phased_end.enc_phase.Phases.{is_quiet, may_follow, phase_after}
 use Rattle.link_commands.specs.open_links.link_model.phased_end.enc_phase.Taking.{allows}
 use Rattle.link_commands.specs.open_links.link_model.phased_end.phased_control.Phased.{Phased, asking_if, asks_again, encrypting, encrypting_if, is_open_now, is_quiet_now, key_given, key_lacking, refused_if, with_owed_if, with_step}
 use Rattle.link_commands.specs.open_links.link_model.phased_end.phased_control.Steps.{seen_by_procedures}
-use Rattle.link_commands.specs.open_links.link_model.phased_end.phased_control.Taken.{Response, answered_if_quiet, answered_kept, ciphered, ctrl_in, does_keep, ended_with, handed_on, is_allowed, is_version, keeping, lacks_room_now, role_now, took}
+use Rattle.link_commands.specs.open_links.link_model.phased_end.phased_control.Taken.{Response, answered_if_quiet, answered_kept, ciphered, class_of_read, ctrl_in, does_keep, ended_with, handed_on, is_allowed, is_answered, is_answered_at, is_version, keeping, keeps_class, lacks_room_now, role_now}
 use Rattle.link_commands.specs.open_links.link_model.phased_end.keyed_control.Keyed.{Keyed}
 use Rattle.link_commands.specs.open_links.link_model.phased_end.keyed_control.KeyedSteps.{Enters, SeesAcknowledged, Takes, TakesData, keyed_after, keyed_moved}
 use Rattle.link_commands.specs.open_links.link_model.declared.state.PeerFacts.{PeerFacts}
@@ -25,16 +28,17 @@ use Rattle.link_commands.specs.open_links.link_model.Controls.{read_of}
 use Rattle.link_commands.specs.open_links.link_model.Entering.{keyed_entered}
 use Rattle.link_commands.specs.open_links.link_model.Facts.{Facts, keyed_of}
 use Rattle.link_commands.specs.open_links.link_model.Hosts.{key_step}
-use Rattle.link_commands.specs.open_links.link_model.Receiving.{acknowledged_if, acks_control, data_taken_if, keyed_acked_if, peer_from, peer_from_if, procedures_take_if}
+use Rattle.link_commands.specs.open_links.link_model.Receiving.{acknowledged_if, acks_control, data_taken_if, is_seen, kept_answered, keyed_acked_if, peer_answered, peer_from, peer_from_if, procedures_take_if}
 use Rattle.link_commands.specs.open_links.link_model.Sending.{control_gone_if}
 use Rattle.link_commands.proofs.open_links.link_model.phased_end.keyed_control.phased_control.Answering.{answers}
-use Rattle.host_asks.specs.Knowing.{KnowsVersion, has_version, kept_read}
+use Rattle.link_commands.proofs.open_links.link_model.Views.{Knows}
+use Rattle.host_asks.specs.Knowing.{KnowsVersion}
 
 -- ---- steps that take no control PDU leave what the end knows
 
--- the procedures saw a version, or it is kept
+-- the procedures saw a version
 abbrev pub has : Phased → Bool
-has s = has_version s.knows_version s.kept
+has s = s.knows_version
 
 owed_knows : (owed : Option Ctrl) (s : Phased) → has (with_owed_if owed s) ≡ has s
 owed_knows None s = refl
@@ -140,31 +144,15 @@ version_from (Known ctrl) peer = sym (or_false (is_some peer.version))
 version_from (Unknown opcode) peer = sym (or_false (is_some peer.version))
 version_from Bare peer = sym (or_false (is_some peer.version))
 
--- what is kept is what was read
-kept_so : (read : CtrlRead) → is_version (kept_read (ctrl_in read)) ≡ is_version read
-kept_so (Known ctrl) = refl
-kept_so (Unknown opcode) = refl
-kept_so Bare = refl
+still_or : (had told seen : Bool) → (had ≡ true → told ≡ true) → (had || seen) ≡ true → (told || seen) ≡ true
+still_or true told seen knows some = ap (λ (b : Bool). b || seen) (knows refl)
+still_or false told true knows some = or_true told
+still_or false told false knows some = absurd cc
 
 -- ---- what it takes
 
-either : (knows kept seen : Bool) → ((knows || seen) || kept) ≡ ((knows || kept) || seen)
-either true kept seen = refl
-either false true true = refl
-either false true false = refl
-either false false true = refl
-either false false false = refl
-
-keeps_or : (knows kept seen : Bool) → (knows || seen) ≡ true → ((knows || kept) || seen) ≡ true
-keeps_or true kept seen is = refl
-keeps_or false true seen is = refl
-keeps_or false false seen is = is
-
-module _ (slot : ℕ) (response : Response) (read : CtrlRead) (s : Phased) where
-  -- it has a version that it takes now, or had before
-  abbrev Tells : Phased → Type 0
-  Tells n = has n ≡ true → (has s || is_version read) ≡ true
-
+module _ (slot : ℕ) (response : Response) (read : CtrlRead) (s : Phased) (peer : PeerFacts)
+    (knows : s.knows_version ≡ true → is_some peer.version ≡ true) where
   -- as the procedures have seen it
   abbrev t : Phased
   t = seen_by_procedures read slot s
@@ -178,67 +166,98 @@ module _ (slot : ℕ) (response : Response) (read : CtrlRead) (s : Phased) where
   kept_then : u.kept ≡ s.kept
   kept_then = ap (λ (v : Phased). v.kept) (answers t response read)
 
-  had : has u ≡ (has s || is_version read)
-  had =
-      (λ i. has_version (known_then i) (kept_then i))
-      ∙ either s.knows_version (is_version (kept_read s.kept)) (is_version read)
+  -- it is known of the peer, or is read
+  told : u.knows_version ≡ true → (is_some peer.version || is_version read) ≡ true
+  told some = still_or s.knows_version (is_some peer.version) (is_version read) knows (sym known_then ∙ some)
 
-  kept_answered : (kept : Option Ctrl) → u.kept ≡ kept → has (answered_kept slot kept u) ≡ has u
-  kept_answered None is = refl
-  kept_answered (Some ctrl) is =
-      or_false (u.knows_version || is_version (Known ctrl)) ∙ ap (λ (kept : Option Ctrl). has_version u.knows_version kept) (sym is)
+  from_both : (kept : CtrlRead)
+      → is_some (peer_from kept (peer_from read peer)).version ≡ ((is_some peer.version || is_version read) || is_version kept)
+  from_both kept =
+      version_from kept (peer_from read peer) ∙ ap (λ (b : Bool). b || is_version kept) (version_from read peer)
 
-  quiet_answered : (quiet : Bool) → has (if quiet then answered_kept slot u.kept u else u) ≡ has u
-  quiet_answered true = kept_answered u.kept refl
-  quiet_answered false = refl
+  none_answered : (kept : CtrlRead) → u.knows_version ≡ true → is_some (peer_from kept (peer_from read peer)).version ≡ true
+  none_answered kept some = from_both kept ∙ ap (λ (b : Bool). b || is_version kept) (told some)
+
+  -- what was kept is answered, or not
+  abbrev Tells : Phased → Type 0
+  Tells n =
+      n.knows_version ≡ true → is_some (peer_from (kept_answered s.kept n.kept) (peer_from read peer)).version ≡ true
+
+  kept_tells : (kept : Option Ctrl) → u.kept ≡ kept → Tells (answered_kept slot kept u)
+  kept_tells None is some = none_answered _ some
+  kept_tells (Some ctrl) is some =
+      subst (λ (before : Option Ctrl). is_some (peer_from (kept_answered before None) (peer_from read peer)).version ≡ true)
+      (sym is ∙ kept_then)
+      (from_both (Known ctrl)
+      ∙ still_or u.knows_version (is_some peer.version || is_version read) (is_version (Known ctrl)) told some)
+
+  quiet_tells : (quiet : Bool) → Tells (if quiet then answered_kept slot u.kept u else u)
+  quiet_tells true some = kept_tells u.kept refl some
+  quiet_tells false some = none_answered _ some
 
   handed_tells : (goes : Bool) → is_none t.control.ends ≡ goes → (if goes then answered_if_quiet slot u else t).control.ends ≡ None
       → Tells (if goes then answered_if_quiet slot u else t)
-  handed_tells true is lasts some = sym (quiet_answered (is_quiet_now u) ∙ had) ∙ some
+  handed_tells true is lasts some = quiet_tells (is_quiet_now u) some
   handed_tells false is lasts some = absurd (let h : false ≡ true = sym is ∙ ap (λ (ends : Option ErrCode). is_none ends) lasts in cc)
 
-  took_by : (allowed keeps full : Bool)
-      → (if allowed then (if keeps then keeping read s else (if full then ended_with memory_capacity_exceeded s else handed_on slot response read s)) else ended_with mic_failure s).control.ends ≡ None
-      → Tells
-      (if allowed then (if keeps then keeping read s else (if full then ended_with memory_capacity_exceeded s else handed_on slot response read s)) else ended_with mic_failure s)
-  took_by false keeps full lasts some = absurd cc
-  took_by true true full lasts some =
-      keeps_or s.knows_version (is_version (kept_read s.kept)) (is_version read)
-      (ap (λ (seen : Bool). s.knows_version || seen) (sym (kept_so read)) ∙ some)
-  took_by true false true lasts some = absurd cc
-  took_by true false false lasts some = handed_tells (is_none t.control.ends) refl lasts some
+  abbrev taken_as : (allowed keeps full : Bool) → Phased
+  taken_as allowed keeps full =
+      if allowed
+      then (if keeps then keeping read s
+      else (if full then ended_with memory_capacity_exceeded s else handed_on slot response read s))
+      else ended_with mic_failure s
+
+  took_tells : (allowed keeps full : Bool) → (taken_as allowed keeps full).control.ends ≡ None
+      → (taken_as allowed keeps full).knows_version ≡ true
+      → is_some (peer_from (kept_answered s.kept (taken_as allowed keeps full).kept)
+      (peer_from_if (allowed && (not keeps && not full)) read peer)).version ≡ true
+  took_tells false keeps full lasts some = absurd cc
+  took_tells true true full lasts some =
+      version_from _ peer ∙ ap (λ (b : Bool). b || is_version (kept_answered s.kept (ctrl_in read))) (knows some)
+  took_tells true false true lasts some = absurd cc
+  took_tells true false false lasts some = handed_tells (is_none t.control.ends) refl lasts some
 
 -- ---- a control PDU is taken, or is not
 
-still_or : (had told seen : Bool) → (had ≡ true → told ≡ true) → (had || seen) ≡ true → (told || seen) ≡ true
-still_or true told seen knows some = ap (λ (b : Bool). b || seen) (knows refl)
-still_or false told true knows some = or_true told
-still_or false told false knows some = absurd cc
+answered_so : (read : CtrlRead) (role : Role) (phase : PhaseFacts) (s : Phased) → role_now s ≡ role → s.phase ≡ phase
+    → is_answered_in role read phase ≡ is_answered read s
+answered_so (Known ctrl) role phase s role_is phase_is = λ i. is_answered_at (sym role_is i) ctrl (sym phase_is i)
+answered_so (Unknown opcode) role phase s role_is phase_is = refl
+answered_so Bare role phase s role_is phase_is = refl
 
-module _ (pdu : Pdu) (slot : ℕ) (facts : Facts) (knows : KnowsVersion facts) where
+module _ (pdu : Pdu) (slot : ℕ) (facts : Facts) (holds : Knows (keyed_of facts)) (knows : KnowsVersion facts) where
   abbrev read : CtrlRead
   read = read_of pdu
 
   abbrev k : Keyed
   k = keyed_of facts
 
+  abbrev s : Phased
+  s = k.phased
+
+  -- the procedures see it where the phase has it so
+  seen_is : is_none facts.control.ends ≡ true
+      → is_seen pdu facts ≡ (is_allowed read s && (not (does_keep read s) && not (lacks_room_now read s)))
+  seen_is goes =
+      let role = (holds.fits goes).role in
+      λ i. goes i && (allows (holds.phase i) (sym role i) (class_of_read read)
+      && (not (keeps_class (class_of_read read) (sym role i) (is_quiet (holds.phase i)))
+      && not (is_open facts.control.table.closing && (nat_le 16 (waiting_in facts.control.table.queue)
+      && answered_so read facts.encryption.end.role facts.encryption.end.phase s role (sym holds.phase) i))))
+
   abbrev peer_by : Phased → PeerFacts
-  peer_by n = peer_from_if (is_none n.control.ends) read facts.peer
+  peer_by n =
+      peer_answered (is_none n.control.ends) (is_seen pdu facts) read (kept_answered s.kept n.kept) facts.peer
 
-  told : (n : Phased) → n.control.ends ≡ None → (has n ≡ true → (has k.phased || is_version read) ≡ true) → has n ≡ true
-      → is_some (peer_by n).version ≡ true
-  told n lasts tells some =
-      ap (λ (ends : Option ErrCode). is_some (peer_from_if (is_none ends) read facts.peer).version) lasts
-      ∙ version_from read facts.peer
-      ∙ still_or (has k.phased) (is_some facts.peer.version) (is_version read) knows (tells some)
+  abbrev taken_if : Bool → Phased
+  taken_if goes = (if goes then keyed_moved (Takes read slot (drawn facts.encryption.response)) k else k).phased
 
-  taken_knows : (goes : Bool) → is_none facts.control.ends ≡ goes
-      → (if goes then keyed_moved (Takes read slot (drawn facts.encryption.response)) k else k).phased.control.ends ≡ None
-      → has (if goes then keyed_moved (Takes read slot (drawn facts.encryption.response)) k else k).phased ≡ true
-      → is_some (peer_by (if goes then keyed_moved (Takes read slot (drawn facts.encryption.response)) k else k).phased).version ≡ true
+  taken_knows : (goes : Bool) → is_none facts.control.ends ≡ goes → (taken_if goes).control.ends ≡ None
+      → (taken_if goes).knows_version ≡ true → is_some (peer_by (taken_if goes)).version ≡ true
   taken_knows true is lasts some =
-      told (took slot (drawn facts.encryption.response) read k.phased) lasts
-      (took_by slot (drawn facts.encryption.response) read k.phased (is_allowed read k.phased) (does_keep read k.phased) (lacks_room_now read k.phased) lasts) some
+      let kept = kept_answered s.kept (taken_if true).kept in
+      (λ i. is_some (peer_answered (is_none (lasts i)) (seen_is is i) read kept facts.peer).version)
+      ∙ took_tells slot (drawn facts.encryption.response) read s facts.peer knows (is_allowed read s) (does_keep read s) (lacks_room_now read s) lasts some
   taken_knows false is lasts some = absurd (let h : false ≡ true = sym is ∙ ap (λ (ends : Option ErrCode). is_none ends) lasts in cc)
 
   pub taken_version : (takes : Bool) → (procedures_take_if takes pdu slot facts).control.ends ≡ None → KnowsVersion (procedures_take_if takes pdu slot facts)

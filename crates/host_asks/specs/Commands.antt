@@ -1,5 +1,5 @@
 -- That the step which an accepted command makes on a link may come there (our choice).
-use Rattle.std.specs.Prelude.{ℕ, ◌<◌, ◌^◌, Option, Some, None, ⊤}
+use Rattle.std.specs.Prelude.{◌<◌, ◌^◌, Option, Some, None, ⊤}
 use Rattle.link_commands.specs.open_links.link_model.Facts.{Facts}
 use Rattle.link_commands.specs.open_links.link_model.Step.{Step}
 use Rattle.link_pairs.specs.Hosts.{MayHost}

@@ -1,12 +1,9 @@
 -- What the view of a host knows of one end of a link: which procedures the host asked for that are neither done nor
 -- refused, whether the host ended the link, and whether a request of the peer waits for the host (Core 5.2, volume 6
 -- part B, sections 5.1, 5.1.6 and 5.1.7; that the view keeps these is our choice).
-use Rattle.std.specs.Prelude.{◌≡◌, ℕ, ◌+◌, ◌||◌, Bool, true, false, Option, Some, None, is_some}
+use Rattle.std.specs.Prelude.{◌≡◌, ℕ, ◌+◌, true, false, is_some}
 use Rattle.ble_base.specs.declared.procedure_kinds.Kind.{Kind}
 use Rattle.ble_base.specs.declared.procedure_kinds.Kind.TheVariants.{Map}
-use Rattle.data_pdu.specs.declared.ctrl.Ctrl.{Ctrl}
-use Rattle.data_pdu.specs.declared.ctrl.CtrlRead.{CtrlRead}
-use Rattle.data_pdu.specs.declared.ctrl.CtrlRead.TheVariants.{Bare, Known}
 use Rattle.link_commands.specs.open_links.procedure_values.Asks.{is_same_kind}
 use Rattle.link_commands.specs.open_links.procedure_values.Wants.{count_of}
 use Rattle.procedure_events.specs.procedure_stages.Closing.{is_disconnecting, is_open}
@@ -14,7 +11,6 @@ use Rattle.procedure_events.specs.procedure_stages.InProgress.{is_host_asked}
 use Rattle.procedure_events.specs.procedure_stages.Kinds.{is_kind, own_kind, role_of}
 use Rattle.procedure_events.specs.procedures.Table.{TableFacts}
 use Rattle.link_commands.specs.open_links.link_model.Facts.{Facts}
-use Rattle.link_commands.specs.open_links.link_model.phased_end.phased_control.Taken.{is_version}
 use Rattle.host_view.specs.declared.links.Link.{Link}
 use Rattle.host_view.specs.Links.{is_asked}
 use Rattle.host_view.specs.Refusals.{count_if}
@@ -36,19 +32,9 @@ pub record KnowsTable (link : Link) (table : TableFacts) : Type 0 where
   -- where the end waits for the host, the host may answer
   pub parameters : is_host_asked table.progress ≡ true → link.waits_for_parameters ≡ true
 
--- a PDU that a central keeps
-abbrev pub kept_read : Option Ctrl → CtrlRead
-kept_read None = Bare
-kept_read (Some ctrl) = Known ctrl
-
--- the procedures saw LL_VERSION_IND of the peer, or it is kept
-abbrev pub has_version : Bool → Option Ctrl → Bool
-has_version knows kept = knows || is_version (kept_read kept)
-
--- the end knows the version of its peer then
+-- where the procedures saw LL_VERSION_IND of the peer, the end knows its version
 abbrev pub KnowsVersion : Facts → Type 0
-KnowsVersion facts =
-    has_version facts.encryption.knows_version facts.encryption.kept ≡ true → is_some facts.peer.version ≡ true
+KnowsVersion facts = facts.encryption.knows_version ≡ true → is_some facts.peer.version ≡ true
 
 -- the view of a link knows this end of it
 pub record KnowsAsks (link : Link) (facts : Facts) : Type 0 where

@@ -11,7 +11,7 @@ use Rattle.link_commands.specs.open_links.link_model.Step.{Step, Disconnected, K
 use Rattle.link_commands.specs.open_links.link_model.End.{notes_after}
 use Rattle.link_commands.specs.open_links.link_model.Receiving.{effect_of, kept_effect_of}
 use Rattle.host_view.specs.declared.links.Link.{Link}
-use Rattle.host_view.specs.Changes.{answered}
+use Rattle.host_view.specs.Changes.{answered, completed, started}
 use Rattle.host_view.specs.Noted.{is_start_rsp}
 
 -- a step that the host makes by a command
@@ -22,15 +22,15 @@ is_of_host (KeyAnswered key slot) = true
 is_of_host (Disconnected reason slot) = true
 is_of_host other = false
 
--- encryption starts on the link, or not
+-- LL_START_ENC_RSP was taken on the link, or not
 abbrev pub link_encrypted_if : Bool → Link → Link
-link_encrypted_if true link = record link { encrypted = true }
+link_encrypted_if true link = started link
 link_encrypted_if false link = link
 
--- a procedure that is done or refused is no longer asked for
+-- a procedure that is done or refused is no longer asked for, and with that of encryption the link is encrypted
 abbrev pub link_after_note : Link → Note → Link
 link_after_note link (Refused handle kind code) = answered kind link
-link_after_note link (Done handle kind) = answered kind link
+link_after_note link (Done handle kind) = completed kind link
 link_after_note link (Took handle number llid body) = link_encrypted_if (is_start_rsp llid body.items) link
 link_after_note link other = link
 

@@ -1,5 +1,5 @@
 -- How an accepted command changes the view (Core 5.2, volume 4 part E, section 7).
-use Rattle.std.specs.Prelude.{ℕ, ◌+◌, ◌-◌, min, ◌==◌, Bool, true, false, List, [], fold, slice_set, Option, Some, None, if◌then◌else◌}
+use Rattle.std.specs.Prelude.{ℕ, ◌+◌, ◌-◌, min, ◌==◌, ◌||◌, Bool, true, false, List, [], fold, slice_set, Option, Some, None, if◌then◌else◌}
 use Rattle.std.specs.Option.{option_map}
 use Rattle.ble_base.specs.declared.procedure_kinds.Kind.{Kind}
 use Rattle.ble_base.specs.declared.procedure_kinds.Kind.TheVariants.{Update, Request, Map, Phy, Features, Version, Length, Encrypt}
@@ -10,7 +10,7 @@ use Rattle.scan_init.specs.Addresses.{with_address, without_address}
 use Rattle.host_view.specs.declared.links.Asked.{Asked}
 use Rattle.host_view.specs.declared.links.Link.{Link}
 use Rattle.host_view.specs.declared.changes.LinkChange.{LinkChange}
-use Rattle.host_view.specs.declared.changes.LinkChange.TheVariants.{Disconnecting, Asks, AsksUpdate, Answered, Encrypted, Key, Parameters, HandedUp, Taken}
+use Rattle.host_view.specs.declared.changes.LinkChange.TheVariants.{Disconnecting, Asks, AsksUpdate, Answered, Completed, Encrypted, Key, Keyed, Parameters, HandedUp, Taken}
 use Rattle.host_view.specs.View.{View, first_view}
 use Rattle.host_view.specs.Links.{link_in, update_kind}
 use Rattle.host_view.specs.Status.{named_address}
@@ -40,15 +40,34 @@ asking kind link = record link { asked = with_asked kind true link.asked }
 abbrev pub answered : Kind → Link → Link
 answered kind link = record link { asked = with_asked kind false link.asked }
 
+abbrev pub is_encryption : Kind → Bool
+is_encryption Encrypt = true
+is_encryption other = false
+
+-- the procedure is done: a central is encrypted once that of encryption is (volume 6 part B, section 5.1.3.1)
+abbrev pub completed : Kind → Link → Link
+completed kind link = record (answered kind link) { encrypted = is_encryption kind || link.encrypted }
+
+-- the host gave a key
+abbrev pub keyed : Link → Link
+keyed link = record link { waits_for_key = false; keyed = true }
+
+-- LL_START_ENC_RSP was taken: a peripheral is encrypted from then on where its host gave a key, and not by one that it
+-- does not await (volume 6 part B, section 5.1.3.1)
+abbrev pub started : Link → Link
+started link = record link { keyed = false; encrypted = link.keyed || link.encrypted }
+
 -- what happens to a link
 abbrev pub changed_by : LinkChange → Link → Link
 changed_by Disconnecting link = record link { disconnecting = true }
 changed_by (Asks kind) link = asking kind link
 changed_by AsksUpdate link = asking (update_kind link.role) link
 changed_by (Answered kind) link = answered kind link
+changed_by (Completed kind) link = completed kind link
 changed_by (Key waits) link = record link { waits_for_key = waits }
+changed_by Keyed link = keyed link
 changed_by (Parameters waits) link = record link { waits_for_parameters = waits }
-changed_by Encrypted link = record link { encrypted = true }
+changed_by Encrypted link = started link
 changed_by HandedUp link = record link { outstanding = min (link.outstanding + 1) 65535 }
 changed_by (Taken count) link = record link { outstanding = link.outstanding - count }
 
@@ -70,7 +89,7 @@ link_changed_by (LeConnectionUpdate handle min max latency timeout lengths) view
     on_link handle (changed_by AsksUpdate) view
 link_changed_by (LeReadRemoteFeatures handle) view = on_link handle (changed_by (Asks Features)) view
 link_changed_by (LeEnableEncryption handle rand ediv key) view = on_link handle (changed_by (Asks Encrypt)) view
-link_changed_by (LeKeyReply handle key) view = on_link handle (changed_by (Key false)) view
+link_changed_by (LeKeyReply handle key) view = on_link handle (changed_by Keyed) view
 link_changed_by (LeKeyNegative handle) view = on_link handle (changed_by (Key false)) view
 link_changed_by (LeParamReply handle min max latency timeout lengths) view =
     on_link handle (changed_by (Parameters false)) view

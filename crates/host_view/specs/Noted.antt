@@ -7,7 +7,7 @@ use Rattle.ble_base.specs.declared.notes.Note.{Note}
 use Rattle.ble_base.specs.declared.notes.Note.TheVariants.{Up, Opened, Shut, Took, Refused, Done}
 use Rattle.host_view.specs.declared.links.Asked.{Asked}
 use Rattle.host_view.specs.declared.links.Link.{Link}
-use Rattle.host_view.specs.declared.changes.LinkChange.TheVariants.{Answered, Encrypted, Key, Parameters, HandedUp}
+use Rattle.host_view.specs.declared.changes.LinkChange.TheVariants.{Answered, Completed, Encrypted, Key, Parameters, HandedUp}
 use Rattle.host_view.specs.View.{View}
 use Rattle.host_view.specs.Changes.{on_link, changed_by}
 
@@ -32,6 +32,7 @@ opened_link role own peer = record {
   asked = nothing_asked;
   waits_for_key = false;
   waits_for_parameters = false;
+  keyed = false;
   encrypted = false;
   outstanding = 0;
 }
@@ -91,7 +92,7 @@ is_start_rsp llid [] = false
 is_start_rsp llid (opcode ∷ []) = (llid == 3) && (opcode == 0x06)
 is_start_rsp llid (opcode ∷ field ∷ fields) = false
 
--- encryption starts on the link, or not
+-- LL_START_ENC_RSP was taken on the link, or not
 abbrev pub encrypted_if : Bool → ℕ → View → View
 encrypted_if starts handle view = if starts then on_link handle (changed_by Encrypted) view else view
 
@@ -102,5 +103,5 @@ view_noted view (Opened handle role own peer) = with_link handle (opened_link ro
 view_noted view (Shut handle reason) = without_link handle view
 view_noted view (Took handle number llid body) = encrypted_if (is_start_rsp llid body.items) handle view
 view_noted view (Refused handle kind code) = on_link handle (changed_by (Answered kind)) view
-view_noted view (Done handle kind) = on_link handle (changed_by (Answered kind)) view
+view_noted view (Done handle kind) = on_link handle (changed_by (Completed kind)) view
 view_noted view other = view

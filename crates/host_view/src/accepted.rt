@@ -83,7 +83,8 @@ impl HostView {
             Command::LeEnableEncryption { handle, .. } => {
                 self.change_link(*handle, LinkChange::Asks(Kind::Encrypt));
             }
-            Command::LeKeyReply { handle, .. } | Command::LeKeyNegative { handle } => {
+            Command::LeKeyReply { handle, .. } => self.change_link(*handle, LinkChange::Keyed),
+            Command::LeKeyNegative { handle } => {
                 self.change_link(*handle, LinkChange::Key { waits: false });
             }
             Command::LeParamReply { handle, .. } | Command::LeParamNegative { handle, .. } => {

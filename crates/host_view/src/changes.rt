@@ -35,13 +35,17 @@ pub(crate) enum LinkChange {
     Asks(Kind),
     /// The host asked for an update of the connection.
     AsksUpdate,
-    /// A procedure is done or refused.
+    /// A procedure is refused.
     Answered(Kind),
-    /// The host is asked for a key, or answered.
+    /// A procedure is done: that of encryption once the central is encrypted.
+    Completed(Kind),
+    /// The host is asked for a key, or has none.
     Key { waits: bool },
+    /// The host gave a key.
+    Keyed,
     /// The host is asked for connection parameters, or answered.
     Parameters { waits: bool },
-    /// LL_START_ENC_RSP was taken.
+    /// LL_START_ENC_RSP was taken: a peripheral whose host gave a key is encrypted from then on.
     Encrypted,
     /// The host was handed a packet.
     HandedUp,
@@ -62,9 +66,20 @@ impl LinkChange {
                 changed.asked = changed.asked.with(update_kind(changed.role), true);
             }
             LinkChange::Answered(kind) => changed.asked = changed.asked.with(kind, false),
+            LinkChange::Completed(kind) => {
+                changed.asked = changed.asked.with(kind, false);
+                changed.encrypted = matches!(kind, Kind::Encrypt) || changed.encrypted;
+            }
             LinkChange::Key { waits } => changed.waits_for_key = waits,
+            LinkChange::Keyed => {
+                changed.waits_for_key = false;
+                changed.keyed = true;
+            }
             LinkChange::Parameters { waits } => changed.waits_for_parameters = waits,
-            LinkChange::Encrypted => changed.encrypted = true,
+            LinkChange::Encrypted => {
+                changed.encrypted = changed.keyed || changed.encrypted;
+                changed.keyed = false;
+            }
             LinkChange::HandedUp => changed.outstanding = changed.outstanding.saturating_add(1),
             LinkChange::Taken(count) => {
                 changed.outstanding = changed.outstanding.saturating_sub(count);

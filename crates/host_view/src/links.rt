@@ -50,7 +50,9 @@ pub struct Link {
     pub waits_for_key: bool,
     /// The host was asked for connection parameters, and has not answered.
     pub waits_for_parameters: bool,
-    /// LL_START_ENC_RSP was taken on it: encryption starts again from here on (our choice).
+    /// The host gave a key, and encryption has not started with it.
+    pub keyed: bool,
+    /// Encryption started on it before (Core 5.2, volume 6 part B, section 5.1.3.1).
     pub encrypted: bool,
     /// How many ACL packets the host was handed and has not returned, while host flow control is
     /// on.

@@ -71,6 +71,7 @@ impl Link {
             asked: Asked::default(),
             waits_for_key: false,
             waits_for_parameters: false,
+            keyed: false,
             encrypted: false,
             outstanding: 0,
         }
@@ -124,7 +125,7 @@ impl HostView {
         self.set_link(handle, None);
     }
 
-    /// Takes that encryption starts on the link with this handle, or not.
+    /// Takes that LL_START_ENC_RSP was taken on the link with this handle, or not.
     fn encrypt_if(&mut self, starts: bool, handle: u16)
         ensures { self.new ≡ encrypted_if starts handle self.old }
     {
@@ -147,9 +148,10 @@ impl HostView {
                 peer,
             } => self.open(*handle, Link::new(*role, *own, *peer)),
             Note::Shut { handle, .. } => self.shut(*handle),
-            Note::Refused { handle, kind, .. } | Note::Done { handle, kind } => {
+            Note::Refused { handle, kind, .. } => {
                 self.change_link(*handle, LinkChange::Answered(*kind));
             }
+            Note::Done { handle, kind } => self.change_link(*handle, LinkChange::Completed(*kind)),
             Note::Took {
                 handle,
                 llid,

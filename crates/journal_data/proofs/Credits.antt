@@ -92,7 +92,7 @@ none_took handle setup slot room found facts =
 reported_kept : (reported : ℕ) → IsKeptByEnd (λ outgoing. outgoing.reported ≡ reported)
 reported_kept reported = record {
   sending = record {
-    fixed = λ limit pdu more outgoing same. same;
+    fixed = λ limit pdu more again outgoing same. same;
     sent = λ payload is_new outgoing same. sent_as_same payload is_new outgoing ∙ same;
   };
   acked = λ acked outgoing same. acked_same acked outgoing ∙ same;

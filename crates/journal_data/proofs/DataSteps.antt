@@ -11,7 +11,7 @@ use Rattle.journal_acks.specs.link_model.Setup.{Setup}
 use Rattle.journal_acks.specs.link_model.Controls.{is_procedure_pdu, is_quiet_now, next_control}
 use Rattle.journal_acks.specs.link_model.End.{facts_after}
 use Rattle.journal_acks.specs.link_model.Facts.{Facts}
-use Rattle.journal_acks.specs.link_model.Fixing.{data_cut, data_fixed_by, data_goes, fixed_anew}
+use Rattle.journal_acks.specs.link_model.Fixing.{data_cut, data_fixed_by, data_goes, fixed_anew, is_more_again}
 use Rattle.journal_acks.specs.link_model.Packets.{good_pdu, is_forged}
 use Rattle.journal_acks.specs.link_model.Payload.{payload_made}
 use Rattle.journal_acks.specs.link_model.Receiving.{accepted_if, accepts, acknowledged_if, answers_with_control, data_taken_if, facts_before_taking, facts_forged_if, facts_received, has_acknowledged, heard_in_slot, procedures_take_if}
@@ -42,8 +42,8 @@ asked_own step asks = absurd asks
 
 -- a fact of data that is kept as a PDU is fixed, and as it is sent
 pub record IsKeptBySending (P : Data → Type 0) : Type 0 where
-  pub fixed : (limit : ℕ) (pdu : Pdu) (more : Bool) (outgoing : Data) → P outgoing
-      → P (record outgoing { limit = limit; fixed = pdu; more = more })
+  pub fixed : (limit : ℕ) (pdu : Pdu) (more again : Bool) (outgoing : Data) → P outgoing
+      → P (record outgoing { limit = limit; fixed = pdu; more = more; more_again = again })
   pub sent : (payload : List ℕ) (is_new : Bool) (outgoing : Data) → P outgoing → P (data_sent_as payload is_new outgoing)
 
 -- and as it is acknowledged
@@ -55,19 +55,20 @@ module _ (P : Data → Type 0) (kept : IsKeptBySending P) where
   abbrev Holds : Facts → Type 0
   Holds facts = P facts.outgoing
 
-  fixed_by : (control : Bool) (waiting : ℕ) (quiet goes : Bool) (limit : ℕ) (outgoing : Data) → P outgoing
-      → P (data_fixed_by control waiting quiet goes (record outgoing { limit = limit }))
-  fixed_by true waiting quiet goes limit outgoing holds = kept.fixed limit _ _ outgoing holds
-  fixed_by false waiting quiet true limit outgoing holds = kept.fixed limit _ _ outgoing holds
-  fixed_by false waiting quiet false limit outgoing holds = kept.fixed limit _ _ outgoing holds
+  fixed_by : (control : Bool) (waiting : ℕ) (quiet goes again : Bool) (limit : ℕ) (outgoing : Data) → P outgoing
+      → P (record (data_fixed_by control waiting quiet goes (record outgoing { limit = limit })) { more_again = again })
+  fixed_by true waiting quiet goes again limit outgoing holds = kept.fixed limit _ _ again outgoing holds
+  fixed_by false waiting quiet true again limit outgoing holds = kept.fixed limit _ _ again outgoing holds
+  fixed_by false waiting quiet false again limit outgoing holds = kept.fixed limit _ _ again outgoing holds
 
   fixed : (stays : Bool) (facts : Facts) → Holds facts → Holds (if stays then facts else fixed_anew facts)
   fixed true facts holds = holds
   fixed false facts holds =
-      fixed_by (is_some (next_control facts)) (waiting_in facts.control.table.queue) (is_quiet_now facts) (data_goes facts) (data_cut facts).limit facts.outgoing holds
+      fixed_by (is_some (next_control facts)) (waiting_in facts.control.table.queue) (is_quiet_now facts) (data_goes facts) (is_more_again facts)
+      (data_cut facts).limit facts.outgoing holds
 
   gone : (goes : Bool) (slot : ℕ) (facts : Facts) → Holds facts → Holds (control_gone_if goes slot facts)
-  gone true slot facts holds = kept.fixed facts.outgoing.limit _ facts.outgoing.more facts.outgoing holds
+  gone true slot facts holds = kept.fixed facts.outgoing.limit _ facts.outgoing.more facts.outgoing.more_again facts.outgoing holds
   gone false slot facts holds = holds
 
   sent : (slot : ℕ) (facts : Facts) → Holds facts → Holds (facts_sent slot facts)

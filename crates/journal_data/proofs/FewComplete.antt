@@ -96,7 +96,7 @@ sent_load payload false outgoing = omega arith
 load_kept : (most : ℕ) → IsKeptByEnd (λ outgoing. load_in outgoing ≤ most)
 load_kept most = record {
   sending = record {
-    fixed = λ limit pdu more outgoing few. few;
+    fixed = λ limit pdu more again outgoing few. few;
     sent = λ payload is_new outgoing few. let less = sent_load payload is_new outgoing in omega (arith, less, few);
   };
   acked = λ acked outgoing few. let less = acked_load acked outgoing in omega (arith, less, few);

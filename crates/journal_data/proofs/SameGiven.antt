@@ -61,7 +61,7 @@ acked_same false outgoing = refl
 given_kept : (given : List HostData) → IsKeptByEnd (λ outgoing. outgoing.given ≡ given)
 given_kept given = record {
   sending = record {
-    fixed = λ limit pdu more outgoing same. same;
+    fixed = λ limit pdu more again outgoing same. same;
     sent = λ payload is_new outgoing same. sent_same payload is_new outgoing ∙ same;
   };
   acked = λ acked outgoing same. acked_same acked outgoing ∙ same;

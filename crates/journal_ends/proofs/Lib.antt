@@ -6,6 +6,7 @@ pub mod GrownLinks
 pub mod HostedLinks
 pub mod DrawingCalls
 pub mod StandingLinks
+mod AnsweredLines
 pub mod PeersKnown
 pub mod SeenEvents
 pub mod ReachedLinks

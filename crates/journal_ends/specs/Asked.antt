@@ -1,11 +1,15 @@
 -- What the host of a side asks of the end of a link by a command, from the lines of a journal (Core 5.2, volume 4 part E,
 -- sections 7.1 and 7.8).
-use Rattle.std.specs.Prelude.{ℕ, ◌-◌, nat_lt, Bool, false, List, fold, length, Option, Some, None, if◌then◌else◌}
+use Rattle.std.specs.Prelude.{ℕ, ◌-◌, ◌&&◌, nat_lt, Bool, true, false, List, fold, length, Option, Some, None, if◌then◌else◌}
+use Rattle.ble_base.specs.declared.procedure_kinds.Kind.TheVariants.{Encrypt}
 use Rattle.ble_base.specs.declared.roles.Role.{Role}
+use Rattle.ble_base.specs.declared.roles.Role.TheVariants.{Central}
 use Rattle.ble_base.specs.declared.roles.Side.{Side}
+use Rattle.data_pdu.specs.declared.ctrl.CtrlRead.{CtrlRead}
+use Rattle.data_pdu.specs.declared.ctrl.CtrlRead.TheVariants.{Bare}
 use Rattle.hci_cmd.specs.declared.command.Command.{Command}
 use Rattle.journal.specs.declared.entries.Entry.{Entry}
-use Rattle.journal.specs.declared.entries.Entry.TheVariants.{Opened, Shut, Took}
+use Rattle.journal.specs.declared.entries.Entry.TheVariants.{Began, Done, Opened, Refused, Shut, Took}
 use Rattle.journal_acks.specs.controller_model.link_commands.declared.moments.Moment.{Moment}
 use Rattle.journal_acks.specs.controller_model.link_commands.Commands.{step_on}
 use Rattle.journal_acks.specs.journal_links.Begun.{LinkBegun, link_numbered}
@@ -17,6 +21,7 @@ use Rattle.journal_acks.specs.link_model.Receiving.{peer_from}
 use Rattle.journal_acks.specs.link_model.Step.{Step}
 use Rattle.journal_acks.specs.link_model.declared.state.PeerFacts.{PeerFacts}
 use Rattle.journal_acks.specs.link_model.keyed_control.declared.material.Response.{Response}
+use Rattle.journal_acks.specs.link_model.phased_control.Taken.{class_of_read, keeps_class}
 use Rattle.journal_acks.specs.run_model.Readers.{turns_of}
 
 -- ---- the end, by its lines
@@ -30,16 +35,46 @@ opened_after before line = before
 abbrev pub opened_by : List Entry → Option (ℕ × Role)
 opened_by lines = fold opened_after None lines
 
--- what an end knows of its peer, by the control PDUs that it took (volume 6 part B, sections 2.4.2.9 to 2.4.2.15)
-abbrev pub peer_taking : Pdu → PeerFacts → PeerFacts
-peer_taking pdu peer = if is_procedure_pdu pdu then peer_from (read_of pdu) peer else peer
+-- What an end knows of its peer is what the control PDUs say that it answered (volume 6 part B, sections 2.4.2.9 to
+-- 2.4.2.15). It answers each as it is taken; but a central keeps the first PDU of a procedure of its peer that comes
+-- while its own encryption runs, and answers it as that is done or refused (section 5.1.3; that it waits so long is our
+-- choice)
+pub record Answered : Type 0 where
+  pub peer : PeerFacts
+  -- the encryption of a central runs, and this PDU is kept
+  pub encrypts : Bool
+  pub kept : CtrlRead
 
-abbrev pub peer_after : PeerFacts → Entry → PeerFacts
-peer_after peer (Took side link count llid body) = peer_taking (record { llid = llid; body = body }) peer
-peer_after peer line = peer
+abbrev pub none_answered : Answered
+none_answered = record { peer = no_peer; encrypts = false; kept = Bare }
+
+abbrev pub is_kept : CtrlRead → Answered → Bool
+is_kept read before = before.encrypts && keeps_class (class_of_read read) Central false
+
+abbrev pub keeping : CtrlRead → Answered → Answered
+keeping read before = record before { kept = read }
+
+abbrev pub answering : CtrlRead → Answered → Answered
+answering read before = record before { peer = peer_from read before.peer }
+
+abbrev pub answering_kept : Answered → Answered
+answering_kept before = record { peer = peer_from before.kept before.peer; encrypts = false; kept = Bare }
+
+abbrev pub taking : CtrlRead → Answered → Answered
+taking read before = if is_kept read before then keeping read before else answering read before
+
+abbrev pub taking_pdu : Pdu → Answered → Answered
+taking_pdu pdu before = if is_procedure_pdu pdu then taking (read_of pdu) before else before
+
+abbrev pub answered_after : Answered → Entry → Answered
+answered_after before (Took side link count llid body) = taking_pdu (record { llid = llid; body = body }) before
+answered_after before (Began side link Encrypt) = record before { encrypts = true }
+answered_after before (Done side link Encrypt) = answering_kept before
+answered_after before (Refused side link Encrypt code) = answering_kept before
+answered_after before line = before
 
 abbrev pub peer_by : List Entry → PeerFacts
-peer_by lines = fold peer_after no_peer lines
+peer_by lines = (fold answered_after none_answered lines).peer
 
 -- ---- the words of a side
 

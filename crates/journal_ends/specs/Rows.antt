@@ -1,11 +1,13 @@
 -- Journals in which a host sends commands on its link, or a packet is judged forged, as worked examples have them.
-use Rattle.std.specs.Prelude.{ℕ, List, [], ◌∷◌, ◌++◌}
+use Rattle.std.specs.Prelude.{ℕ, List, [], ◌∷◌, ◌++◌, Some, None}
+use Rattle.ble_base.specs.declared.procedure_kinds.Kind.TheVariants.{Encrypt}
 use Rattle.ble_base.specs.declared.roles.Side.TheVariants.{B}
 use Rattle.journal.specs.declared.entries.Entry.{Entry}
 use Rattle.ble_base.specs.declared.verdicts.Verdict.TheVariants.{Forged}
-use Rattle.journal.specs.declared.entries.Entry.TheVariants.{Air, Fed, Took, Up}
+use Rattle.journal.specs.declared.entries.Entry.TheVariants.{Air, Began, Fed, Took, Up}
 use Rattle.journal.specs.declared.entries.Mark.TheVariants.{Pass as Passed}
 use Rattle.journal_acks.specs.Rows.{data_packet, data_sent}
+use Rattle.journal_acks.specs.link_model.declared.state.PeerFacts.{PeerFacts}
 use Rattle.journal_acks.specs.run_model.Rows.{one_connection_journal, turn_entry}
 use Rattle.journal_ends.specs.Asked.{Words}
 
@@ -62,6 +64,17 @@ version_body = 0x0C ∷ 0x0B ∷ 0xFF ∷ 0xFF ∷ 0x01 ∷ 0x00 ∷ []
 
 abbrev pub asked_again : List Entry
 asked_again = next_turn ++ Took B 1 1 3 version_body ∷ version_command ∷ version_answer 0x00 ∷ []
+
+-- a central takes it while its encryption runs, and its host asks for the version then
+abbrev pub version_kept : List Entry
+version_kept = Began B 1 Encrypt ∷ Took B 1 1 3 version_body ∷ []
+
+abbrev pub asked_meanwhile : List Entry
+asked_meanwhile = next_turn ++ version_kept ++ version_command ∷ version_answer 0x00 ∷ []
+
+-- version 0B of company FFFF, and nothing else, is known of the peer
+abbrev pub known_version : PeerFacts
+known_version = record { features = None; version = Some (record { version = 0x0B; company = 0xFFFF; sub = 0x0001 }) }
 
 -- the peripheral judges the packet with the PDU of data of the central forged
 abbrev pub forged_data : List Entry

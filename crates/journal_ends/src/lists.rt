@@ -1,6 +1,6 @@
 //! Laws of what an end says and hears, by any list of lines and by any past of the end. The bodies
 //! are empty: the contracts are the laws.
-ghost use Rattle.std.specs.Prelude.{◌≡◌, ℕ, List, map};
+ghost use Rattle.std.specs.Prelude.{◌≡◌, ℕ, List, None, map};
 ghost use Rattle.std.specs.Option.{option_map};
 ghost use Rattle.ble_base.specs.declared.roles.Side.{Side};
 ghost use Rattle.journal_acks.specs.controller_model.Since.{notes_opened_on};
@@ -11,7 +11,7 @@ ghost use Rattle.journal_acks.specs.link_model.Setup.{Setup};
 ghost use Rattle.journal_acks.specs.link_model.Step.{Step};
 ghost use Rattle.journal_acks.specs.link_model.declared.events.Reception.{Reception};
 ghost use Rattle.journal_acks.specs.Shut.{last_heard};
-ghost use Rattle.journal_ends.specs.Asked.{Words};
+ghost use Rattle.journal_ends.specs.Asked.{Words, peer_by};
 ghost use Rattle.journal_ends.specs.Seen.{last_slot, lines_said, seen_of, seen_on};
 
 /// What the end of a side on a link says, by the lines of any journal, are the lines of that side
@@ -34,4 +34,14 @@ pub fn what_an_end_hears_last_is_its_last_good_packet()
     ensures by_past { (side : Side) (number : ℕ) (setup : Setup) (past : List Step)
         → last_slot (seen_of side number setup past)
         ≡ option_map (λ (good : Reception). good.slot) (facts_of setup past).last_good }
+{}
+
+/// What an end that goes on knows of its peer is what the control PDUs say that it answered, by its
+/// lines: it answered each as it took it, and a PDU that a central kept as its encryption was done
+/// or refused (Core 5.2, volume 6 part B, sections 2.4.2.9 to 2.4.2.15 and 5.1.3).
+pub fn what_an_end_knows_of_its_peer_is_what_it_answered()
+    ensures { (side : Side) (number : ℕ) (setup : Setup) (past : List Step)
+        → (facts_of setup past).control.ends ≡ None
+        → peer_by (map (line_of side number) (notes_opened_on setup past))
+        ≡ (facts_of setup past).peer }
 {}

@@ -1,14 +1,19 @@
 //! Worked examples, which the definitions compute.
 ghost use Rattle.std.specs.Prelude.{◌≡◌, ◌++◌, ◌∷◌, [], Err, Ok, Some};
+ghost use Rattle.ble_base.specs.declared.procedure_kinds.Kind.TheVariants.{Encrypt};
 ghost use Rattle.ble_base.specs.declared.roles.Role.TheVariants.{Central, Peripheral};
 ghost use Rattle.ble_base.specs.declared.roles.Side.TheVariants.{A, B};
-ghost use Rattle.journal.specs.declared.entries.Entry.TheVariants.{Enter, Opened, Sent, Took};
+ghost use Rattle.journal.specs.declared.entries.Entry.TheVariants.{Began, Done, Enter, Opened};
+ghost use Rattle.journal.specs.declared.entries.Entry.TheVariants.{Refused, Sent, Took};
 ghost use Rattle.journal_acks.specs.run_model.Rows.{first_reply};
 ghost use Rattle.journal_acks.specs.Rows.{data_acknowledged, data_packet, data_pdu, more_packet};
 ghost use Rattle.journal_acks.specs.Rows.{reply_packet};
+ghost use Rattle.journal_acks.specs.link_model.Facts.{no_peer};
 ghost use Rattle.journal_acks.specs.link_model.Step.{Disconnected, ProcedureAsked, RequestAnswered};
 ghost use Rattle.journal_acks.specs.link_model.procedure_values.declared.asks.Ask.TheVariants.{Update, Version};
-ghost use Rattle.journal_ends.specs.Rows.{asked_of_central, ended_by_central, forged_data};
+ghost use Rattle.journal_ends.specs.Asked.{peer_by};
+ghost use Rattle.journal_ends.specs.Rows.{asked_meanwhile, asked_of_central, ended_by_central};
+ghost use Rattle.journal_ends.specs.Rows.{forged_data, known_version, version_kept};
 ghost use Rattle.journal_ends.specs.Rows.{refused_to_central};
 ghost use Rattle.journal_ends.specs.Answering.{answers_from};
 ghost use Rattle.journal_ends.specs.Rows.{asked_again, next_turn, some_words, replied, replied_negatively};
@@ -50,6 +55,20 @@ pub fn worked_asks()
         ∷ Asks (Disconnected (record { 0 = 0x13 }) 1) ∷ [] }
     ensures known { seen_on some_words B 1 asked_again
         ≡ Says (Opened B 1 0 Central) ∷ Says (Took B 1 1 3 version_body) ∷ [] }
+{}
+
+/// A central that takes LL_VERSION_IND while its encryption runs keeps it: it knows the version of its
+/// peer once the encryption is done or refused. Until then a host that asks for it asks the end. An
+/// end that does not encrypt knows the version at once.
+pub fn worked_versions()
+    ensures kept { peer_by version_kept ≡ no_peer }
+    ensures done { peer_by (version_kept ++ Done B 1 Encrypt ∷ []) ≡ known_version }
+    ensures refused { peer_by (version_kept ++ Refused B 1 Encrypt (record { 0 = 0x06 }) ∷ [])
+        ≡ known_version }
+    ensures at_once { peer_by (Took B 1 1 3 version_body ∷ []) ≡ known_version }
+    ensures asked { seen_on some_words B 1 asked_meanwhile
+        ≡ Says (Opened B 1 0 Central) ∷ Says (Began B 1 Encrypt) ∷ Says (Took B 1 1 3 version_body)
+        ∷ Asks (ProcedureAsked Version) ∷ [] }
 {}
 
 /// The host of the central answers a request of the peripheral in turn 1: it lets the parameters

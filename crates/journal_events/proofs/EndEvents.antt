@@ -13,7 +13,7 @@ use Rattle.journal_sending.specs.journal_leaving.link_model.procedure_values.Lim
 use Rattle.journal_sending.specs.journal_leaving.link_model.Acknowledgement.{Pdu}
 use Rattle.journal_sending.specs.journal_leaving.link_model.Controls.{are_equal, is_procedure_pdu}
 use Rattle.journal_sending.specs.journal_leaving.link_model.Data.{is_data}
-use Rattle.journal_sending.specs.journal_leaving.link_model.Entering.{facts_entered}
+use Rattle.journal_sending.specs.journal_leaving.link_model.Entering.{facts_entered, keyed_entered}
 use Rattle.journal_sending.specs.journal_leaving.link_model.Facts.{Facts, keyed_of}
 use Rattle.journal_sending.specs.journal_leaving.link_model.Fixing.{facts_fixed}
 use Rattle.journal_sending.specs.journal_leaving.link_model.Packets.{more_sent}
@@ -70,7 +70,7 @@ lines_by event long changed good = record {
 -- it enters an event
 pub entered_event : (setup : Setup) (slot : ℕ) (facts : Facts)
     → event_lines (facts_entered setup slot facts)
-    ≡ event_entering slot (facts_entered setup slot facts).event.number (Some (keyed_of facts)) (event_lines facts)
+    ≡ event_entering slot (facts_entered setup slot facts).event.number (Some (keyed_of facts)) (Some (keyed_entered slot facts)) (event_lines facts)
 entered_event setup slot facts = refl
 
 pub fixed_event : (facts : Facts) → event_lines (facts_fixed facts) ≡ event_lines facts

@@ -280,7 +280,7 @@ module _ (words : Words) (given : Given) (station slot : ℕ) (on : Bool) (base 
 
   -- ---- what they tell
 
-  keyed : keyed_at words own side (now front) ≡ Some (keyed_of entered)
+  pub keyed : keyed_at words own side (now front) ≡ Some (keyed_of entered)
   keyed =
       moving.keyed (keyed_of end) none known.keyed
       ∙ ap Some ((λ i. moved_by withheld response (known.turn i) (up_is i) (keyed_of end))

@@ -210,7 +210,8 @@ quiet_line words side number front before (Opened other link handle role) none u
     line_apart side other (link == number) (Opened other link handle role) no_event_lines before none
 quiet_line words side number front before (Enter other link event channel) none unanswered deaf own =
     line_apart side other (link == number) (Enter other link event channel)
-    (event_entering (turn_now front) event (keyed_on words side number front) before) before none
+    (event_entering (turn_now front) event (keyed_on words side number front)
+    (keyed_on words side number (front ++ Enter other link event channel ∷ [])) before) before none
 quiet_line words side number front before line none unanswered deaf own =
     let keyed = keyed_more words side number front line ∙ quiet_keyed words side number front (keyed_on words side number front) line none unanswered in
     (λ i. changed_if (lengths_differ (keyed_on words side number front) (keyed i)) (passed_none side number front before line deaf own i))
@@ -234,8 +235,9 @@ module _ (words : Words) (side : Side) (number : ℕ) (front : List Entry) (befo
   said_line (Opened other link handle role) opens is deaf own later = absurd cc
   said_line (Enter other link event channel) opens is deaf own later =
       line_own side other (link == number) (Enter other link event channel)
-      (event_entering (turn_now front) event (keyed_on words side number front) before) before is
-      ∙ ap (λ one. event_entering (turn_now front) event one before) keyed
+      (event_entering (turn_now front) event (keyed_on words side number front)
+      (keyed_on words side number (front ++ Enter other link event channel ∷ [])) before) before is
+      ∙ (λ i. event_entering (turn_now front) event (keyed i) (later i) before)
   said_line line opens is deaf own later =
       λ i. changed_if (lengths_differ (keyed i) (later i)) (passed_none side number front before line deaf own i)
 

@@ -23,7 +23,7 @@ use Rattle.journal_sending.specs.journal_leaving.link_model.Acknowledgement.{Pdu
 use Rattle.journal_sending.specs.journal_leaving.link_model.Controls.{are_equal, goes_on, is_procedure_pdu, is_quiet_now, pdu_fixed, read_of}
 use Rattle.journal_sending.specs.journal_leaving.link_model.Data.{is_control, is_data, is_empty, numbered}
 use Rattle.journal_sending.specs.journal_leaving.link_model.End.{facts_after, notes_after, notes_from}
-use Rattle.journal_sending.specs.journal_leaving.link_model.Entering.{began_notes, done_notes, event_notes, facts_entered, facts_entered_if}
+use Rattle.journal_sending.specs.journal_leaving.link_model.Entering.{began_notes, done_notes, event_notes, facts_entered, facts_entered_if, keyed_entered}
 use Rattle.journal_sending.specs.journal_leaving.link_model.declared.events.ConnectionEvent.{ConnectionEvent}
 use Rattle.journal_sending.specs.journal_leaving.link_model.control_end.declared.answers.Entry.{Entry as EndEntry}
 use Rattle.journal_sending.specs.journal_leaving.link_model.Events.{applied_notes}
@@ -157,7 +157,7 @@ module _ (side : Side) (number : ℕ) (withheld : Withheld) (response : Response
       later_noted : noted (enter ∷ more) (keyed_of facts) (event_lines facts) ≡ event_lines (facts_entered setup slot facts)
       later_noted =
           still_noted more (keyed_by_all (steps_said withheld response slot (keyed_of facts) (line_of side number enter)) (keyed_of facts))
-          (event_entering slot event.number (Some (keyed_of facts)) (event_lines facts))
+          (event_entering slot event.number (Some (keyed_of facts)) (Some (keyed_entered slot facts)) (event_lines facts))
           (still_both side number (done_notes setup.link.handle entry.done) (began_notes setup.link.handle entry.began)
           (done_stays setup.link.handle entry.done) (began_stays setup.link.handle entry.began))
           ∙ sym (entered_event setup slot facts)

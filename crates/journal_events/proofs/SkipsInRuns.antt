@@ -16,8 +16,11 @@ use Rattle.journal_sending.specs.journal_leaving.controller_model.Since.{data_wa
 use Rattle.journal_sending.specs.journal_leaving.controller_model.Step.{TurnBegins}
 use Rattle.journal_sending.specs.journal_leaving.journal_data.open_links.OpenLinks.{OpenLink, facts_in, link_at}
 use Rattle.journal_sending.specs.journal_leaving.journal_data.open_links.Turns.{enters_in, is_anchor, wants_entering}
+use Rattle.journal_sending.specs.journal_leaving.journal_controls.LineSteps.{keyed_on}
 use Rattle.journal_sending.specs.journal_leaving.journal_ends.Asked.{Words}
 use Rattle.journal_sending.specs.journal_leaving.journal_ends.GivenWords.{GivesWords}
+use Rattle.journal_sending.specs.journal_leaving.link_model.Entering.{facts_entered}
+use Rattle.journal_sending.specs.journal_leaving.link_model.Facts.{keyed_of}
 use Rattle.journal_sending.specs.journal_leaving.run_model.History.{Event, Called, Noted, packet_received, past_of}
 use Rattle.journal_sending.specs.journal_leaving.run_model.Journal.{journal_of, side_of}
 use Rattle.journal_sending.specs.journal_leaving.run_model.LinkEnds.{HaveAddresses}
@@ -51,7 +54,7 @@ use Rattle.journal_sending.proofs.journal_fixing.RunFixing.{fixing_before_begin}
 use Rattle.journal_events.specs.Skips.{is_skipped}
 use Rattle.journal_events.proofs.BegunLinks.{has_stayed}
 use Rattle.journal_events.proofs.BegunPlaces.{HasBegunAt, begun_at}
-use Rattle.journal_events.proofs.EnteredEnds.{IsKnownEnd, skips_event}
+use Rattle.journal_events.proofs.EnteredEnds.{IsKnownEnd, keyed, skips_event}
 use Rattle.journal_events.proofs.RunEvents.{event_before_call}
 
 module _ (words : Words) (heard_whole : IsHeardWhole) (understood : IsUnderstood) (taken : AreTaken) (nth : AreNth)
@@ -141,3 +144,17 @@ module _ (words : Words) (heard_whole : IsHeardWhole) (understood : IsUnderstood
       let is_open = (has_stayed facts slot handle link stays).was in
       skips_event words given station slot on base handle link gives.kept in_it (known_at handle link is_open) earlier
       later event channel are stays (enters_now earlier later handle event channel link are is_open)
+
+  -- the end is then as it is in that event
+  pub keyed_in_run : (earlier later : List Note) (handle event channel : ℕ) (link : OpenLink)
+      → notes_after (setup_at given station) facts (TurnBegins slot on)
+      ≡ earlier ++ EnterNote handle (record { 0 = event }) channel ∷ later
+      → link_at handle (facts_ending slot facts).links ≡ Some link
+      → keyed_on words (side_of station) (number_at station handle base)
+      (journal_of (base ++ Called station (TurnBegins slot on)
+      ∷ map (Noted station) (earlier ++ EnterNote handle (record { 0 = event }) channel ∷ [])))
+      ≡ Some (keyed_of (facts_entered link.setup slot (facts_in link)))
+  keyed_in_run earlier later handle event channel link are stays =
+      let is_open = (has_stayed facts slot handle link stays).was in
+      keyed words given station slot on base handle link gives.kept in_it (known_at handle link is_open) earlier later
+      event channel are stays (enters_now earlier later handle event channel link are is_open)

@@ -14,7 +14,7 @@ use Rattle.journal_sending.specs.journal_leaving.journal_packets.Belonging.{is_s
 use Rattle.journal_sending.specs.journal_leaving.run_model.History.{is_good}
 
 pub record EventLines : Type 0 where
-  -- its number, the slot of its anchor, and the latency in force as it was entered
+  -- its number, the slot of its anchor, and the latency that is in force in it
   pub number : ℕ
   pub slot : ℕ
   pub latency : ℕ
@@ -42,18 +42,18 @@ no_event_lines = record {
 
 -- ---- it is entered
 
--- in the turn of this slot, by an end that is like this before
-abbrev pub event_entering : (slot event : ℕ) → Option Keyed → EventLines → EventLines
-event_entering slot event None before = before
-event_entering slot event (Some k) before = record before {
+-- in the turn of this slot, by an end that is like this before and like that in it
+abbrev pub event_entering : (slot event : ℕ) → Option Keyed → Option Keyed → EventLines → EventLines
+event_entering slot event (Some k) (Some entered) before = record before {
   number = event;
   slot = slot;
-  latency = k.phased.control.track.params.latency;
+  latency = entered.phased.control.track.params.latency;
   heard = false;
   more = false;
   long = is_long k.phased.control.table.lengths;
   changed = false;
 }
+event_entering slot event k entered before = before
 
 -- ---- packets in it
 
@@ -98,7 +98,9 @@ event_after words side number front before (Opened other link handle role) =
     if is_side other side && link == number then no_event_lines else before
 event_after words side number front before (Enter other link event channel) =
     if is_side other side && link == number
-    then event_entering (turn_now front) event (keyed_on words side number front) before else before
+    then event_entering (turn_now front) event (keyed_on words side number front)
+    (keyed_on words side number (front ++ Enter other link event channel ∷ [])) before
+    else before
 event_after words side number front before line =
     changed_if (lengths_differ (keyed_on words side number front) (keyed_on words side number (front ++ line ∷ [])))
     (event_passed side number front before line)

@@ -1,6 +1,6 @@
 -- Which events of a link an end skips, from the lines of a journal alone: those after an event in which it heard a good
--- packet, up to its latency, while it is idle (Core 5.2, volume 6 part B, section 4.5.1; that it always does so, and
--- when it is idle, is our choice).
+-- packet, up to the latency that is in force in the event, while it is idle (Core 5.2, volume 6 part B, section 4.5.1;
+-- that it always does so, and when it is idle, is our choice).
 use Rattle.std.specs.Prelude.{ℕ, ◌+◌, ◌==◌, ◌&&◌, ◌||◌, nat_le, nat_lt, not, Bool, false, List, Option, Some, None}
 use Rattle.ble_base.specs.declared.roles.Role.{Role}
 use Rattle.ble_base.specs.declared.roles.Role.TheVariants.{Central, Peripheral}
@@ -46,7 +46,7 @@ is_idle_on words side number front =
 
 -- ---- it skips an event
 
--- a good packet was heard in an earlier event, not more than the latency before
+-- a good packet was heard in an earlier event, not more events before this one than the latency in force in it
 abbrev pub is_recent : Option ℕ → (event latency : ℕ) → Bool
 is_recent None event latency = false
 is_recent (Some heard) event latency = nat_lt heard event && nat_le event (heard + latency)

@@ -60,7 +60,8 @@ event_next handle facts call link = event_lines (facts_in link)
 
 -- a line of an end that is like this before it and like that after it
 abbrev pub event_saying : ℕ → Entry → (before after : Keyed) → EventLines → EventLines
-event_saying slot (Enter side link event channel) before after lines = event_entering slot event (Some before) lines
+event_saying slot (Enter side link event channel) before after lines =
+    event_entering slot event (Some before) (Some after) lines
 event_saying slot line before after lines = changed_if (lengths_differ (Some before) (Some after)) lines
 
 abbrev pub event_said : Withheld → Response → ℕ → List Entry → Keyed → EventLines → EventLines

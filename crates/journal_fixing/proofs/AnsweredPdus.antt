@@ -1,5 +1,5 @@
 -- What a peripheral sends that hears a packet after it fixed its PDU.
-use Rattle.std.proofs.Common.{◌≡◌, ℕ, ◌≤◌, ◌&&◌, not, Bool, true, false, Some, List, refl, ap, sym, subst, ◌∙◌, if◌then◌else◌}
+use Rattle.std.proofs.Common.{◌≡◌, ℕ, ◌&&◌, not, Bool, true, false, Some, List, refl, ap, sym, subst, ◌∙◌, if◌then◌else◌}
 use Rattle.ble_base.specs.declared.roles.Role.{Role}
 use Rattle.ble_base.specs.declared.roles.Role.TheVariants.{Peripheral}
 use Rattle.ack_bit.specs.AckBits.{acknowledges}
@@ -8,9 +8,9 @@ use Rattle.data_pdu.specs.declared.header.DataHeader.{DataHeader}
 use Rattle.journal_controls.specs.LineSteps.{is_more_acked}
 use Rattle.journal_controls.specs.OneEnd.{IsToldOf}
 use Rattle.journal_controls.specs.journal_acks.Exchange.{Exchanged}
-use Rattle.journal_controls.specs.link_model.Acknowledgement.{Pdu, bits_of, is_acked}
+use Rattle.journal_controls.specs.link_model.Acknowledgement.{Acknowledgement, Pdu, bits_of, is_acked}
 use Rattle.journal_controls.specs.link_model.Controls.{is_procedure_pdu, next_control, pdu_fixed, pdu_of_control}
-use Rattle.journal_controls.specs.link_model.Data.{Data, data_acked_if, is_control, is_data, is_empty, next_piece}
+use Rattle.journal_controls.specs.link_model.Data.{Data, data_acked_if, is_control, is_data, next_piece}
 use Rattle.journal_controls.specs.link_model.End.{facts_after}
 use Rattle.journal_controls.specs.link_model.Facts.{Facts, keyed_of}
 use Rattle.journal_controls.specs.link_model.Packets.{good_pdu, more_sent, pdu_sent}
@@ -34,6 +34,10 @@ acked_more : (acked : Bool) (outgoing : Data) → (data_acked_if acked outgoing)
 acked_more true outgoing = refl
 acked_more false outgoing = refl
 
+acked_again : (acked : Bool) (outgoing : Data) → (data_acked_if acked outgoing).more_again ≡ outgoing.more_again
+acked_again true outgoing = refl
+acked_again false outgoing = refl
+
 gone_more : (goes : Bool) (slot : ℕ) (facts : Facts) → (control_gone_if goes slot facts).outgoing.more ≡ facts.outgoing.more
 gone_more true slot facts = refl
 gone_more false slot facts = refl
@@ -45,6 +49,18 @@ taken_fixes false pdu slot facts = refl
 data_fixes : (takes : Bool) (facts : Facts) → (data_taken_if takes facts).fixes_control ≡ facts.fixes_control
 data_fixes true facts = refl
 data_fixes false facts = refl
+
+gone_last : (goes : Bool) (slot : ℕ) (facts : Facts) → (control_gone_if goes slot facts).acknowledgement.last ≡ facts.acknowledgement.last
+gone_last true slot facts = refl
+gone_last false slot facts = refl
+
+taken_last : (takes : Bool) (pdu : Pdu) (slot : ℕ) (facts : Facts) → (procedures_take_if takes pdu slot facts).acknowledgement.last ≡ facts.acknowledgement.last
+taken_last true pdu slot facts = refl
+taken_last false pdu slot facts = refl
+
+data_last : (takes : Bool) (facts : Facts) → (data_taken_if takes facts).acknowledgement.last ≡ facts.acknowledgement.last
+data_last true facts = refl
+data_last false facts = refl
 
 -- where the last PDU is acknowledged, the fixed one is a PDU from then on
 gone_fixes : (fixes : Bool) (slot : ℕ) (facts : Facts) → facts.fixes_control ≡ fixes → (control_gone_if fixes slot facts).fixes_control ≡ false
@@ -84,10 +100,12 @@ module _ (fixing : Keyed) (outgoing : Data) (facts : Facts) (is : IsFixedBy fixi
   own_fixed : IsFixedBy fixing outgoing own
   own_fixed =
       let stays = acked_free (acks && is_data facts.acknowledgement.last) facts.outgoing in
-      let more = acked_more (acks && is_data facts.acknowledgement.last) facts.outgoing in record {
+      let more = acked_more (acks && is_data facts.acknowledgement.last) facts.outgoing in
+      let again = acked_again (acks && is_data facts.acknowledgement.last) facts.outgoing in record {
         control = is.control;
         pdu = λ none. stays ∙ is.pdu none;
         more = more ∙ is.more;
+        again = again ∙ is.again;
       }
 
   heard_acked : is_acked heard.acknowledgement ≡ is_acked own.acknowledgement
@@ -98,6 +116,9 @@ module _ (fixing : Keyed) (outgoing : Data) (facts : Facts) (is : IsFixedBy fixi
 
   heard_fixes : heard.fixes_control ≡ untaken.fixes_control
   heard_fixes = data_fixes carries seen ∙ taken_fixes takes pdu slot (accepted_if accepted pdu untaken)
+
+  heard_last : heard.acknowledgement.last ≡ own.acknowledgement.last
+  heard_last = data_last carries seen ∙ taken_last takes pdu slot (accepted_if accepted pdu untaken) ∙ gone_last (takes_leave own) slot own
 
   -- the last PDU is acknowledged
   leaves : is_acked heard.acknowledgement ≡ true → takes_leave own ≡ own.fixes_control
@@ -118,7 +139,7 @@ module _ (fixing : Keyed) (outgoing : Data) (facts : Facts) (is : IsFixedBy fixi
 
   more_heard : is_acked heard.acknowledgement ≡ true → more_sent heard ≡ more_with_new fixing (data_waits_after (pdu_sent heard) outgoing)
   more_heard acked =
-      ap (λ b. if b then heard.outgoing.more else not (is_empty (pdu_fixed heard))) acked
+      ap (λ b. if b then heard.outgoing.more else heard.outgoing.more_again) acked
       ∙ ap (λ (o : Data). o.more) heard_outgoing ∙ gone_more (takes_leave own) slot own
       ∙ more_fixed fixing outgoing own own_fixed (keyed_of own)
       ∙ ap (λ one. more_with_new fixing (data_waits_after one outgoing)) (sym (new_heard acked))
@@ -132,6 +153,9 @@ module _ (fixing : Keyed) (outgoing : Data) (facts : Facts) (is : IsFixedBy fixi
         control = heard_fixes ∙ ap (λ (f : Facts). f.fixes_control) same ∙ own_fixed.control;
         pdu = λ none. ap (λ (o : Data). o.fixed) outgoing_is ∙ own_fixed.pdu none;
         more = ap (λ (o : Data). o.more) outgoing_is ∙ own_fixed.more;
+        again =
+            ap (λ (o : Data). o.more_again) outgoing_is ∙ own_fixed.again
+            ∙ sym (ap (λ pdu. more_with_old fixing pdu (data_waits outgoing)) heard_last);
       }
 
 -- ---- a good packet
@@ -162,13 +186,13 @@ module _ (setup : Setup) (facts : Facts) (slot : ℕ) (octets pdu : List ℕ) (r
       ∙ more_heard fixing outgoing facts is slot room (header_in pdu) (pdu_of pdu) (acked_heard true acked)
       ∙ ap (λ f. more_with_new fixing (data_waits_after (pdu_sent f) outgoing)) (sym answering_is)
 
-  pub answer_old : 1 ≤ outgoing.limit → is_acked answering.acknowledgement ≡ false → more_sent answering ≡ more_with_old fixing (keyed_of answering) (data_waits outgoing)
-  answer_old some unacked =
+  pub answer_old : is_acked answering.acknowledgement ≡ false → more_sent answering ≡ more_with_old fixing answering.acknowledgement.last (data_waits outgoing)
+  answer_old unacked =
       let heard = facts_hearing Peripheral slot room (header_in pdu) (pdu_of pdu) facts in
       let kept = heard_fixed fixing outgoing facts is slot room (header_in pdu) (pdu_of pdu) (acked_heard false unacked) in
       ap more_sent answering_is
-      ∙ more_old fixing outgoing heard kept some (acked_heard false unacked)
-      ∙ ap (λ (f : Facts). more_with_old fixing (keyed_of f) (data_waits outgoing)) (sym answering_is)
+      ∙ more_old fixing outgoing heard kept (acked_heard false unacked)
+      ∙ ap (λ (f : Facts). more_with_old fixing f.acknowledgement.last (data_waits outgoing)) (sym answering_is)
 
   -- also with other words, and after its answer to a request that is withheld
   module _ (now : Facts) (alike : SendsAlike now answering) where
@@ -185,9 +209,9 @@ module _ (setup : Setup) (facts : Facts) (slot : ℕ) (octets pdu : List ℕ) (r
     pub now_more : is_acked now.acknowledgement ≡ true → more_sent now ≡ more_with_new fixing (data_waits_after (pdu_sent now) outgoing)
     now_more acked =
         let was = was_acked true acked in
-        ap (λ b. if b then now.outgoing.more else not (is_empty (pdu_fixed now))) acked
+        ap (λ b. if b then now.outgoing.more else now.outgoing.more_again) acked
         ∙ ap (λ (o : Data). o.more) alike.outgoing
-        ∙ sym (ap (λ b. if b then answering.outgoing.more else not (is_empty (pdu_fixed answering))) was)
+        ∙ sym (ap (λ b. if b then answering.outgoing.more else answering.outgoing.more_again) was)
         ∙ answer_more was
         ∙ ap (λ one. more_with_new fixing (data_waits_after one outgoing)) (sym (now_sent acked))
 
@@ -198,10 +222,13 @@ module _ (setup : Setup) (facts : Facts) (slot : ℕ) (octets pdu : List ℕ) (r
           control = alike.fixes ∙ was.control;
           pdu = λ none. ap (λ (o : Data). o.fixed) alike.outgoing ∙ was.pdu none;
           more = ap (λ (o : Data). o.more) alike.outgoing ∙ was.more;
+          again =
+              ap (λ (o : Data). o.more_again) alike.outgoing ∙ was.again
+              ∙ sym (ap (λ (a : Acknowledgement). more_with_old fixing a.last (data_waits outgoing)) alike.acknowledgement);
         }
 
-    pub now_old : 1 ≤ outgoing.limit → is_acked now.acknowledgement ≡ false → more_sent now ≡ more_with_old fixing (keyed_of now) (data_waits outgoing)
-    now_old some unacked = more_old fixing outgoing now (now_fixed unacked) some unacked
+    pub now_old : is_acked now.acknowledgement ≡ false → more_sent now ≡ more_with_old fixing now.acknowledgement.last (data_waits outgoing)
+    now_old unacked = more_old fixing outgoing now (now_fixed unacked) unacked
 
 -- ---- what the lines tell of it
 

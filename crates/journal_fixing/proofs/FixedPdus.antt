@@ -1,14 +1,14 @@
 -- What an end fixes by its procedures, its phase and its data, and what it sends then.
-use Rattle.std.proofs.Common.{◌≡◌, ℕ, ◌≤◌, nat_lt, ◌&&◌, ◌||◌, not, Bool, true, false, Option, Some, None, [], length, is_some, refl, ap, sym, ◌∙◌, if◌then◌else◌}
+use Rattle.std.proofs.Common.{◌≡◌, ℕ, nat_lt, ◌&&◌, ◌||◌, Bool, true, false, Option, Some, None, [], length, is_some, refl, ap, sym, ◌∙◌, if◌then◌else◌}
 use Rattle.data_pdu.specs.declared.ctrl.Ctrl.{Ctrl}
 use Rattle.acl_banks.specs.declared.pieces.Piece.{Piece}
 use Rattle.journal_controls.specs.KeyedLines.{has_next}
 use Rattle.journal_controls.specs.link_model.Acknowledgement.{Pdu, empty_pdu, is_acked}
 use Rattle.journal_controls.specs.link_model.Controls.{is_quiet_now, next_control, pdu_fixed, pdu_of_control}
-use Rattle.journal_controls.specs.link_model.Data.{Data, data_in, is_control, is_empty, next_piece, pdu_with, unsent_of}
+use Rattle.journal_controls.specs.link_model.Data.{Data, data_in, is_control, next_piece, pdu_with, unsent_of}
 use Rattle.journal_controls.specs.link_model.End.{facts_after}
 use Rattle.journal_controls.specs.link_model.Facts.{Facts, keyed_of}
-use Rattle.journal_controls.specs.link_model.Fixing.{data_cut, data_fixed_by, fixed_anew}
+use Rattle.journal_controls.specs.link_model.Fixing.{data_cut, data_fixed_by, fixed_anew, waits_again}
 use Rattle.journal_controls.specs.link_model.Packets.{more_sent, pdu_sent}
 use Rattle.journal_controls.specs.link_model.Setup.{Setup}
 use Rattle.journal_controls.specs.link_model.Step.{PduFixed}
@@ -17,10 +17,9 @@ use Rattle.journal_controls.specs.link_model.control_end.Held.{held_of}
 use Rattle.journal_controls.specs.link_model.keyed_control.Keyed.{Keyed}
 use Rattle.journal_controls.specs.link_model.phased_control.Phased.{is_quiet_now as is_quiet_phase}
 use Rattle.journal_controls.specs.link_model.procedure_stages.Queue.{waiting_in}
-use Rattle.journal_controls.proofs.EndSteps.{filled}
 use Rattle.journal_controls.proofs.link_model.KeyedSteps.{fixed as fixing_keeps}
-use Rattle.journal_fixing.specs.NextPdu.{IsFixedBy, data_pdu_next, data_waits, data_waits_after, lets_data_go, more_with_new, more_with_old, pdu_next}
-use Rattle.journal_fixing.proofs.UnsentOctets.{data_length, piece_full, piece_waits}
+use Rattle.journal_fixing.specs.NextPdu.{IsFixedBy, data_pdu_next, data_waits, data_waits_after, is_last_of_all, lets_data_go, more_with_new, more_with_old, pdu_next}
+use Rattle.journal_fixing.proofs.UnsentOctets.{data_length, piece_waits}
 
 -- ---- as it fixes its PDU
 
@@ -40,6 +39,11 @@ more_by (Some ctrl) waiting quiet goes cut = ap (λ b. nat_lt 1 waiting || (quie
 more_by None waiting quiet true cut = ap (λ n. nat_lt n (length (unsent_of cut))) (sym (data_length (next_piece cut)))
 more_by None waiting quiet false cut = refl
 
+again_by : (ends next goes quiet : Bool) (waiting : ℕ) (cut : Data)
+    → waits_again ends next goes quiet waiting (next_piece cut)
+    ≡ (if ends then nat_lt 0 waiting || (quiet && data_waits cut) else next || (goes && data_waits cut))
+again_by ends next goes quiet waiting cut = ap (λ b. if ends then nat_lt 0 waiting || (quiet && b) else next || (goes && b)) (piece_waits cut)
+
 pub fixed_by : (setup : Setup) (facts : Facts) → is_control facts.outgoing.fixed ≡ false
     → IsFixedBy (keyed_of facts) (data_cut facts) (facts_after setup facts PduFixed)
 fixed_by setup facts free =
@@ -49,17 +53,13 @@ fixed_by setup facts free =
       control = ap (λ (f : Facts). f.fixes_control) anew;
       pdu = λ none. ap (λ (f : Facts). f.outgoing.fixed) anew ∙ piece_by (has_next k) waiting (is_quiet_now facts) (lets_data_go k) (data_cut facts) none;
       more = ap (λ (f : Facts). f.outgoing.more) anew ∙ more_by (next_control facts) waiting (is_quiet_now facts) (lets_data_go k) (data_cut facts);
+      again =
+          ap (λ (f : Facts). f.outgoing.more_again) anew
+          ∙ again_by (is_last_of_all k facts.acknowledgement.last) (has_next k) (lets_data_go k) (is_quiet_now facts) waiting (data_cut facts)
+          ∙ sym (ap (λ (f : Facts). more_with_old k f.acknowledgement.last (data_waits (data_cut facts))) anew);
     }
 
 -- ---- as it sends
-
--- MD after one that is sent again
-old_by : (next goes : Bool) (now : Option Ctrl) (cut : Data) → 1 ≤ cut.limit
-    → not (is_empty (if next then pdu_of_control now else (if goes then pdu_with (next_piece cut) else empty_pdu))) ≡ (if next then is_some now else goes && data_waits cut)
-old_by true goes None cut some = refl
-old_by true goes (Some ctrl) cut some = ap not (filled ctrl)
-old_by false true now cut some = piece_full cut some
-old_by false false now cut some = refl
 
 -- a control PDU has no data
 no_data : (control : Option Ctrl) → data_in (pdu_of_control control) ≡ []
@@ -92,18 +92,15 @@ module _ (fixing : Keyed) (outgoing : Data) (facts : Facts) (is : IsFixedBy fixi
       (same_data (has_next fixing) (next_ctrl (is_quiet_phase fixing.phased) (held_of fixing.phased.control))
       (next_ctrl (is_quiet_phase going.phased) (held_of going.phased.control)) (data_pdu_next fixing piece))
 
-  pub fixed_left : 1 ≤ outgoing.limit → not (is_empty (pdu_fixed facts)) ≡ more_with_old fixing (keyed_of facts) (data_waits outgoing)
-  fixed_left some = ap (λ pdu. not (is_empty pdu)) fixed_next ∙ old_by (has_next fixing) (lets_data_go fixing) (next_control facts) outgoing some
-
   -- a new PDU
   pub new_sent : is_acked facts.acknowledgement ≡ true → pdu_sent facts ≡ pdu_next fixing (keyed_of facts) piece
   new_sent acked = ap (λ b. if b then pdu_fixed facts else facts.acknowledgement.last) acked ∙ fixed_next
 
   pub more_new : is_acked facts.acknowledgement ≡ true → more_sent facts ≡ more_with_new fixing (data_waits_after (pdu_sent facts) outgoing)
   more_new acked =
-      ap (λ b. if b then facts.outgoing.more else not (is_empty (pdu_fixed facts))) acked
+      ap (λ b. if b then facts.outgoing.more else facts.outgoing.more_again) acked
       ∙ more_fixed (keyed_of facts) ∙ ap (λ pdu. more_with_new fixing (data_waits_after pdu outgoing)) (sym (new_sent acked))
 
   -- the last one again
-  pub more_old : 1 ≤ outgoing.limit → is_acked facts.acknowledgement ≡ false → more_sent facts ≡ more_with_old fixing (keyed_of facts) (data_waits outgoing)
-  more_old some acked = ap (λ b. if b then facts.outgoing.more else not (is_empty (pdu_fixed facts))) acked ∙ fixed_left some
+  pub more_old : is_acked facts.acknowledgement ≡ false → more_sent facts ≡ more_with_old fixing facts.acknowledgement.last (data_waits outgoing)
+  more_old acked = ap (λ b. if b then facts.outgoing.more else facts.outgoing.more_again) acked ∙ is.again

@@ -26,7 +26,6 @@ use Rattle.journal_controls.specs.run_model.Links.{links_of}
 use Rattle.journal_controls.specs.run_model.Run.{Given, facts_at, history_of, run_of}
 use Rattle.journal_controls.proofs.journal_acks.Exchanging.{number_at}
 use Rattle.journal_controls.proofs.journal_acks.TwoStations.{IsOfTwo}
-use Rattle.journal_controls.proofs.journal_acks.link_calls.InRange.{ranges_in}
 use Rattle.journal_controls.proofs.journal_ends.run_laws.DistinctAccess.{AreApart}
 use Rattle.journal_controls.proofs.journal_links.OfTwo.{are_distinct}
 use Rattle.journal_controls.proofs.journal_packets.AccessOrder.{AreNth}
@@ -44,7 +43,6 @@ use Rattle.journal_fixing.proofs.FixingLinks.{listens_uses, sends_uses}
 use Rattle.journal_fixing.proofs.GoingLinks.{control_acking}
 use Rattle.journal_fixing.proofs.KeptFolds.{kept_both}
 use Rattle.journal_fixing.proofs.NotedLines.{notes_fixing}
-use Rattle.journal_fixing.proofs.RoomForPieces.{room_for_piece}
 use Rattle.journal_fixing.proofs.RunFixing.{fixing_before_packet, fixing_before_phase}
 use Rattle.journal_fixing.proofs.RunGoing.{going_in_call, heard_before_call}
 
@@ -118,12 +116,10 @@ module _ (words : Words) (heard_whole : IsHeardWhole) (understood : IsUnderstood
           ∙ ap (λ k. more_with_new k (data_waits_after (pdu_sent heard) (data_cut held))) fixing_same
 
       pub answer_again_by_lines : is_acked heard.acknowledgement ≡ false
-          → more_sent heard ≡ more_with_old fixing (keyed_of heard) (data_waits (data_cut held))
+          → more_sent heard ≡ more_with_old fixing heard.acknowledgement.last (data_waits (data_cut held))
       answer_again_by_lines unacked =
-          let ranges = ranges_in given before (Called station (PacketHeard octets) ∷ (map (Noted station) notes ++ rest)) station handle link (are_distinct given are_two) in_it at is_open in
-          let some = room_for_piece link ranges in
-          answer_old link.setup (facts_in link) slot octets pdu room (keyed_of held) (data_cut held) role answer_fixed good some unacked
-          ∙ ap (λ k. more_with_old k (keyed_of heard) (data_waits (data_cut held))) fixing_same
+          answer_old link.setup (facts_in link) slot octets pdu room (keyed_of held) (data_cut held) role answer_fixed good unacked
+          ∙ ap (λ k. more_with_old k heard.acknowledgement.last (data_waits (data_cut held))) fixing_same
 
   -- ---- a central, before its packet
 
@@ -160,9 +156,7 @@ module _ (words : Words) (heard_whole : IsHeardWhole) (understood : IsUnderstood
         ∙ ap (λ k. more_with_new k (data_waits_after (pdu_sent sent) (data_cut held_then))) sent_fixing
 
     pub sent_again_by_lines : is_acked sent.acknowledgement ≡ false
-        → more_sent sent ≡ more_with_old fixing fixing (data_waits (data_cut held_then))
+        → more_sent sent ≡ more_with_old fixing sent.acknowledgement.last (data_waits (data_cut held_then))
     sent_again_by_lines unacked =
-        let ranges = ranges_in given before (Transmitted sender channel octets hearings ∷ rest) station handle link (are_distinct given are_two) in_it at is_open in
-        let some = room_for_piece link ranges in
-        more_old (keyed_of held_then) (data_cut held_then) sent sent_fixed some unacked
-        ∙ (λ i. more_with_old (sent_fixing i) ((fixing_stays link.setup held_then ∙ sent_fixing) i) (data_waits (data_cut held_then)))
+        more_old (keyed_of held_then) (data_cut held_then) sent sent_fixed unacked
+        ∙ ap (λ k. more_with_old k sent.acknowledgement.last (data_waits (data_cut held_then))) sent_fixing

@@ -1,5 +1,5 @@
 -- What MD says of an end that sends, by what it held as it fixed its PDU.
-use Rattle.std.proofs.Common.{◌≡◌, ℕ, ◌≤◌, Bool, true, false, Some, List}
+use Rattle.std.proofs.Common.{◌≡◌, ℕ, Bool, true, false, Some, List}
 use Rattle.ble_base.specs.declared.roles.Role.TheVariants.{Peripheral}
 use Rattle.journal_controls.specs.link_model.Acknowledgement.{is_acked}
 use Rattle.journal_controls.specs.link_model.End.{facts_after}
@@ -16,8 +16,8 @@ use Rattle.journal_fixing.proofs.FixedPdus.{fixed_by, more_new, more_old}
 
 pub record TellsMore (held facts : Facts) : Type 0 where
   pub new : is_acked facts.acknowledgement ≡ true → more_sent facts ≡ more_with_new (keyed_of held) (data_waits_after (pdu_sent facts) (data_cut held))
-  pub old : 1 ≤ (data_cut held).limit → is_acked facts.acknowledgement ≡ false
-      → more_sent facts ≡ more_with_old (keyed_of held) (keyed_of facts) (data_waits (data_cut held))
+  pub old : is_acked facts.acknowledgement ≡ false
+      → more_sent facts ≡ more_with_old (keyed_of held) facts.acknowledgement.last (data_waits (data_cut held))
 
 -- by what it fixed
 tells_by : (held facts : Facts) → IsFixedBy (keyed_of held) (data_cut held) facts → TellsMore held facts

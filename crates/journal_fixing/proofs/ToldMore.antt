@@ -1,7 +1,6 @@
 -- What MD says in each packet of a link, by what the lines say of the end.
-use Rattle.std.proofs.Common.{◌≡◌, ℕ, ◌≤◌, ◌&&◌, not, Bool, true, false, Some, List, [], ◌∷◌, ◌++◌, sym, ap, subst, ◌∙◌, refl}
+use Rattle.std.proofs.Common.{◌≡◌, ℕ, ◌≤◌, ◌&&◌, true, false, Some, List, [], ◌∷◌, ◌++◌, sym, ap, subst, ◌∙◌, refl}
 use Rattle.ble_base.specs.declared.roles.Side.{Side}
-use Rattle.journal_controls.specs.LineSteps.{keyed_on}
 use Rattle.journal_controls.specs.journal_acks.link_calls.Uses.{sends_under}
 use Rattle.journal_controls.specs.journal_ends.Asked.{Words}
 use Rattle.journal_controls.specs.journal_ends.GivenWords.{GivesWords}
@@ -10,25 +9,17 @@ use Rattle.journal_controls.specs.journal_packets.Senders.{IsOfSendersLink}
 use Rattle.journal_controls.specs.link_model.Acknowledgement.{is_acked}
 use Rattle.journal_controls.specs.link_model.End.{facts_of as end_facts}
 use Rattle.journal_controls.specs.link_model.Facts.{Facts as EndFacts, keyed_of}
-use Rattle.journal_controls.specs.link_model.Controls.{pdu_fixed}
-use Rattle.journal_controls.specs.link_model.Data.{is_empty}
 use Rattle.journal_controls.specs.link_model.Fixing.{data_cut}
 use Rattle.journal_controls.specs.link_model.Packets.{more_sent, pdu_sent}
-use Rattle.journal_controls.specs.link_model.Payload.{end_sending}
-use Rattle.journal_controls.specs.link_model.Sending.{control_gone_if, facts_sent}
 use Rattle.journal_controls.specs.link_model.Step.{PacketSent}
 use Rattle.journal_controls.specs.link_model.keyed_control.Keyed.{Keyed}
 use Rattle.journal_controls.specs.run_model.History.{Event, Hearing, Transmitted}
 use Rattle.journal_controls.specs.run_model.Journal.{journal_of, side_of}
 use Rattle.journal_controls.specs.run_model.LinkEnds.{HaveAddresses}
 use Rattle.journal_controls.specs.run_model.Run.{Given, facts_at, history_of, run_of}
-use Rattle.journal_controls.proofs.EndSteps.{sent_is}
-use Rattle.journal_controls.proofs.RunControls.{keyed_before_packet}
 use Rattle.journal_controls.proofs.journal_acks.Exchanging.{number_at}
 use Rattle.journal_controls.proofs.journal_acks.Standing.{sends_on}
 use Rattle.journal_controls.proofs.journal_acks.TwoStations.{IsOfTwo}
-use Rattle.journal_controls.proofs.journal_acks.link_calls.InRange.{ranges_in}
-use Rattle.journal_controls.proofs.journal_ends.run_laws.Agreed.{step_facts}
 use Rattle.journal_controls.proofs.journal_ends.run_laws.DistinctAccess.{AreApart}
 use Rattle.journal_controls.proofs.journal_links.OfTwo.{are_distinct}
 use Rattle.journal_controls.proofs.journal_packets.AccessOrder.{AreNth}
@@ -41,20 +32,9 @@ use Rattle.journal_fixing.specs.PastFixing.{facts_fixing}
 use Rattle.journal_fixing.proofs.FixedPasts.{fixing_stays}
 use Rattle.journal_fixing.proofs.FixedSince.{since_in}
 use Rattle.journal_fixing.proofs.FixingLinks.{sends_uses}
-use Rattle.journal_fixing.proofs.RoomForPieces.{room_for_piece}
 use Rattle.journal_fixing.proofs.RunFixing.{fixing_before_packet}
 use Rattle.journal_fixing.proofs.SentPdus.{same_some}
 use Rattle.journal_fixing.proofs.TellingMore.{TellsMore}
-
--- a PDU that is sent again leaves the end as it is
-again_by : (acked fixes full : Bool) (slot : ℕ) (facts : EndFacts) → acked ≡ false
-    → let k = keyed_of (control_gone_if (acked && fixes) slot facts) in record k { end = end_sending (acked && full) k.end } ≡ keyed_of facts
-again_by true fixes full slot facts is = absurd cc
-again_by false fixes full slot facts is = refl
-
-pub again_stays : (slot : ℕ) (facts : EndFacts) → is_acked facts.acknowledgement ≡ false → keyed_of (facts_sent slot facts) ≡ keyed_of facts
-again_stays slot facts unacked =
-    sent_is slot facts ∙ again_by (is_acked facts.acknowledgement) facts.fixes_control (not (is_empty (pdu_fixed facts))) slot facts unacked
 
 module _ (words : Words) (heard_whole : IsHeardWhole) (understood : IsUnderstood) (taken : AreTaken) (nth : AreNth) (apart : AreApart) (given : Given) (are_two : IsOfTwo given)
     (six : HaveAddresses given) (gives : GivesWords given words) (before rest : List Event) (station channel : ℕ) (octets : List ℕ) (hearings : List Hearing) (in_it : is_in station given.stations ≡ true)
@@ -92,13 +72,6 @@ module _ (words : Words) (heard_whole : IsHeardWhole) (understood : IsUnderstood
   pub new_tells : is_acked facts.acknowledgement ≡ true → more_sent facts ≡ more_with_new fixing (data_waits_after (pdu_sent facts) (data_cut held))
   new_tells acked = tells.new acked ∙ ap (λ k. more_with_new k (data_waits_after (pdu_sent facts) (data_cut held))) fixing_same
 
-  pub again_tells : (now : Keyed) → keyed_on words side (number_at station sent.handle before) (journal_of before) ≡ Some now → is_acked facts.acknowledgement ≡ false
-      → more_sent facts ≡ more_with_old fixing now (data_waits (data_cut held))
-  again_tells now now_is unacked =
-      let ranges = ranges_in given before (Transmitted station channel octets hearings ∷ rest) station sent.handle link (are_distinct given are_two) in_it at sent.is_open in
-      let some = subst (λ (f : EndFacts). 1 ≤ (data_cut f).limit) held_is (room_for_piece link ranges) in
-      let known = keyed_before_packet words heard_whole understood taken nth apart given are_two six gives before rest station channel octets hearings at station in_it sent.handle link sent.is_open in
-      let stays : keyed_of (facts_in link) ≡ keyed_of facts =
-      ap (λ (f : EndFacts). keyed_of f) (step_facts sent.link (PacketSent sent.slot)) ∙ again_stays sent.slot facts unacked in
-      let same = same_some (keyed_of facts) now (sym (known ∙ ap Some stays) ∙ now_is) in
-      tells.old some unacked ∙ (λ i. more_with_old (fixing_same i) (same i) (data_waits (data_cut held)))
+  pub again_tells : is_acked facts.acknowledgement ≡ false
+      → more_sent facts ≡ more_with_old fixing facts.acknowledgement.last (data_waits (data_cut held))
+  again_tells unacked = tells.old unacked ∙ ap (λ k. more_with_old k facts.acknowledgement.last (data_waits (data_cut held))) fixing_same

@@ -5,7 +5,7 @@ use Rattle.std.specs.Prelude.{◌≡◌, ℕ, ◌||◌, ◌&&◌, nat_lt, Bool, 
 use Rattle.acl_banks.specs.declared.pieces.Piece.{Piece}
 use Rattle.journal_controls.specs.KeyedLines.{has_next}
 use Rattle.journal_controls.specs.link_model.Acknowledgement.{Pdu, empty_pdu}
-use Rattle.journal_controls.specs.link_model.Controls.{pdu_of_control}
+use Rattle.journal_controls.specs.link_model.Controls.{is_terminate, pdu_of_control}
 use Rattle.journal_controls.specs.link_model.Data.{Data, data_in, next_piece, pdu_with, unsent_of}
 use Rattle.journal_controls.specs.link_model.Facts.{Facts}
 use Rattle.journal_controls.specs.link_model.control_end.Answers.{next_ctrl}
@@ -59,9 +59,17 @@ more_with_new fixing waits =
     then nat_lt 1 (waiting_in fixing.phased.control.table.queue) || (is_quiet_now fixing.phased && waits)
     else lets_data_go fixing && waits
 
--- with a PDU that is sent again: where the one that would go now is not empty
-abbrev pub more_with_old : Keyed → Keyed → Bool → Bool
-more_with_old fixing now waits = if has_next fixing then has_next now else lets_data_go fixing && waits
+-- nothing is sent after this PDU: LL_TERMINATE_IND of a Disconnect
+abbrev pub is_last_of_all : Keyed → Pdu → Bool
+is_last_of_all k pdu = is_disconnecting k.phased.control.table.closing && is_terminate pdu
+
+-- with a PDU that is sent again: where a control PDU waited that may go, or data; after LL_TERMINATE_IND also where a
+-- control PDU waited that never goes, or data in phase Clear or Secure
+abbrev pub more_with_old : Keyed → Pdu → Bool → Bool
+more_with_old fixing last waits =
+    if is_last_of_all fixing last
+    then nat_lt 0 (waiting_in fixing.phased.control.table.queue) || (is_quiet_now fixing.phased && waits)
+    else has_next fixing || (lets_data_go fixing && waits)
 
 -- ---- what an end holds once it has fixed its next PDU, by what it was and by its data as it did so
 
@@ -72,3 +80,5 @@ pub record IsFixedBy (fixing : Keyed) (outgoing : Data) (facts : Facts) : Type 0
   pub pdu : has_next fixing ≡ false → facts.outgoing.fixed ≡ data_pdu_next fixing (next_piece outgoing)
   pub more : facts.outgoing.more
       ≡ more_with_new fixing (data_waits_after (pdu_next fixing fixing (next_piece outgoing)) outgoing)
+  -- MD with the last PDU, where that is sent again
+  pub again : facts.outgoing.more_again ≡ more_with_old fixing facts.acknowledgement.last (data_waits outgoing)

@@ -35,8 +35,8 @@ pub fn a_pdu_is_fixed_by_the_control_part()
 {}
 
 /// An end that fixed its PDU sends it where the last one is acknowledged, and MD says whether more
-/// waits after it. Otherwise it sends the last one again, and MD says whether the fixed one is not
-/// empty (Core 5.2, volume 6 part B, sections 4.5.6 and 4.5.9).
+/// waits after it. Otherwise it sends the last one again, and MD says whether more waited after that
+/// as it fixed its PDU (Core 5.2, volume 6 part B, sections 4.5.6 and 4.5.9).
 pub fn an_end_sends_the_pdu_that_it_fixed()
     ensures pdu { (fixing : Keyed) (outgoing : Data) (setup : Setup) (past : List Step)
         → let facts = facts_of setup past in IsFixedBy fixing outgoing facts
@@ -47,17 +47,17 @@ pub fn an_end_sends_the_pdu_that_it_fixed()
         → is_acked facts.acknowledgement ≡ true
         → more_sent facts ≡ more_with_new fixing (data_waits_after (pdu_sent facts) outgoing) }
     ensures more_old { (fixing : Keyed) (outgoing : Data) (setup : Setup) (past : List Step)
-        → let facts = facts_of setup past in IsFixedBy fixing outgoing facts → 1 ≤ outgoing.limit
+        → let facts = facts_of setup past in IsFixedBy fixing outgoing facts
         → is_acked facts.acknowledgement ≡ false
-        → more_sent facts ≡ more_with_old fixing (keyed_of facts) (data_waits outgoing) }
+        → more_sent facts ≡ more_with_old fixing facts.acknowledgement.last (data_waits outgoing) }
 {}
 
 /// A peripheral that fixed its PDU and then hears a good packet of the central answers with that
 /// PDU where its last one is acknowledged. A control PDU leaves the queue once the packet has
 /// acknowledged the last one, and before its own PDU is taken. MD is as it was fixed. Else it sends
-/// the last one again, and MD tells whether the one that would go now, after the PDU of the central
-/// is taken, is not empty (Core 5.2, volume 6 part B, sections 4.5.6 and 4.5.9; the order is our
-/// choice).
+/// the last one again, and MD tells whether more waited after that as it fixed its PDU: the PDU of
+/// the central changes nothing of it (Core 5.2, volume 6 part B, sections 4.5.6 and 4.5.9; the order
+/// is our choice).
 pub fn a_peripheral_answers_with_the_pdu_that_it_fixed()
     ensures pdu { (setup : Setup) (past : List Step) (slot : ℕ) (octets pdu : List ℕ)
         (room : Bool) (fixing : Keyed) (outgoing : Data) → let facts = facts_of setup past in
@@ -78,10 +78,10 @@ pub fn a_peripheral_answers_with_the_pdu_that_it_fixed()
     ensures more_old { (setup : Setup) (past : List Step) (slot : ℕ) (octets pdu : List ℕ)
         (room : Bool) (fixing : Keyed) (outgoing : Data) → let facts = facts_of setup past in
         setup.link.role ≡ Role.Peripheral → IsFixedBy fixing outgoing facts
-        → good_pdu setup facts octets ≡ Some pdu → 1 ≤ outgoing.limit
+        → good_pdu setup facts octets ≡ Some pdu
         → let heard = facts_after setup facts (PacketReceived slot octets room) in
         is_acked heard.acknowledgement ≡ false
-        → more_sent heard ≡ more_with_old fixing (keyed_of heard) (data_waits outgoing) }
+        → more_sent heard ≡ more_with_old fixing heard.acknowledgement.last (data_waits outgoing) }
 {}
 
 /// Lines that tell of an end that hears tell whether the packet acknowledges a control PDU of it

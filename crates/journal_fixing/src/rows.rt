@@ -45,7 +45,9 @@ pub fn worked_next_pdus()
 
 /// MD is 0 with LL_VERSION_IND where nothing else waits, and 1 where data or another control PDU
 /// does. With the first 27 octets of 28 it is 1, and with all of them 0. With a PDU that is sent
-/// again it is 1 where LL_VERSION_IND waits (Core 5.2, volume 6 part B, section 4.5.6).
+/// again it is 1 where LL_VERSION_IND, LL_TERMINATE_IND or data waits. With LL_TERMINATE_IND that is
+/// sent again it is 1 where the host gave data before it ended the link, though that data never goes
+/// (Core 5.2, volume 6 part B, section 4.5.6; what counts is our choice).
 pub fn worked_md()
     ensures alone { more_with_new version_begun false ≡ false }
     ensures with_data { more_with_new version_begun
@@ -56,8 +58,13 @@ pub fn worked_md()
         (data_waits_after (message_pdu 27) (message_cut (begun_on Central))) ≡ true }
     ensures whole { more_with_new (begun_on Central)
         (data_waits_after (message_pdu 28) (message_cut (begun_on Central))) ≡ false }
-    ensures again { more_with_old version_begun version_begun false ≡ true }
-    ensures nothing { more_with_old (begun_on Central) (begun_on Central) false ≡ false }
+    ensures again { more_with_old version_begun empty_pdu false ≡ true }
+    ensures end_waits { more_with_old link_ended empty_pdu false ≡ true }
+    ensures data_again { more_with_old (begun_on Central) empty_pdu true ≡ true }
+    ensures nothing { more_with_old (begun_on Central) empty_pdu false ≡ false }
+    ensures never_goes { more_with_old end_sent terminate_pdu true ≡ true }
+    ensures not_unsaid { more_with_old end_sent terminate_pdu true ≡ false → ⊥ }
+    ensures all_gone { more_with_old end_sent terminate_pdu false ≡ false }
 {}
 
 /// A central fixes LL_VERSION_IND as it is before its line, and the next turn begins as it is after

@@ -11,7 +11,6 @@ ghost use Rattle.journal_controls.specs.journal_ends.open_links.OpenLinks.{link_
 ghost use Rattle.journal_controls.specs.link_model.Acknowledgement.{is_acked};
 ghost use Rattle.journal_controls.specs.link_model.Data.{next_piece};
 ghost use Rattle.journal_controls.specs.link_model.End.{facts_after};
-ghost use Rattle.journal_controls.specs.link_model.Facts.{keyed_of};
 ghost use Rattle.journal_controls.specs.link_model.Fixing.{data_cut};
 ghost use Rattle.journal_controls.specs.link_model.Packets.{good_pdu, more_sent, pdu_sent};
 ghost use Rattle.journal_controls.specs.link_model.Step.{PacketReceived, PduFixed};
@@ -32,9 +31,9 @@ ghost use Rattle.journal_controls.specs.journal_ends.GivenWords.{GivesWords};
 /// In a run of two stations, with any number of links each and whatever procedures they carry: as a
 /// peripheral takes a good packet that leaves all its PDUs acknowledged, the PDU with which it
 /// answers is the one that is next by the ends of the lines, and by its data as it fixed that PDU. MD
-/// says whether more waits after it. If a PDU is sent again, MD says whether the one that would go
-/// now is not empty. So it is at each line of that call, also before the line of the new PDU (Core
-/// 5.2, volume 6 part B, sections 4.5.6 and 4.5.9; when a PDU is fixed is our choice).
+/// says whether more waits after it. If a PDU is sent again, MD says whether more waited after that
+/// one as the next was fixed. So it is at each line of that call, also before the line of the new
+/// PDU (Core 5.2, volume 6 part B, sections 4.5.6 and 4.5.9; when a PDU is fixed is our choice).
 pub fn a_peripheral_answers_with_the_pdu_that_the_lines_fix()
     ensures pdu { (words : Words) (given : Given) (before rest : List Event) (octets pdu : List ℕ)
         (notes : List Note) (station handle : ℕ) (link : OpenLink) (fixing going : Keyed)
@@ -90,7 +89,7 @@ pub fn a_peripheral_answers_with_the_pdu_that_the_lines_fix()
         let heard = facts_after link.setup (facts_in link) (PacketReceived slot octets room) in
         control_fixing words (side_of station) number lines ≡ Some fixing
         → is_acked heard.acknowledgement ≡ false
-        → more_sent heard ≡ more_with_old fixing (keyed_of heard) (data_waits outgoing) }
+        → more_sent heard ≡ more_with_old fixing heard.acknowledgement.last (data_waits outgoing) }
 {
     journal_controls::a_pdu_is_understood();
     advertise::laws::connections_are_taken();
@@ -101,8 +100,8 @@ pub fn a_peripheral_answers_with_the_pdu_that_the_lines_fix()
 /// In such a run, before a packet, a central that sends it on a link, and of which all PDUs were
 /// acknowledged, sends the PDU that is next by what it was as it fixed that PDU by the lines, and by
 /// its data then. MD says whether more waits after it. If a PDU is sent again, MD
-/// says whether the fixed one is not empty (Core 5.2, volume 6 part B, sections 4.5.6 and 4.5.9;
-/// when a PDU is fixed is our choice).
+/// says whether more waited after that one then (Core 5.2, volume 6 part B, sections 4.5.6 and
+/// 4.5.9; when a PDU is fixed is our choice).
 pub fn a_central_sends_the_pdu_that_the_lines_fix()
     ensures pdu { (words : Words) (given : Given) (before rest : List Event) (sender channel : ℕ)
         (octets : List ℕ) (hearings : List Hearing) (station handle : ℕ) (link : OpenLink)
@@ -145,7 +144,7 @@ pub fn a_central_sends_the_pdu_that_the_lines_fix()
         → let outgoing = data_cut (facts_fixing link.setup link.past) in
         let sent = facts_after link.setup (facts_fixing link.setup link.past) PduFixed in
         is_acked sent.acknowledgement ≡ false
-        → more_sent sent ≡ more_with_old fixing fixing (data_waits outgoing) }
+        → more_sent sent ≡ more_with_old fixing sent.acknowledgement.last (data_waits outgoing) }
 {
     journal_controls::a_pdu_is_understood();
     advertise::laws::connections_are_taken();

@@ -2,7 +2,6 @@
 //! The bodies only call the laws that they rest on: the contracts are the laws.
 ghost use Rattle.std.specs.Prelude.{◌≡◌, ◌++◌, ◌∷◌, [], ℕ, List, Some, false, true};
 ghost use Rattle.std.specs.List.{Contains};
-ghost use Rattle.journal_controls.specs.LineSteps.{keyed_on};
 ghost use Rattle.journal_controls.specs.journal_ends.open_links.OpenLinks.{facts_in};
 ghost use Rattle.journal_controls.specs.journal_packets.Senders.{IsOfSendersLink};
 ghost use Rattle.journal_controls.specs.link_model.Acknowledgement.{is_acked};
@@ -42,9 +41,9 @@ pub fn each_packet_carries_the_pdu_and_md_of_its_end()
 /// In such a run, MD of each packet of a link, at either role, follows from the end as it
 /// fixed its next PDU by the lines before the packet, and from the data of the end
 /// then. Where all PDUs of the end were acknowledged, MD says whether more waits after the PDU of
-/// the packet. If a PDU is sent again, MD says whether the one that would go now is not empty, by
-/// the end of the lines before the packet (Core 5.2, volume 6 part B, sections 4.5.6 and
-/// 4.5.9; when a PDU is fixed is our choice).
+/// the packet. If a PDU is sent again, MD says whether more waited after that one, as the end fixed
+/// its next PDU: what the end takes in this turn changes nothing of it (Core 5.2, volume 6 part B,
+/// sections 4.5.6 and 4.5.9; when a PDU is fixed is our choice).
 pub fn each_packet_tells_what_waits_by_the_lines()
     ensures new { (words : Words) (given : Given) (before rest : List Event) (station channel : ℕ)
         (octets : List ℕ) (hearings : List Hearing)
@@ -59,15 +58,14 @@ pub fn each_packet_tells_what_waits_by_the_lines()
         (data_cut (facts_fixing sent.link.setup sent.link.past))) }
     ensures again { (words : Words) (given : Given) (before rest : List Event) (station channel : ℕ)
         (octets : List ℕ) (hearings : List Hearing)
-        (sent : IsOfSendersLink given before station channel octets) (fixing now : Keyed)
+        (sent : IsOfSendersLink given before station channel octets) (fixing : Keyed)
         → given.stations ≡ 0 ∷ 1 ∷ [] → HaveAddresses given → GivesWords given words → Contains given.stations station
         → history_of (run_of given) ≡ before ++ Transmitted station channel octets hearings ∷ rest
-        → let number = (links_of before).link_of station sent.handle in
-        let facts = facts_in sent.link in
-        control_fixing words (side_of station) number (journal_of before) ≡ Some fixing
-        → keyed_on words (side_of station) number (journal_of before) ≡ Some now
-        → is_acked facts.acknowledgement ≡ false
-        → more_sent facts ≡ more_with_old fixing now
+        → control_fixing words (side_of station) ((links_of before).link_of station sent.handle)
+        (journal_of before) ≡ Some fixing
+        → let facts = facts_in sent.link in
+        is_acked facts.acknowledgement ≡ false
+        → more_sent facts ≡ more_with_old fixing facts.acknowledgement.last
         (data_waits (data_cut (facts_fixing sent.link.setup sent.link.past))) }
 {
     journal_controls::a_pdu_is_understood();

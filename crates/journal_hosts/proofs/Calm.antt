@@ -43,7 +43,7 @@ calm_between setup past is = record {
 -- ---- one link
 
 kept_complete : IsKeptBySending (λ outgoing. outgoing.complete ≡ 0)
-kept_complete = record { fixed = λ limit pdu more outgoing is. is; sent = λ payload is_new outgoing is. sent_complete payload is_new outgoing ∙ is }
+kept_complete = record { fixed = λ limit pdu more again outgoing is. is; sent = λ payload is_new outgoing is. sent_complete payload is_new outgoing ∙ is }
 
 deaf_reported : (step : EndStep) (link : OpenLink) → IsDeafStep step → IsReported link → IsReported (link_after step link)
 deaf_reported step link deaf is = deaf_link_keeps (λ outgoing. outgoing.complete ≡ 0) kept_complete step link deaf is

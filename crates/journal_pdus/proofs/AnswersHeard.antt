@@ -14,64 +14,64 @@ use Rattle.ble_base.specs.declared.roles.Role.TheVariants.{Central, Peripheral}
 use Rattle.ble_base.specs.declared.verdicts.Verdict.TheVariants.{Broken, Forged, Good}
 use Rattle.host_view.specs.declared.view.HostFlow.{HostFlow}
 use Rattle.journal.specs.declared.entries.Mark.TheVariants.{Pass as Passed}
-use Rattle.journal_sending.specs.journal_controls.host_answers.Flows.{most_received_on}
-use Rattle.journal_sending.specs.journal_data.link_model.Facts.{Facts as EndFacts}
-use Rattle.journal_sending.specs.journal_data.link_model.Hearing.{air_octets}
-use Rattle.journal_sending.specs.journal_data.link_model.Packets.{heard_of, is_forged_pdu, verdict_of as end_verdict}
-use Rattle.journal_sending.specs.journal_data.link_model.Payload.{opens_now}
-use Rattle.journal_sending.specs.journal_data.link_model.Setup.{Setup}
-use Rattle.journal_sending.specs.journal_data.link_model.Step.{PacketSent}
-use Rattle.journal_sending.specs.journal_data.link_model.Verdicts.{code_octets, has_room_for, pdu_of, verdict_by}
-use Rattle.journal_sending.proofs.journal_data.link_model.Hearing.{IsHeardWhole}
-use Rattle.journal_sending.specs.journal_data.open_links.OpenLinks.{Links, OpenLink, facts_in, link_after, link_at}
+use Rattle.journal_moves.specs.journal_wants.journal_sending.journal_controls.host_answers.Flows.{most_received_on}
+use Rattle.journal_moves.specs.journal_wants.journal_sending.journal_data.link_model.Facts.{Facts as EndFacts}
+use Rattle.journal_moves.specs.journal_wants.journal_sending.journal_data.link_model.Hearing.{air_octets}
+use Rattle.journal_moves.specs.journal_wants.journal_sending.journal_data.link_model.Packets.{heard_of, is_forged_pdu, verdict_of as end_verdict}
+use Rattle.journal_moves.specs.journal_wants.journal_sending.journal_data.link_model.Payload.{opens_now}
+use Rattle.journal_moves.specs.journal_wants.journal_sending.journal_data.link_model.Setup.{Setup}
+use Rattle.journal_moves.specs.journal_wants.journal_sending.journal_data.link_model.Step.{PacketSent}
+use Rattle.journal_moves.specs.journal_wants.journal_sending.journal_data.link_model.Verdicts.{code_octets, has_room_for, pdu_of, verdict_by}
+use Rattle.journal_moves.proofs.journal_wants.journal_sending.journal_data.link_model.Hearing.{IsHeardWhole}
+use Rattle.journal_moves.specs.journal_wants.journal_sending.journal_data.open_links.OpenLinks.{Links, OpenLink, facts_in, link_after, link_at}
 use Rattle.radio_replay.specs.Damage.{damaged_packet}
 use Rattle.radio_replay.specs.declared.fates.Fate.{Fate}
 use Rattle.radio_replay.specs.declared.fates.Fate.TheVariants.{Pass}
-use Rattle.journal_sending.specs.controller_model.declared.doing.Doing.{Doing}
-use Rattle.journal_sending.specs.controller_model.declared.doing.Doing.TheVariants.{Advertises, CentralSends, CentralListens, PeripheralSends}
-use Rattle.journal_sending.specs.controller_model.Facts.{Facts, Use, Sends, Listens}
-use Rattle.journal_sending.specs.controller_model.Packets.{channel_listened, listens_on, verdict_doing, verdict_of, verdict_of_link}
-use Rattle.journal_sending.specs.controller_model.Sent.{SendsOn}
-use Rattle.journal_sending.specs.run_model.Feeding.{AreDistinct, is_note}
-use Rattle.journal_sending.specs.run_model.History.{Event, Hearing, Transmitted, is_handed, packet_received, turns_begun}
-use Rattle.journal_sending.specs.run_model.Journal.{journal_of, mark_of, side_of}
-use Rattle.journal_sending.specs.run_model.LinkEnds.{HaveAddresses}
-use Rattle.journal_sending.specs.run_model.Links.{is_advertising}
-use Rattle.journal_sending.specs.run_model.Run.{Given, facts_at, hearing_at, history_of, reaches, run_of, setup_at, use_at, verdict_where}
-use Rattle.journal_sending.proofs.run_model.EntryEvents.{is_aired}
-use Rattle.journal_sending.proofs.journal_leaving.journal_controls.host_answers.FlowHeld.{flow_so_far}
-use Rattle.journal_sending.proofs.run_model.LinkEnds.{AreTaken, IsUnderstood, wanted_is}
-use Rattle.journal_sending.proofs.run_model.OfStations.{OfStations, run_of_stations}
-use Rattle.journal_sending.proofs.run_model.Places.{each_at}
-use Rattle.journal_sending.proofs.run_model.Stations.{is_in, among}
-use Rattle.journal_sending.proofs.run_model.Walk.{AtPackets}
-use Rattle.journal_sending.specs.journal_data.run_laws.Ends.{HaveOneConnectInd}
-use Rattle.journal_sending.proofs.journal_data.run_laws.DistinctAccess.{AreApart}
-use Rattle.journal_sending.proofs.journal_data.run_laws.Hearings.{sends_deaf}
-use Rattle.journal_sending.proofs.journal_data.run_laws.LinkPhases.{HasRole, IsInPhase}
-use Rattle.journal_sending.proofs.journal_data.run_laws.MostReceived.{max_received}
-use Rattle.journal_sending.proofs.journal_data.run_laws.OwnLinks.{sent_begins}
-use Rattle.journal_sending.proofs.journal_data.run_laws.TurnPlaces.{Within, at_stage}
-use Rattle.journal_sending.proofs.journal_data.run_laws.TurnSteps.{IsListening}
-use Rattle.journal_sending.specs.journal_links.Begun.{links_begun}
-use Rattle.journal_sending.specs.journal_links.Opened.{central_side}
-use Rattle.journal_sending.proofs.journal_links.OfTwo.{are_distinct}
-use Rattle.journal_sending.specs.journal_packets.Belonging.{first_number, is_answer}
-use Rattle.journal_sending.specs.journal_packets.Senders.{IsOfSendersLink}
-use Rattle.journal_sending.proofs.journal_packets.AccessOrder.{AreNth}
-use Rattle.journal_sending.proofs.journal_packets.Asked.{is_asked}
-use Rattle.journal_sending.proofs.journal_packets.SoFar.{IsBelongingSoFar}
-use Rattle.journal_sending.proofs.journal_acks.Counting.{AreKnown, one_begun}
-use Rattle.journal_sending.proofs.journal_acks.Exchanging.{number_at}
-use Rattle.journal_sending.proofs.journal_acks.link_calls.InRange.{ranges_in, sent_ranges}
-use Rattle.journal_sending.proofs.journal_data.run_laws.Pieces.{sent_readable}
-use Rattle.journal_sending.proofs.journal_acks.Known.{known_of}
-use Rattle.journal_sending.proofs.journal_acks.Seen.{IsSeen, seen_packet}
-use Rattle.journal_sending.proofs.journal_acks.Standing.{PhasedBy, phased_at}
-use Rattle.journal_sending.proofs.journal_acks.TwoStations.{IsOfTwo, hearing_of, one_hearing, other_of, same_number, side_other}
-use Rattle.journal_sending.proofs.journal_data.KeptData.{other_in}
+use Rattle.journal_moves.specs.journal_wants.journal_sending.controller_model.declared.doing.Doing.{Doing}
+use Rattle.journal_moves.specs.journal_wants.journal_sending.controller_model.declared.doing.Doing.TheVariants.{Advertises, CentralSends, CentralListens, PeripheralSends}
+use Rattle.journal_moves.specs.journal_wants.journal_sending.controller_model.Facts.{Facts, Use, Sends, Listens}
+use Rattle.journal_moves.specs.journal_wants.journal_sending.controller_model.Packets.{channel_listened, listens_on, verdict_doing, verdict_of, verdict_of_link}
+use Rattle.journal_moves.specs.journal_wants.journal_sending.controller_model.Sent.{SendsOn}
+use Rattle.journal_moves.specs.journal_wants.journal_sending.run_model.Feeding.{AreDistinct, is_note}
+use Rattle.journal_moves.specs.journal_wants.journal_sending.run_model.History.{Event, Hearing, Transmitted, is_handed, packet_received, turns_begun}
+use Rattle.journal_moves.specs.journal_wants.journal_sending.run_model.Journal.{journal_of, mark_of, side_of}
+use Rattle.journal_moves.specs.journal_wants.journal_sending.run_model.LinkEnds.{HaveAddresses}
+use Rattle.journal_moves.specs.journal_wants.journal_sending.run_model.Links.{is_advertising}
+use Rattle.journal_moves.specs.journal_wants.journal_sending.run_model.Run.{Given, facts_at, hearing_at, history_of, reaches, run_of, setup_at, use_at, verdict_where}
+use Rattle.journal_moves.proofs.journal_wants.journal_sending.run_model.EntryEvents.{is_aired}
+use Rattle.journal_moves.proofs.journal_wants.journal_sending.journal_leaving.journal_controls.host_answers.FlowHeld.{flow_so_far}
+use Rattle.journal_moves.proofs.journal_wants.journal_sending.run_model.LinkEnds.{AreTaken, IsUnderstood, wanted_is}
+use Rattle.journal_moves.proofs.journal_wants.journal_sending.run_model.OfStations.{OfStations, run_of_stations}
+use Rattle.journal_moves.proofs.journal_wants.journal_sending.run_model.Places.{each_at}
+use Rattle.journal_moves.proofs.journal_wants.journal_sending.run_model.Stations.{is_in, among}
+use Rattle.journal_moves.proofs.journal_wants.journal_sending.run_model.Walk.{AtPackets}
+use Rattle.journal_moves.specs.journal_wants.journal_sending.journal_data.run_laws.Ends.{HaveOneConnectInd}
+use Rattle.journal_moves.proofs.journal_wants.journal_sending.journal_data.run_laws.DistinctAccess.{AreApart}
+use Rattle.journal_moves.proofs.journal_wants.journal_sending.journal_data.run_laws.Hearings.{sends_deaf}
+use Rattle.journal_moves.proofs.journal_wants.journal_sending.journal_data.run_laws.LinkPhases.{HasRole, IsInPhase}
+use Rattle.journal_moves.proofs.journal_wants.journal_sending.journal_data.run_laws.MostReceived.{max_received}
+use Rattle.journal_moves.proofs.journal_wants.journal_sending.journal_data.run_laws.OwnLinks.{sent_begins}
+use Rattle.journal_moves.proofs.journal_wants.journal_sending.journal_data.run_laws.TurnPlaces.{Within, at_stage}
+use Rattle.journal_moves.proofs.journal_wants.journal_sending.journal_data.run_laws.TurnSteps.{IsListening}
+use Rattle.journal_moves.specs.journal_wants.journal_sending.journal_links.Begun.{links_begun}
+use Rattle.journal_moves.specs.journal_wants.journal_sending.journal_links.Opened.{central_side}
+use Rattle.journal_moves.proofs.journal_wants.journal_sending.journal_links.OfTwo.{are_distinct}
+use Rattle.journal_moves.specs.journal_wants.journal_sending.journal_packets.Belonging.{first_number, is_answer}
+use Rattle.journal_moves.specs.journal_wants.journal_sending.journal_packets.Senders.{IsOfSendersLink}
+use Rattle.journal_moves.proofs.journal_wants.journal_sending.journal_packets.AccessOrder.{AreNth}
+use Rattle.journal_moves.proofs.journal_wants.journal_sending.journal_packets.Asked.{is_asked}
+use Rattle.journal_moves.proofs.journal_wants.journal_sending.journal_packets.SoFar.{IsBelongingSoFar}
+use Rattle.journal_moves.proofs.journal_wants.journal_sending.journal_acks.Counting.{AreKnown, one_begun}
+use Rattle.journal_moves.proofs.journal_wants.journal_sending.journal_acks.Exchanging.{number_at}
+use Rattle.journal_moves.proofs.journal_wants.journal_sending.journal_acks.link_calls.InRange.{ranges_in, sent_ranges}
+use Rattle.journal_moves.proofs.journal_wants.journal_sending.journal_data.run_laws.Pieces.{sent_readable}
+use Rattle.journal_moves.proofs.journal_wants.journal_sending.journal_acks.Known.{known_of}
+use Rattle.journal_moves.proofs.journal_wants.journal_sending.journal_acks.Seen.{IsSeen, seen_packet}
+use Rattle.journal_moves.proofs.journal_wants.journal_sending.journal_acks.Standing.{PhasedBy, phased_at}
+use Rattle.journal_moves.proofs.journal_wants.journal_sending.journal_acks.TwoStations.{IsOfTwo, hearing_of, one_hearing, other_of, same_number, side_other}
+use Rattle.journal_moves.proofs.journal_wants.journal_sending.journal_data.KeptData.{other_in}
 use Rattle.journal_hearings.proofs.RequestsHeard.{pass_mark, judged_where, one_of_list}
-use Rattle.journal_sending.proofs.TakenPdus.{heard_there}
+use Rattle.journal_moves.proofs.journal_wants.journal_sending.TakenPdus.{heard_there}
 use Rattle.journal_pdus.specs.Answered.{AllAnswersAreHeard, IsHeardAs, IsRead, IsTooLong}
 use Rattle.journal_pdus.proofs.Awaited.{AreAskedWell, IsAsker, IsAsking, asked_well_first, asked_well_kept}
 

@@ -5,47 +5,47 @@ use Rattle.std.specs.Prelude.{⊤, if◌then◌else◌}
 use Rattle.std.proofs.lemmas.Bool.{eqb-true}
 use Rattle.std.proofs.lemmas.Slice.Eq.{bytes_eq-Decides}
 use Rattle.air_frame.specs.Packet.{access_octets}
-use Rattle.journal_sending.specs.journal_data.link_model.declared.events.ConnectionEvent.{ConnectionEvent}
-use Rattle.journal_sending.specs.journal_data.link_model.Packets.{good_pdu}
-use Rattle.journal_sending.specs.journal_data.link_model.Step.{PacketSent}
-use Rattle.journal_sending.specs.journal_data.open_links.OpenLinks.{Links, OpenLink, facts_in, link_after, link_at}
+use Rattle.journal_moves.specs.journal_wants.journal_sending.journal_data.link_model.declared.events.ConnectionEvent.{ConnectionEvent}
+use Rattle.journal_moves.specs.journal_wants.journal_sending.journal_data.link_model.Packets.{good_pdu}
+use Rattle.journal_moves.specs.journal_wants.journal_sending.journal_data.link_model.Step.{PacketSent}
+use Rattle.journal_moves.specs.journal_wants.journal_sending.journal_data.open_links.OpenLinks.{Links, OpenLink, facts_in, link_after, link_at}
 use Rattle.radio_replay.specs.declared.fates.Fate.{Fate}
-use Rattle.journal_sending.specs.controller_model.declared.doing.Doing.{Doing}
-use Rattle.journal_sending.specs.controller_model.declared.doing.Doing.TheVariants.{Advertises, CentralSends, CentralListens, PeripheralSends}
-use Rattle.journal_sending.specs.controller_model.Facts.{Setup, Facts, Use, Sends, Listens}
-use Rattle.journal_sending.specs.controller_model.Heard.{has_room, heard, unheard}
-use Rattle.journal_sending.specs.controller_model.Outcome.{facts_passed}
-use Rattle.journal_sending.specs.controller_model.Sent.{SendsOn}
-use Rattle.journal_sending.specs.controller_model.Side.{facts_after, facts_of}
-use Rattle.journal_sending.specs.controller_model.Step.{Step}
-use Rattle.journal_sending.specs.run_model.Feeding.{AreDistinct}
-use Rattle.journal_sending.specs.run_model.History.{Event, Hearing, Transmitted, has_received, packet_received, turns_begun}
-use Rattle.journal_sending.specs.run_model.LinkEnds.{HaveAddresses}
-use Rattle.journal_sending.specs.run_model.Links.{is_advertising}
-use Rattle.journal_sending.specs.run_model.Run.{Given, after_call, facts_at, hearings_of, setup_at, step_of, use_at}
-use Rattle.journal_sending.proofs.run_model.LinkEnds.{AreTaken, IsUnderstood, is_listener, wanted_is}
-use Rattle.journal_sending.proofs.run_model.Stations.{is_in, among, in_more_other, in_more_same, not_before}
-use Rattle.journal_sending.proofs.run_model.Walk.{Place, NoTurn, AtFeeds, AtBegins, AfterPhases, AtPackets, AtListening, AtEnds, IsKept}
-use Rattle.journal_sending.proofs.journal_data.run_laws.ConnectInds.{on_channel}
-use Rattle.journal_sending.proofs.journal_data.run_laws.Hearings.{other_facts, own_facts, use_same, use_sent_at}
-use Rattle.journal_sending.proofs.journal_data.run_laws.InAgreement.{differs_back}
-use Rattle.journal_sending.proofs.journal_data.run_laws.LinkPhases.{IsInPhase}
-use Rattle.journal_sending.proofs.journal_data.run_laws.OwnLinks.{sent_begins}
-use Rattle.journal_sending.proofs.journal_data.run_laws.SentPackets.{IsUseSent}
-use Rattle.journal_sending.proofs.journal_data.run_laws.TurnPlaces.{Within, at_stage, event_past}
-use Rattle.journal_sending.proofs.journal_data.run_laws.TurnSteps.{IsListening}
-use Rattle.journal_sending.proofs.journal_links.OfTwo.{of_two_stations}
-use Rattle.journal_sending.specs.journal_packets.Belonging.{have_one_access}
-use Rattle.journal_sending.proofs.journal_packets.Asked.{asked_called, asked_packet, asks_in, is_asked}
-use Rattle.journal_sending.proofs.journal_packets.SoFar.{IsBelongingSoFar, belonging_first, belonging_kept}
-use Rattle.journal_sending.proofs.journal_acks.Standing.{PhasedBy, listens_wanted, phased_at, sends_on}
-use Rattle.journal_sending.proofs.journal_acks.TwoStations.{IsOfTwo, other_is, other_of}
-use Rattle.journal_sending.specs.journal_acks.link_calls.Phases.{HasPassed, IsNew, Stays, Takes, link_receiving}
-use Rattle.journal_sending.specs.journal_acks.link_calls.Turns.{sent_if}
-use Rattle.journal_sending.specs.journal_acks.link_calls.Uses.{sends_under}
-use Rattle.journal_sending.proofs.journal_acks.link_calls.Exchanging.{uses_either as either}
-use Rattle.journal_sending.proofs.journal_acks.link_calls.LinkCalls.{off_sends, phase_under, receiving_event}
-use Rattle.journal_sending.proofs.journal_acks.link_calls.UnderHandles.{same_base}
+use Rattle.journal_moves.specs.journal_wants.journal_sending.controller_model.declared.doing.Doing.{Doing}
+use Rattle.journal_moves.specs.journal_wants.journal_sending.controller_model.declared.doing.Doing.TheVariants.{Advertises, CentralSends, CentralListens, PeripheralSends}
+use Rattle.journal_moves.specs.journal_wants.journal_sending.controller_model.Facts.{Setup, Facts, Use, Sends, Listens}
+use Rattle.journal_moves.specs.journal_wants.journal_sending.controller_model.Heard.{has_room, heard, unheard}
+use Rattle.journal_moves.specs.journal_wants.journal_sending.controller_model.Outcome.{facts_passed}
+use Rattle.journal_moves.specs.journal_wants.journal_sending.controller_model.Sent.{SendsOn}
+use Rattle.journal_moves.specs.journal_wants.journal_sending.controller_model.Side.{facts_after, facts_of}
+use Rattle.journal_moves.specs.journal_wants.journal_sending.controller_model.Step.{Step}
+use Rattle.journal_moves.specs.journal_wants.journal_sending.run_model.Feeding.{AreDistinct}
+use Rattle.journal_moves.specs.journal_wants.journal_sending.run_model.History.{Event, Hearing, Transmitted, has_received, packet_received, turns_begun}
+use Rattle.journal_moves.specs.journal_wants.journal_sending.run_model.LinkEnds.{HaveAddresses}
+use Rattle.journal_moves.specs.journal_wants.journal_sending.run_model.Links.{is_advertising}
+use Rattle.journal_moves.specs.journal_wants.journal_sending.run_model.Run.{Given, after_call, facts_at, hearings_of, setup_at, step_of, use_at}
+use Rattle.journal_moves.proofs.journal_wants.journal_sending.run_model.LinkEnds.{AreTaken, IsUnderstood, is_listener, wanted_is}
+use Rattle.journal_moves.proofs.journal_wants.journal_sending.run_model.Stations.{is_in, among, in_more_other, in_more_same, not_before}
+use Rattle.journal_moves.proofs.journal_wants.journal_sending.run_model.Walk.{Place, NoTurn, AtFeeds, AtBegins, AfterPhases, AtPackets, AtListening, AtEnds, IsKept}
+use Rattle.journal_moves.proofs.journal_wants.journal_sending.journal_data.run_laws.ConnectInds.{on_channel}
+use Rattle.journal_moves.proofs.journal_wants.journal_sending.journal_data.run_laws.Hearings.{other_facts, own_facts, use_same, use_sent_at}
+use Rattle.journal_moves.proofs.journal_wants.journal_sending.journal_data.run_laws.InAgreement.{differs_back}
+use Rattle.journal_moves.proofs.journal_wants.journal_sending.journal_data.run_laws.LinkPhases.{IsInPhase}
+use Rattle.journal_moves.proofs.journal_wants.journal_sending.journal_data.run_laws.OwnLinks.{sent_begins}
+use Rattle.journal_moves.proofs.journal_wants.journal_sending.journal_data.run_laws.SentPackets.{IsUseSent}
+use Rattle.journal_moves.proofs.journal_wants.journal_sending.journal_data.run_laws.TurnPlaces.{Within, at_stage, event_past}
+use Rattle.journal_moves.proofs.journal_wants.journal_sending.journal_data.run_laws.TurnSteps.{IsListening}
+use Rattle.journal_moves.proofs.journal_wants.journal_sending.journal_links.OfTwo.{of_two_stations}
+use Rattle.journal_moves.specs.journal_wants.journal_sending.journal_packets.Belonging.{have_one_access}
+use Rattle.journal_moves.proofs.journal_wants.journal_sending.journal_packets.Asked.{asked_called, asked_packet, asks_in, is_asked}
+use Rattle.journal_moves.proofs.journal_wants.journal_sending.journal_packets.SoFar.{IsBelongingSoFar, belonging_first, belonging_kept}
+use Rattle.journal_moves.proofs.journal_wants.journal_sending.journal_acks.Standing.{PhasedBy, listens_wanted, phased_at, sends_on}
+use Rattle.journal_moves.proofs.journal_wants.journal_sending.journal_acks.TwoStations.{IsOfTwo, other_is, other_of}
+use Rattle.journal_moves.specs.journal_wants.journal_sending.journal_acks.link_calls.Phases.{HasPassed, IsNew, Stays, Takes, link_receiving}
+use Rattle.journal_moves.specs.journal_wants.journal_sending.journal_acks.link_calls.Turns.{sent_if}
+use Rattle.journal_moves.specs.journal_wants.journal_sending.journal_acks.link_calls.Uses.{sends_under}
+use Rattle.journal_moves.proofs.journal_wants.journal_sending.journal_acks.link_calls.Exchanging.{uses_either as either}
+use Rattle.journal_moves.proofs.journal_wants.journal_sending.journal_acks.link_calls.LinkCalls.{off_sends, phase_under, receiving_event}
+use Rattle.journal_moves.proofs.journal_wants.journal_sending.journal_acks.link_calls.UnderHandles.{same_base}
 use Rattle.journal_slots.proofs.ExchangeSlots.{event_after_receiving, event_after_sending, event_received}
 
 -- ---- a central that asked

@@ -10,43 +10,43 @@ use Rattle.ble_base.specs.declared.roles.Side.{Side}
 use Rattle.adv_pdu.specs.declared.pdu.AdvPdu.{AdvPdu}
 use Rattle.adv_pdu.specs.declared.pdu.AdvPdu.TheVariants.{Connect}
 use Rattle.adv_pdu.specs.declared.pdu.ConnectFields.{ConnectFields}
-use Rattle.journal_sending.specs.journal_data.link_model.declared.setup.LinkSetup.{LinkSetup}
+use Rattle.journal_moves.specs.journal_wants.journal_sending.journal_data.link_model.declared.setup.LinkSetup.{LinkSetup}
 use Rattle.journal.specs.declared.entries.Entry.{Entry}
 use Rattle.journal.specs.declared.entries.Entry.TheVariants.{Fed, Turn}
 use Rattle.radio_replay.specs.declared.fates.Fate.{Fate}
-use Rattle.journal_sending.specs.controller_model.declared.doing.Doing.{Doing}
-use Rattle.journal_sending.specs.controller_model.declared.doing.Doing.TheVariants.{Advertises, Connects}
-use Rattle.journal_sending.proofs.controller_model.DataChannels.{link_channel}
-use Rattle.journal_sending.specs.controller_model.Facts.{Facts, Sends}
-use Rattle.journal_sending.specs.controller_model.Packets.{pdu_heard, use_of}
-use Rattle.journal_sending.specs.controller_model.Side.{facts_of, notes_after}
-use Rattle.journal_sending.specs.controller_model.Step.{Step, HostOctet, TurnBegins, TurnEnds}
-use Rattle.journal_sending.specs.run_model.Feeding.{AreDistinct}
-use Rattle.journal_sending.specs.run_model.History.{Event, TurnBegan, HostFed, Called, Noted, Transmitted, Hearing, has_received, packet_received}
-use Rattle.journal_sending.specs.run_model.Journal.{entries_of, entry_of, journal_of, radio_in, side_of}
-use Rattle.journal_sending.specs.run_model.LinkEnds.{HaveAddresses}
-use Rattle.journal_sending.specs.run_model.Links.{Links, begins_link, is_advertising, is_connect_ind, links_after, links_noted, links_of, with_link}
-use Rattle.journal_sending.specs.run_model.OnAir.{ends_phase}
-use Rattle.journal_sending.specs.run_model.Readers.{turns_of}
-use Rattle.journal_sending.specs.run_model.Run.{Given, GoesOn, after_call, after_feed, after_octets, facts_at, hearings_of, history_of, octets_left, run_of}
-use Rattle.journal_sending.specs.run_model.Run.{setup_at, step_of, use_at}
-use Rattle.journal_sending.proofs.run_model.EntryEvents.{is_of_event}
-use Rattle.journal_sending.proofs.run_model.LinkEnds.{AreTaken, IsUnderstood, deaf_by}
-use Rattle.journal_sending.proofs.run_model.LinksKnown.{links_event}
-use Rattle.journal_sending.proofs.run_model.OpenedNotes.{is_opened, made_is_noted, opens_under}
-use Rattle.journal_sending.proofs.run_model.Parts.{journal_event}
-use Rattle.journal_sending.proofs.run_model.Stations.{is_in, among, in_more_other, in_more_same, not_before}
-use Rattle.journal_sending.proofs.run_model.Walk.{Place, NoTurn, AtFeeds, AtBegins, AfterPhases, AtPackets, AtListening, AtEnds, IsKept}
-use Rattle.journal_sending.proofs.journal_data.run_laws.ConnectInds.{no_advertising}
-use Rattle.journal_sending.proofs.journal_data.run_laws.Hearings.{other_facts, use_sent_at}
-use Rattle.journal_sending.proofs.journal_data.run_laws.SentPackets.{IsUseSent, Says}
-use Rattle.journal_sending.proofs.journal_data.run_laws.TurnPlaces.{event_past}
-use Rattle.journal_sending.specs.journal_links.Begun.{LinkBegun, begun_by, begun_in, link_numbered, links_begun, with_number}
-use Rattle.journal_sending.proofs.journal_links.LinksBegun.{links_more, note_begins}
-use Rattle.journal_sending.proofs.journal_packets.SentLinks.{begun_are_sent, is_answered, number_sent}
-use Rattle.journal_sending.proofs.journal_packets.SoFar.{IsBelongingSoFar, belonging_first, belonging_kept}
-use Rattle.journal_sending.proofs.journal_acks.Seen.{IsSeen, seen_last, seen_turn}
-use Rattle.journal_sending.proofs.journal_acks.TwoStations.{IsOfTwo, one_hearing, same_number, side_same}
+use Rattle.journal_moves.specs.journal_wants.journal_sending.controller_model.declared.doing.Doing.{Doing}
+use Rattle.journal_moves.specs.journal_wants.journal_sending.controller_model.declared.doing.Doing.TheVariants.{Advertises, Connects}
+use Rattle.journal_moves.proofs.journal_wants.journal_sending.controller_model.DataChannels.{link_channel}
+use Rattle.journal_moves.specs.journal_wants.journal_sending.controller_model.Facts.{Facts, Sends}
+use Rattle.journal_moves.specs.journal_wants.journal_sending.controller_model.Packets.{pdu_heard, use_of}
+use Rattle.journal_moves.specs.journal_wants.journal_sending.controller_model.Side.{facts_of, notes_after}
+use Rattle.journal_moves.specs.journal_wants.journal_sending.controller_model.Step.{Step, HostOctet, TurnBegins, TurnEnds}
+use Rattle.journal_moves.specs.journal_wants.journal_sending.run_model.Feeding.{AreDistinct}
+use Rattle.journal_moves.specs.journal_wants.journal_sending.run_model.History.{Event, TurnBegan, HostFed, Called, Noted, Transmitted, Hearing, has_received, packet_received}
+use Rattle.journal_moves.specs.journal_wants.journal_sending.run_model.Journal.{entries_of, entry_of, journal_of, radio_in, side_of}
+use Rattle.journal_moves.specs.journal_wants.journal_sending.run_model.LinkEnds.{HaveAddresses}
+use Rattle.journal_moves.specs.journal_wants.journal_sending.run_model.Links.{Links, begins_link, is_advertising, is_connect_ind, links_after, links_noted, links_of, with_link}
+use Rattle.journal_moves.specs.journal_wants.journal_sending.run_model.OnAir.{ends_phase}
+use Rattle.journal_moves.specs.journal_wants.journal_sending.run_model.Readers.{turns_of}
+use Rattle.journal_moves.specs.journal_wants.journal_sending.run_model.Run.{Given, GoesOn, after_call, after_feed, after_octets, facts_at, hearings_of, history_of, octets_left, run_of}
+use Rattle.journal_moves.specs.journal_wants.journal_sending.run_model.Run.{setup_at, step_of, use_at}
+use Rattle.journal_moves.proofs.journal_wants.journal_sending.run_model.EntryEvents.{is_of_event}
+use Rattle.journal_moves.proofs.journal_wants.journal_sending.run_model.LinkEnds.{AreTaken, IsUnderstood, deaf_by}
+use Rattle.journal_moves.proofs.journal_wants.journal_sending.run_model.LinksKnown.{links_event}
+use Rattle.journal_moves.proofs.journal_wants.journal_sending.run_model.OpenedNotes.{is_opened, made_is_noted, opens_under}
+use Rattle.journal_moves.proofs.journal_wants.journal_sending.run_model.Parts.{journal_event}
+use Rattle.journal_moves.proofs.journal_wants.journal_sending.run_model.Stations.{is_in, among, in_more_other, in_more_same, not_before}
+use Rattle.journal_moves.proofs.journal_wants.journal_sending.run_model.Walk.{Place, NoTurn, AtFeeds, AtBegins, AfterPhases, AtPackets, AtListening, AtEnds, IsKept}
+use Rattle.journal_moves.proofs.journal_wants.journal_sending.journal_data.run_laws.ConnectInds.{no_advertising}
+use Rattle.journal_moves.proofs.journal_wants.journal_sending.journal_data.run_laws.Hearings.{other_facts, use_sent_at}
+use Rattle.journal_moves.proofs.journal_wants.journal_sending.journal_data.run_laws.SentPackets.{IsUseSent, Says}
+use Rattle.journal_moves.proofs.journal_wants.journal_sending.journal_data.run_laws.TurnPlaces.{event_past}
+use Rattle.journal_moves.specs.journal_wants.journal_sending.journal_links.Begun.{LinkBegun, begun_by, begun_in, link_numbered, links_begun, with_number}
+use Rattle.journal_moves.proofs.journal_wants.journal_sending.journal_links.LinksBegun.{links_more, note_begins}
+use Rattle.journal_moves.proofs.journal_wants.journal_sending.journal_packets.SentLinks.{begun_are_sent, is_answered, number_sent}
+use Rattle.journal_moves.proofs.journal_wants.journal_sending.journal_packets.SoFar.{IsBelongingSoFar, belonging_first, belonging_kept}
+use Rattle.journal_moves.proofs.journal_wants.journal_sending.journal_acks.Seen.{IsSeen, seen_last, seen_turn}
+use Rattle.journal_moves.proofs.journal_wants.journal_sending.journal_acks.TwoStations.{IsOfTwo, one_hearing, same_number, side_same}
 use Rattle.journal_hearings.proofs.LinksOpened.{turn_event}
 use Rattle.journal_pdus.specs.OpenedLinks.{AllAreOpenedByThen, AreOpened, is_opened_by, opens}
 

@@ -9,17 +9,17 @@ use Rattle.ble_base.specs.declared.roles.Side.{Side}
 use Rattle.h4_frames.specs.Frames.{frames}
 use Rattle.journal.specs.declared.entries.Entry.{Entry}
 use Rattle.journal.specs.declared.entries.Entry.TheVariants.{Air, Turn}
-use Rattle.journal_sending.specs.controller_model.Step.{Step}
-use Rattle.journal_sending.specs.journal_hosts.HostFlow.{held_on, is_host_full}
-use Rattle.journal_sending.specs.run_model.History.{Event, Called, Noted}
-use Rattle.journal_sending.specs.journal_packets.Belonging.{is_side}
-use Rattle.journal_sending.specs.run_model.Journal.{entry_of, journal_of, side_of}
-use Rattle.journal_sending.specs.run_model.Links.{links_of}
-use Rattle.journal_sending.specs.run_model.Readers.{turn_packets, turn_packets_after}
-use Rattle.journal_sending.proofs.journal_acks.Exchanging.{map_both}
-use Rattle.journal_sending.proofs.journal_data.Openness.{AreNot, is_shutting}
-use Rattle.journal_sending.proofs.journal_leaving.OtherLines.{in_call_reads, is_other, note_other}
-use Rattle.journal_sending.proofs.run_model.Parts.{journal_event}
+use Rattle.journal_moves.specs.journal_wants.journal_sending.controller_model.Step.{Step}
+use Rattle.journal_moves.specs.journal_wants.journal_sending.journal_hosts.HostFlow.{held_on, is_host_full}
+use Rattle.journal_moves.specs.journal_wants.journal_sending.run_model.History.{Event, Called, Noted}
+use Rattle.journal_moves.specs.journal_wants.journal_sending.journal_packets.Belonging.{is_side}
+use Rattle.journal_moves.specs.journal_wants.journal_sending.run_model.Journal.{entry_of, journal_of, side_of}
+use Rattle.journal_moves.specs.journal_wants.journal_sending.run_model.Links.{links_of}
+use Rattle.journal_moves.specs.journal_wants.journal_sending.run_model.Readers.{turn_packets, turn_packets_after}
+use Rattle.journal_moves.proofs.journal_wants.journal_sending.journal_acks.Exchanging.{map_both}
+use Rattle.journal_moves.proofs.journal_wants.journal_sending.journal_data.Openness.{AreNot, is_shutting}
+use Rattle.journal_moves.proofs.journal_wants.journal_sending.journal_leaving.OtherLines.{in_call_reads, is_other, note_other}
+use Rattle.journal_moves.proofs.journal_wants.journal_sending.run_model.Parts.{journal_event}
 use Rattle.journal_pdus.specs.Settled.{full_from, goes_on, was_full}
 
 -- ---- line by line

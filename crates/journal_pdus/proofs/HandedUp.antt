@@ -5,34 +5,34 @@ use Rattle.std.proofs.lemmas.Bool.{and_parts, eqb-true}
 use Rattle.acl_banks.specs.declared.pieces.Piece.{Piece}
 use Rattle.ble_base.specs.declared.notes.Note.{Note}
 use Rattle.host_view.specs.Flow.{left_of, outstanding}
-use Rattle.journal_sending.specs.journal_data.open_links.declared.ended.LinkEnded.{LinkEnded}
-use Rattle.journal_sending.specs.journal_data.open_links.Turns.{ending_in}
-use Rattle.journal_sending.specs.controller_model.Data.{event_completed, facts_handed, notes_pieces, pieces_handed}
-use Rattle.journal_sending.specs.controller_model.Events.{notes_of_events}
-use Rattle.journal_sending.specs.controller_model.Facts.{Facts}
-use Rattle.journal_sending.specs.controller_model.Links.{ends_for, notes_ended, notes_leaving}
-use Rattle.journal_sending.specs.controller_model.declared.doing.Doing.TheVariants.{Rests}
-use Rattle.journal_sending.specs.controller_model.Packets.{facts_doing}
-use Rattle.journal_sending.specs.controller_model.Side.{facts_of, notes_after}
-use Rattle.journal_sending.specs.controller_model.Step.{TurnEnds}
-use Rattle.journal_sending.proofs.controller_model.Always.{leaving_is, received_shut}
-use Rattle.journal_sending.proofs.controller_model.BetweenTurns.{shut_none}
-use Rattle.journal_sending.proofs.controller_model.Handing.{all_or_full}
-use Rattle.journal_sending.proofs.controller_model.HostWindow.{never_more}
-use Rattle.journal_sending.specs.journal_data.open_links.Data.{completed_from}
-use Rattle.journal_sending.specs.journal_hosts.HostFlow.{is_host_full}
-use Rattle.journal_sending.specs.run_model.History.{Event, Called, Noted, past_of}
-use Rattle.journal_sending.specs.run_model.Journal.{journal_of, side_of}
-use Rattle.journal_sending.specs.journal_packets.Belonging.{is_side}
-use Rattle.journal_sending.specs.run_model.Readers.{turn_packets}
-use Rattle.journal_sending.specs.run_model.Run.{Given, after_call, facts_at, history_of, run_of, setup_at}
-use Rattle.journal_sending.proofs.journal_acks.TwoStations.{IsOfTwo, other_is}
-use Rattle.journal_sending.proofs.journal_data.OneCall.{far_side}
-use Rattle.journal_sending.proofs.journal_data.Openness.{AreNot, all_append, handed_not, is_shutting}
-use Rattle.journal_sending.proofs.journal_hosts.QuietTurns.{IsSilent}
-use Rattle.journal_sending.proofs.run_model.Stations.{among, in_more_other, in_more_same, is_in}
-use Rattle.journal_sending.proofs.run_model.Walk.{Place, NoTurn, AtFeeds, AtBegins, AfterPhases, AtPackets, AtListening, AtEnds, IsKept}
-use Rattle.journal_sending.proofs.journal_data.run_laws.Hearings.{other_facts, own_facts}
+use Rattle.journal_moves.specs.journal_wants.journal_sending.journal_data.open_links.declared.ended.LinkEnded.{LinkEnded}
+use Rattle.journal_moves.specs.journal_wants.journal_sending.journal_data.open_links.Turns.{ending_in}
+use Rattle.journal_moves.specs.journal_wants.journal_sending.controller_model.Data.{event_completed, facts_handed, notes_pieces, pieces_handed}
+use Rattle.journal_moves.specs.journal_wants.journal_sending.controller_model.Events.{notes_of_events}
+use Rattle.journal_moves.specs.journal_wants.journal_sending.controller_model.Facts.{Facts}
+use Rattle.journal_moves.specs.journal_wants.journal_sending.controller_model.Links.{ends_for, notes_ended, notes_leaving}
+use Rattle.journal_moves.specs.journal_wants.journal_sending.controller_model.declared.doing.Doing.TheVariants.{Rests}
+use Rattle.journal_moves.specs.journal_wants.journal_sending.controller_model.Packets.{facts_doing}
+use Rattle.journal_moves.specs.journal_wants.journal_sending.controller_model.Side.{facts_of, notes_after}
+use Rattle.journal_moves.specs.journal_wants.journal_sending.controller_model.Step.{TurnEnds}
+use Rattle.journal_moves.proofs.journal_wants.journal_sending.controller_model.Always.{leaving_is, received_shut}
+use Rattle.journal_moves.proofs.journal_wants.journal_sending.controller_model.BetweenTurns.{shut_none}
+use Rattle.journal_moves.proofs.journal_wants.journal_sending.controller_model.Handing.{all_or_full}
+use Rattle.journal_moves.proofs.journal_wants.journal_sending.controller_model.HostWindow.{never_more}
+use Rattle.journal_moves.specs.journal_wants.journal_sending.journal_data.open_links.Data.{completed_from}
+use Rattle.journal_moves.specs.journal_wants.journal_sending.journal_hosts.HostFlow.{is_host_full}
+use Rattle.journal_moves.specs.journal_wants.journal_sending.run_model.History.{Event, Called, Noted, past_of}
+use Rattle.journal_moves.specs.journal_wants.journal_sending.run_model.Journal.{journal_of, side_of}
+use Rattle.journal_moves.specs.journal_wants.journal_sending.journal_packets.Belonging.{is_side}
+use Rattle.journal_moves.specs.journal_wants.journal_sending.run_model.Readers.{turn_packets}
+use Rattle.journal_moves.specs.journal_wants.journal_sending.run_model.Run.{Given, after_call, facts_at, history_of, run_of, setup_at}
+use Rattle.journal_moves.proofs.journal_wants.journal_sending.journal_acks.TwoStations.{IsOfTwo, other_is}
+use Rattle.journal_moves.proofs.journal_wants.journal_sending.journal_data.OneCall.{far_side}
+use Rattle.journal_moves.proofs.journal_wants.journal_sending.journal_data.Openness.{AreNot, all_append, handed_not, is_shutting}
+use Rattle.journal_moves.proofs.journal_wants.journal_sending.journal_hosts.QuietTurns.{IsSilent}
+use Rattle.journal_moves.proofs.journal_wants.journal_sending.run_model.Stations.{among, in_more_other, in_more_same, is_in}
+use Rattle.journal_moves.proofs.journal_wants.journal_sending.run_model.Walk.{Place, NoTurn, AtFeeds, AtBegins, AfterPhases, AtPackets, AtListening, AtEnds, IsKept}
+use Rattle.journal_moves.proofs.journal_wants.journal_sending.journal_data.run_laws.Hearings.{other_facts, own_facts}
 use Rattle.journal_pdus.specs.Settled.{was_full}
 use Rattle.journal_pdus.proofs.FullLines.{ShutNoneEarly, call_full, call_full_on, now_full}
 use Rattle.journal_moves.proofs.journal_wants.StillTurns.{none_ends_silent}

@@ -1,21 +1,21 @@
 -- In every journal of a run of a pair nothing waits for a host that can take more between turns, nor on a link that is shut after the
 -- packets of a turn.
 use Rattle.std.proofs.Common.{◌≡◌, ℕ, List, ◌∷◌, ◌++◌, length, refl}
-use Rattle.journal_sending.proofs.journal_data.link_model.Hearing.{IsHeardWhole}
+use Rattle.journal_moves.proofs.journal_wants.journal_sending.journal_data.link_model.Hearing.{IsHeardWhole}
 use Rattle.radio_replay.specs.Script.{Script}
-use Rattle.journal_sending.specs.controller_model.Step.{TurnEnds}
-use Rattle.journal_sending.specs.run_model.History.{Event, Called}
-use Rattle.journal_sending.specs.run_model.Journal.{journal_of}
-use Rattle.journal_sending.specs.run_model.LinkEnds.{HaveAddresses}
-use Rattle.journal_sending.specs.run_model.Pair.{given_of}
-use Rattle.journal_sending.specs.run_model.Run.{Given, GoesOn, history_of, run_of}
-use Rattle.journal_sending.proofs.run_model.LinkEnds.{AreTaken, IsUnderstood, pair_addresses}
-use Rattle.journal_sending.proofs.run_model.Ordered.{pair_distinct}
-use Rattle.journal_sending.proofs.journal_data.run_laws.DistinctAccess.{AreApart}
-use Rattle.journal_sending.proofs.journal_packets.AccessOrder.{AreNth}
-use Rattle.journal_sending.proofs.journal_data.Law.{eight_of}
-use Rattle.journal_sending.proofs.journal_data.FewLinks.{pair_links}
-use Rattle.journal_sending.proofs.journal_hosts.FlowInRuns.{full_as_handed, pair_few, ready_of_two}
+use Rattle.journal_moves.specs.journal_wants.journal_sending.controller_model.Step.{TurnEnds}
+use Rattle.journal_moves.specs.journal_wants.journal_sending.run_model.History.{Event, Called}
+use Rattle.journal_moves.specs.journal_wants.journal_sending.run_model.Journal.{journal_of}
+use Rattle.journal_moves.specs.journal_wants.journal_sending.run_model.LinkEnds.{HaveAddresses}
+use Rattle.journal_moves.specs.journal_wants.journal_sending.run_model.Pair.{given_of}
+use Rattle.journal_moves.specs.journal_wants.journal_sending.run_model.Run.{Given, GoesOn, history_of, run_of}
+use Rattle.journal_moves.proofs.journal_wants.journal_sending.run_model.LinkEnds.{AreTaken, IsUnderstood, pair_addresses}
+use Rattle.journal_moves.proofs.journal_wants.journal_sending.run_model.Ordered.{pair_distinct}
+use Rattle.journal_moves.proofs.journal_wants.journal_sending.journal_data.run_laws.DistinctAccess.{AreApart}
+use Rattle.journal_moves.proofs.journal_wants.journal_sending.journal_packets.AccessOrder.{AreNth}
+use Rattle.journal_moves.proofs.journal_wants.journal_sending.journal_data.Law.{eight_of}
+use Rattle.journal_moves.proofs.journal_wants.journal_sending.journal_data.FewLinks.{pair_links}
+use Rattle.journal_moves.proofs.journal_wants.journal_sending.journal_hosts.FlowInRuns.{full_as_handed, pair_few, ready_of_two}
 use Rattle.journal_pdus.specs.Exchanged.{AllAreSettled, AllAreSettledAsShut}
 use Rattle.journal_pdus.specs.Settled.{AreSettled}
 use Rattle.journal_pdus.proofs.HandedUp.{IsFullThen}

@@ -14,6 +14,6 @@ mod PacketTurns
 mod ResetAnswers
 mod ResetsLeaveNone
 -- what the crates above use of those below
-pub use Rattle.journal_sending.proofs.journal_leaving as journal_leaving
-pub use Rattle.journal_sending.proofs.run_model as run_model
-pub use Rattle.journal_sending.proofs.journal_hosts as journal_hosts
+pub use Rattle.journal_moves.proofs.journal_wants.journal_sending.journal_leaving as journal_leaving
+pub use Rattle.journal_moves.proofs.journal_wants.journal_sending.run_model as run_model
+pub use Rattle.journal_moves.proofs.journal_wants.journal_sending.journal_hosts as journal_hosts

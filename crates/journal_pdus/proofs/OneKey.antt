@@ -4,8 +4,8 @@ use Rattle.journal.specs.declared.entries.Entry.{Entry}
 use Rattle.journal.specs.declared.entries.Entry.TheVariants.{Done, Enter, Sent, Shut, Took}
 use Rattle.ble_base.specs.Side.{other_side}
 use Rattle.radio_replay.specs.Script.{Script}
-use Rattle.journal_sending.specs.journal_controls.journal_ends.Asked.{Words}
-use Rattle.journal_sending.specs.journal_data.Followed.{Mixed, none_mixed}
+use Rattle.journal_moves.specs.journal_wants.journal_sending.journal_controls.journal_ends.Asked.{Words}
+use Rattle.journal_moves.specs.journal_wants.journal_sending.journal_data.Followed.{Mixed, none_mixed}
 use Rattle.journal_pdus.specs.Lawful.{IsLawfulWith}
 
 -- no front of a journal is mixed
@@ -64,6 +64,7 @@ without_mixing words mixed a b script journal unmixed is = record {
   commands = is.commands;
   credits = is.credits;
   due = is.due;
+  in_words = is.in_words;
   sealed = is.sealed;
   host_flow = is.host_flow;
   host_order = is.host_order;

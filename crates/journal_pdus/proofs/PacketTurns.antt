@@ -4,41 +4,41 @@ use Rattle.std.proofs.Common.{◌≡◌, ℕ, ◌+◌, ◌⊎◌, inl, inr, true
 use Rattle.std.specs.Prelude.{⊤}
 use Rattle.std.specs.List.{Contains}
 use Rattle.std.proofs.lemmas.Bool.{or_left}
-use Rattle.journal_sending.specs.journal_data.link_model.Step.{PacketSent}
-use Rattle.journal_sending.proofs.journal_data.link_model.Hearing.{IsHeardWhole}
-use Rattle.journal_sending.specs.journal_data.open_links.OpenLinks.{OpenLink, facts_in, link_after}
-use Rattle.journal_sending.specs.controller_model.Facts.{Sends}
-use Rattle.journal_sending.specs.run_model.Feeding.{AreDistinct}
-use Rattle.journal_sending.specs.run_model.History.{Event}
-use Rattle.journal_sending.specs.run_model.Journal.{journal_of, side_of}
-use Rattle.journal_sending.specs.run_model.LinkEnds.{HaveAddresses}
-use Rattle.journal_sending.specs.run_model.Links.{is_advertising}
-use Rattle.journal_sending.specs.run_model.Readers.{turns_of}
-use Rattle.journal_sending.specs.run_model.Run.{Given, facts_at, history_of, run_of, use_at}
-use Rattle.journal_sending.proofs.run_model.EntryEvents.{is_aired}
-use Rattle.journal_sending.proofs.run_model.Fates.{turns_are}
-use Rattle.journal_sending.proofs.run_model.Fronts.{front_at}
-use Rattle.journal_sending.proofs.run_model.LinkEnds.{AreTaken, IsUnderstood}
-use Rattle.journal_sending.proofs.run_model.Stations.{is_in, among}
-use Rattle.journal_sending.proofs.run_model.Walk.{AtPackets, Place}
-use Rattle.journal_sending.proofs.journal_data.run_laws.DistinctAccess.{AreApart}
-use Rattle.journal_sending.specs.journal_links.Changes.{changes_of}
-use Rattle.journal_sending.specs.journal_links.Entered.{anchor_in}
-use Rattle.journal_sending.proofs.journal_links.OfTwo.{are_distinct, of_two_stations}
-use Rattle.journal_sending.specs.journal_packets.Senders.{IsOfSendersLink}
-use Rattle.journal_sending.proofs.journal_packets.AccessOrder.{AreNth}
-use Rattle.journal_sending.proofs.journal_packets.SoFar.{IsBelongingSoFar}
-use Rattle.journal_sending.proofs.journal_acks.Counting.{AreKnown, IsBegun}
-use Rattle.journal_sending.proofs.journal_acks.Exchanging.{number_at}
-use Rattle.journal_sending.proofs.journal_acks.KeptCounts.{AreCountedAt}
-use Rattle.journal_sending.proofs.journal_acks.Known.{known_of}
-use Rattle.journal_sending.proofs.journal_acks.RunCounts.{counts_first, run_counts_kept}
-use Rattle.journal_sending.proofs.journal_acks.Seen.{IsSeen, seen_packet}
-use Rattle.journal_sending.proofs.journal_acks.Standing.{phased_at, sends_on}
-use Rattle.journal_sending.proofs.journal_acks.TwoStations.{IsOfTwo}
-use Rattle.journal_sending.specs.journal_acks.link_calls.Exchanges.{HasExchange}
-use Rattle.journal_sending.specs.journal_acks.link_calls.Uses.{listens_under, sends_under}
-use Rattle.journal_sending.proofs.journal_acks.link_calls.Exchanging.{in_exchange}
+use Rattle.journal_moves.specs.journal_wants.journal_sending.journal_data.link_model.Step.{PacketSent}
+use Rattle.journal_moves.proofs.journal_wants.journal_sending.journal_data.link_model.Hearing.{IsHeardWhole}
+use Rattle.journal_moves.specs.journal_wants.journal_sending.journal_data.open_links.OpenLinks.{OpenLink, facts_in, link_after}
+use Rattle.journal_moves.specs.journal_wants.journal_sending.controller_model.Facts.{Sends}
+use Rattle.journal_moves.specs.journal_wants.journal_sending.run_model.Feeding.{AreDistinct}
+use Rattle.journal_moves.specs.journal_wants.journal_sending.run_model.History.{Event}
+use Rattle.journal_moves.specs.journal_wants.journal_sending.run_model.Journal.{journal_of, side_of}
+use Rattle.journal_moves.specs.journal_wants.journal_sending.run_model.LinkEnds.{HaveAddresses}
+use Rattle.journal_moves.specs.journal_wants.journal_sending.run_model.Links.{is_advertising}
+use Rattle.journal_moves.specs.journal_wants.journal_sending.run_model.Readers.{turns_of}
+use Rattle.journal_moves.specs.journal_wants.journal_sending.run_model.Run.{Given, facts_at, history_of, run_of, use_at}
+use Rattle.journal_moves.proofs.journal_wants.journal_sending.run_model.EntryEvents.{is_aired}
+use Rattle.journal_moves.proofs.journal_wants.journal_sending.run_model.Fates.{turns_are}
+use Rattle.journal_moves.proofs.journal_wants.journal_sending.run_model.Fronts.{front_at}
+use Rattle.journal_moves.proofs.journal_wants.journal_sending.run_model.LinkEnds.{AreTaken, IsUnderstood}
+use Rattle.journal_moves.proofs.journal_wants.journal_sending.run_model.Stations.{is_in, among}
+use Rattle.journal_moves.proofs.journal_wants.journal_sending.run_model.Walk.{AtPackets, Place}
+use Rattle.journal_moves.proofs.journal_wants.journal_sending.journal_data.run_laws.DistinctAccess.{AreApart}
+use Rattle.journal_moves.specs.journal_wants.journal_sending.journal_links.Changes.{changes_of}
+use Rattle.journal_moves.specs.journal_wants.journal_sending.journal_links.Entered.{anchor_in}
+use Rattle.journal_moves.proofs.journal_wants.journal_sending.journal_links.OfTwo.{are_distinct, of_two_stations}
+use Rattle.journal_moves.specs.journal_wants.journal_sending.journal_packets.Senders.{IsOfSendersLink}
+use Rattle.journal_moves.proofs.journal_wants.journal_sending.journal_packets.AccessOrder.{AreNth}
+use Rattle.journal_moves.proofs.journal_wants.journal_sending.journal_packets.SoFar.{IsBelongingSoFar}
+use Rattle.journal_moves.proofs.journal_wants.journal_sending.journal_acks.Counting.{AreKnown, IsBegun}
+use Rattle.journal_moves.proofs.journal_wants.journal_sending.journal_acks.Exchanging.{number_at}
+use Rattle.journal_moves.proofs.journal_wants.journal_sending.journal_acks.KeptCounts.{AreCountedAt}
+use Rattle.journal_moves.proofs.journal_wants.journal_sending.journal_acks.Known.{known_of}
+use Rattle.journal_moves.proofs.journal_wants.journal_sending.journal_acks.RunCounts.{counts_first, run_counts_kept}
+use Rattle.journal_moves.proofs.journal_wants.journal_sending.journal_acks.Seen.{IsSeen, seen_packet}
+use Rattle.journal_moves.proofs.journal_wants.journal_sending.journal_acks.Standing.{phased_at, sends_on}
+use Rattle.journal_moves.proofs.journal_wants.journal_sending.journal_acks.TwoStations.{IsOfTwo}
+use Rattle.journal_moves.specs.journal_wants.journal_sending.journal_acks.link_calls.Exchanges.{HasExchange}
+use Rattle.journal_moves.specs.journal_wants.journal_sending.journal_acks.link_calls.Uses.{listens_under, sends_under}
+use Rattle.journal_moves.proofs.journal_wants.journal_sending.journal_acks.link_calls.Exchanging.{in_exchange}
 use Rattle.journal_slots.proofs.LastEvents.{IsInItsEvent, begun_as, sender_in_event}
 use Rattle.journal_pdus.specs.InEvent.{AllAreInEvents, IsInEvent}
 

@@ -27,27 +27,27 @@ use Rattle.host_view.specs.Noted.{two_octets}
 use Rattle.host_view.specs.OnLinks.{asks_links}
 use Rattle.host_view.specs.View.{View}
 use Rattle.host_view.specs.Status.{status_of}
-use Rattle.journal_sending.specs.journal_data.open_links.OpenLinks.{Links, handles_from, without_links}
-use Rattle.journal_sending.specs.journal_data.open_links.declared.offers.Offer.{Offer}
-use Rattle.journal_sending.specs.journal_data.open_links.declared.offers.Offer.TheVariants.{NoLink, Empty, Overflow, Kept}
-use Rattle.journal_sending.specs.controller_model.Step.{Step, HostOctet}
-use Rattle.journal_sending.specs.controller_model.Facts.{Setup, Facts}
-use Rattle.journal_sending.specs.controller_model.Answers.{accepted_answer, answer_to, complete_answer, has_status_answer, refused_fields, returned}
-use Rattle.journal_sending.specs.controller_model.Answers.{status_answer}
-use Rattle.journal_sending.specs.controller_model.Commands.{events_caused, facts_commanded, facts_known, notes_before, notes_commanded, notes_known}
-use Rattle.journal_sending.specs.controller_model.Data.{notes_offered, offer_of}
-use Rattle.journal_sending.specs.controller_model.Events.{notes_of_events, passes}
-use Rattle.journal_sending.specs.controller_model.Links.{connection_failed, note_shut, notes_reset, wants_enhanced}
-use Rattle.journal_sending.specs.controller_model.Notes.{is_event}
-use Rattle.journal_sending.specs.controller_model.Side.{facts_after, facts_fed, notes_after, notes_fed, result_of}
-use Rattle.journal_sending.proofs.controller_model.Always.{IsInTurn}
-use Rattle.journal_sending.proofs.controller_model.Handles.{HaveOwnHandles}
-use Rattle.journal_sending.proofs.controller_model.OpenPlaces.{is_reset}
-use Rattle.journal_sending.proofs.controller_model.ProcedureEvents.{AreOfProcedures, IsOfProcedure}
-use Rattle.journal_sending.specs.controller_model.link_commands.LinksCommanded.{events_commanded_on}
-use Rattle.journal_sending.proofs.controller_model.Asked.{asking_links, both_asking, events_at_once_are, notes_at_once}
-use Rattle.journal_sending.proofs.controller_model.TurnNotes.{EachNote, IsOfTurn, event_noted, turn_noted}
-use Rattle.journal_sending.proofs.journal_data.Openness.{all_append}
+use Rattle.journal_moves.specs.journal_wants.journal_sending.journal_data.open_links.OpenLinks.{Links, handles_from, without_links}
+use Rattle.journal_moves.specs.journal_wants.journal_sending.journal_data.open_links.declared.offers.Offer.{Offer}
+use Rattle.journal_moves.specs.journal_wants.journal_sending.journal_data.open_links.declared.offers.Offer.TheVariants.{NoLink, Empty, Overflow, Kept}
+use Rattle.journal_moves.specs.journal_wants.journal_sending.controller_model.Step.{Step, HostOctet}
+use Rattle.journal_moves.specs.journal_wants.journal_sending.controller_model.Facts.{Setup, Facts}
+use Rattle.journal_moves.specs.journal_wants.journal_sending.controller_model.Answers.{accepted_answer, answer_to, complete_answer, has_status_answer, refused_fields, returned}
+use Rattle.journal_moves.specs.journal_wants.journal_sending.controller_model.Answers.{status_answer}
+use Rattle.journal_moves.specs.journal_wants.journal_sending.controller_model.Commands.{events_caused, facts_commanded, facts_known, notes_before, notes_commanded, notes_known}
+use Rattle.journal_moves.specs.journal_wants.journal_sending.controller_model.Data.{notes_offered, offer_of}
+use Rattle.journal_moves.specs.journal_wants.journal_sending.controller_model.Events.{notes_of_events, passes}
+use Rattle.journal_moves.specs.journal_wants.journal_sending.controller_model.Links.{connection_failed, note_shut, notes_reset, wants_enhanced}
+use Rattle.journal_moves.specs.journal_wants.journal_sending.controller_model.Notes.{is_event}
+use Rattle.journal_moves.specs.journal_wants.journal_sending.controller_model.Side.{facts_after, facts_fed, notes_after, notes_fed, result_of}
+use Rattle.journal_moves.proofs.journal_wants.journal_sending.controller_model.Always.{IsInTurn}
+use Rattle.journal_moves.proofs.journal_wants.journal_sending.controller_model.Handles.{HaveOwnHandles}
+use Rattle.journal_moves.proofs.journal_wants.journal_sending.controller_model.OpenPlaces.{is_reset}
+use Rattle.journal_moves.proofs.journal_wants.journal_sending.controller_model.ProcedureEvents.{AreOfProcedures, IsOfProcedure}
+use Rattle.journal_moves.specs.journal_wants.journal_sending.controller_model.link_commands.LinksCommanded.{events_commanded_on}
+use Rattle.journal_moves.proofs.journal_wants.journal_sending.controller_model.Asked.{asking_links, both_asking, events_at_once_are, notes_at_once}
+use Rattle.journal_moves.proofs.journal_wants.journal_sending.controller_model.TurnNotes.{EachNote, IsOfTurn, event_noted, turn_noted}
+use Rattle.journal_moves.proofs.journal_wants.journal_sending.journal_data.Openness.{all_append}
 use Rattle.journal_pdus.specs.Resetting.{answers_reset}
 
 -- ---- what is no such answer

@@ -9,45 +9,45 @@ use Rattle.ble_base.specs.declared.notes.Note.TheVariants.{Up as UpNote}
 use Rattle.ble_base.specs.declared.roles.Side.{Side}
 use Rattle.journal.specs.declared.entries.Entry.{Entry}
 use Rattle.journal.specs.declared.entries.Entry.TheVariants.{Up}
-use Rattle.journal_sending.proofs.journal_data.link_model.Hearing.{IsHeardWhole}
-use Rattle.journal_sending.specs.journal_data.open_links.OpenLinks.{OpenLink, handles_from, link_at}
-use Rattle.journal_sending.specs.controller_model.Facts.{Facts}
-use Rattle.journal_sending.specs.controller_model.Links.{note_shut, notes_reset}
-use Rattle.journal_sending.specs.controller_model.Side.{facts_after, notes_after}
-use Rattle.journal_sending.specs.controller_model.Step.{Step, HostOctet, TurnBegins, TurnEnds}
-use Rattle.journal_sending.proofs.controller_model.Always.{IsInTurn}
-use Rattle.journal_sending.proofs.controller_model.Handles.{own_handles}
-use Rattle.journal_sending.proofs.controller_model.Sent.{shut_from}
-use Rattle.journal_sending.specs.run_model.Due.{Each}
-use Rattle.journal_sending.specs.run_model.Feeding.{AreDistinct}
-use Rattle.journal_sending.specs.run_model.History.{Event, TurnBegan, HostFed, Called, Noted, Transmitted, past_of, packet_received}
-use Rattle.journal_sending.specs.run_model.Journal.{entries_of, entry_of, journal_of, side_of}
-use Rattle.journal_sending.specs.run_model.LinkEnds.{HaveAddresses}
-use Rattle.journal_sending.specs.run_model.Links.{links_of}
-use Rattle.journal_sending.specs.run_model.Run.{Given, after_call, after_feed, after_octets, facts_at, hearings_of, history_of, octets_left, run_of, setup_at}
-use Rattle.journal_sending.specs.run_model.Run.{step_of}
-use Rattle.journal_sending.proofs.run_model.CallNotes.{map_push}
-use Rattle.journal_sending.proofs.run_model.EntryEvents.{is_of_event}
-use Rattle.journal_sending.proofs.run_model.LinkEnds.{AreTaken, IsUnderstood}
-use Rattle.journal_sending.proofs.run_model.Places.{each_append, each_at, each_event}
-use Rattle.journal_sending.proofs.run_model.Stations.{among}
-use Rattle.journal_sending.proofs.run_model.Walk.{AtFeeds, Place, IsKept, IsStopped, IsWhole, ends_with, run_kept}
-use Rattle.journal_sending.proofs.journal_data.run_laws.DistinctAccess.{AreApart}
-use Rattle.journal_sending.proofs.journal_data.run_laws.Hearings.{own_facts}
-use Rattle.journal_sending.proofs.journal_packets.AccessOrder.{AreNth}
-use Rattle.journal_sending.proofs.journal_packets.SoFar.{IsBelongingSoFar}
-use Rattle.journal_sending.proofs.journal_acks.Counting.{AreKnown, HaveOwnNumbers}
-use Rattle.journal_sending.proofs.journal_acks.Known.{known_of}
-use Rattle.journal_sending.proofs.journal_acks.TwoStations.{IsOfTwo}
-use Rattle.journal_sending.specs.journal_data.HostLines.{OpenUnder}
-use Rattle.journal_sending.specs.journal_data.Lines.{Lines, lines_of}
-use Rattle.journal_sending.proofs.journal_data.EachLine.{lines_at, note_lines, numbers_at}
-use Rattle.journal_sending.proofs.journal_data.FewLinks.{HaveFewLinks}
-use Rattle.journal_sending.proofs.journal_data.HeldLinks.{HoldsLinks, nothing_in}
-use Rattle.journal_sending.proofs.journal_data.KeptData.{IsDataAt, data_kept, own_numbers, pass_in_turn}
-use Rattle.journal_sending.proofs.journal_data.Law.{first_data}
-use Rattle.journal_sending.proofs.journal_data.Openness.{is_open}
-use Rattle.journal_sending.proofs.journal_data.StationLines.{IsStationBooked, call_booked, event_booked, event_own, octet_own, octet_unused}
+use Rattle.journal_moves.proofs.journal_wants.journal_sending.journal_data.link_model.Hearing.{IsHeardWhole}
+use Rattle.journal_moves.specs.journal_wants.journal_sending.journal_data.open_links.OpenLinks.{OpenLink, handles_from, link_at}
+use Rattle.journal_moves.specs.journal_wants.journal_sending.controller_model.Facts.{Facts}
+use Rattle.journal_moves.specs.journal_wants.journal_sending.controller_model.Links.{note_shut, notes_reset}
+use Rattle.journal_moves.specs.journal_wants.journal_sending.controller_model.Side.{facts_after, notes_after}
+use Rattle.journal_moves.specs.journal_wants.journal_sending.controller_model.Step.{Step, HostOctet, TurnBegins, TurnEnds}
+use Rattle.journal_moves.proofs.journal_wants.journal_sending.controller_model.Always.{IsInTurn}
+use Rattle.journal_moves.proofs.journal_wants.journal_sending.controller_model.Handles.{own_handles}
+use Rattle.journal_moves.proofs.journal_wants.journal_sending.controller_model.Sent.{shut_from}
+use Rattle.journal_moves.specs.journal_wants.journal_sending.run_model.Due.{Each}
+use Rattle.journal_moves.specs.journal_wants.journal_sending.run_model.Feeding.{AreDistinct}
+use Rattle.journal_moves.specs.journal_wants.journal_sending.run_model.History.{Event, TurnBegan, HostFed, Called, Noted, Transmitted, past_of, packet_received}
+use Rattle.journal_moves.specs.journal_wants.journal_sending.run_model.Journal.{entries_of, entry_of, journal_of, side_of}
+use Rattle.journal_moves.specs.journal_wants.journal_sending.run_model.LinkEnds.{HaveAddresses}
+use Rattle.journal_moves.specs.journal_wants.journal_sending.run_model.Links.{links_of}
+use Rattle.journal_moves.specs.journal_wants.journal_sending.run_model.Run.{Given, after_call, after_feed, after_octets, facts_at, hearings_of, history_of, octets_left, run_of, setup_at}
+use Rattle.journal_moves.specs.journal_wants.journal_sending.run_model.Run.{step_of}
+use Rattle.journal_moves.proofs.journal_wants.journal_sending.run_model.CallNotes.{map_push}
+use Rattle.journal_moves.proofs.journal_wants.journal_sending.run_model.EntryEvents.{is_of_event}
+use Rattle.journal_moves.proofs.journal_wants.journal_sending.run_model.LinkEnds.{AreTaken, IsUnderstood}
+use Rattle.journal_moves.proofs.journal_wants.journal_sending.run_model.Places.{each_append, each_at, each_event}
+use Rattle.journal_moves.proofs.journal_wants.journal_sending.run_model.Stations.{among}
+use Rattle.journal_moves.proofs.journal_wants.journal_sending.run_model.Walk.{AtFeeds, Place, IsKept, IsStopped, IsWhole, ends_with, run_kept}
+use Rattle.journal_moves.proofs.journal_wants.journal_sending.journal_data.run_laws.DistinctAccess.{AreApart}
+use Rattle.journal_moves.proofs.journal_wants.journal_sending.journal_data.run_laws.Hearings.{own_facts}
+use Rattle.journal_moves.proofs.journal_wants.journal_sending.journal_packets.AccessOrder.{AreNth}
+use Rattle.journal_moves.proofs.journal_wants.journal_sending.journal_packets.SoFar.{IsBelongingSoFar}
+use Rattle.journal_moves.proofs.journal_wants.journal_sending.journal_acks.Counting.{AreKnown, HaveOwnNumbers}
+use Rattle.journal_moves.proofs.journal_wants.journal_sending.journal_acks.Known.{known_of}
+use Rattle.journal_moves.proofs.journal_wants.journal_sending.journal_acks.TwoStations.{IsOfTwo}
+use Rattle.journal_moves.specs.journal_wants.journal_sending.journal_data.HostLines.{OpenUnder}
+use Rattle.journal_moves.specs.journal_wants.journal_sending.journal_data.Lines.{Lines, lines_of}
+use Rattle.journal_moves.proofs.journal_wants.journal_sending.journal_data.EachLine.{lines_at, note_lines, numbers_at}
+use Rattle.journal_moves.proofs.journal_wants.journal_sending.journal_data.FewLinks.{HaveFewLinks}
+use Rattle.journal_moves.proofs.journal_wants.journal_sending.journal_data.HeldLinks.{HoldsLinks, nothing_in}
+use Rattle.journal_moves.proofs.journal_wants.journal_sending.journal_data.KeptData.{IsDataAt, data_kept, own_numbers, pass_in_turn}
+use Rattle.journal_moves.proofs.journal_wants.journal_sending.journal_data.Law.{first_data}
+use Rattle.journal_moves.proofs.journal_wants.journal_sending.journal_data.Openness.{is_open}
+use Rattle.journal_moves.proofs.journal_wants.journal_sending.journal_data.StationLines.{IsStationBooked, call_booked, event_booked, event_own, octet_own, octet_unused}
 use Rattle.journal_pdus.specs.Resetting.{ResetsLeaveNoLink, answers_reset}
 use Rattle.journal_pdus.proofs.ResetAnswers.{IsAnsweredSo, IsQuiet, Quiet, Resets, octet_so, turn_calls_quiet}
 

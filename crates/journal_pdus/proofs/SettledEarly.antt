@@ -2,44 +2,44 @@
 -- it.
 use Rattle.std.proofs.Common.{◌≡◌, ℕ, ◌&&◌, Bool, true, false, Option, Some, None, List, ◌∷◌, ◌++◌, refl, sym, ap, subst, ◌∙◌}
 use Rattle.ble_base.specs.declared.roles.Side.{Side}
-use Rattle.journal_sending.proofs.AtRest.{by_side}
-use Rattle.journal_sending.proofs.journal_data.link_model.Hearing.{IsHeardWhole}
-use Rattle.journal_sending.proofs.journal_data.link_model.Sending.{past_together}
-use Rattle.journal_sending.specs.journal_data.open_links.OpenLinks.{OpenLink, facts_in, link_at}
-use Rattle.journal_sending.specs.controller_model.declared.doing.Turn.{Turn}
-use Rattle.journal_sending.specs.controller_model.Since.{data_waiting}
-use Rattle.journal_sending.specs.run_model.Feeding.{AreDistinct}
-use Rattle.journal_sending.specs.run_model.History.{Event, packet_received}
-use Rattle.journal_sending.specs.run_model.Journal.{journal_of, side_of}
-use Rattle.journal_sending.specs.run_model.LinkEnds.{HaveAddresses}
-use Rattle.journal_sending.specs.run_model.Readers.{turn_packets}
-use Rattle.journal_sending.specs.run_model.Run.{Given, facts_at, history_of, run_of, setup_at}
-use Rattle.journal_sending.proofs.run_model.EntryEvents.{is_aired}
-use Rattle.journal_sending.proofs.run_model.LinkEnds.{AreTaken, IsUnderstood}
-use Rattle.journal_sending.proofs.run_model.Stations.{is_in}
-use Rattle.journal_sending.proofs.run_model.Walk.{Place, AtPackets, IsKept}
-use Rattle.journal_sending.proofs.journal_data.run_laws.Agreed.{ack_of}
-use Rattle.journal_sending.proofs.journal_data.run_laws.DistinctAccess.{AreApart}
-use Rattle.journal_sending.proofs.journal_packets.AccessOrder.{AreNth}
-use Rattle.journal_sending.proofs.journal_packets.SoFar.{IsBelongingSoFar}
-use Rattle.journal_sending.specs.journal_acks.Exchange.{Exchanged}
-use Rattle.journal_sending.proofs.journal_acks.Counting.{IsEndCounted, ahead_if, taking_if}
-use Rattle.journal_sending.proofs.journal_acks.Exchanging.{exchange_at, number_at}
-use Rattle.journal_sending.proofs.journal_acks.Known.{known_of}
-use Rattle.journal_sending.specs.journal_acks.link_calls.Uses.{listens_under, sends_under}
-use Rattle.journal_sending.proofs.journal_acks.Seen.{IsSeen, seen_packet}
-use Rattle.journal_sending.proofs.journal_acks.TwoStations.{IsOfTwo}
-use Rattle.journal_sending.specs.journal_data.HostLines.{OpenUnder}
-use Rattle.journal_sending.specs.journal_data.Lines.{lines_of}
-use Rattle.journal_sending.proofs.journal_data.Ends.{sound}
-use Rattle.journal_sending.proofs.journal_data.FewLinks.{HaveFewLinks}
-use Rattle.journal_sending.proofs.journal_hosts.Calm.{IsCalm, calm_under}
-use Rattle.journal_sending.proofs.journal_hosts.QuietTurns.{AreQuiet, IsSilent, quiet_first, quiet_kept}
+use Rattle.journal_moves.proofs.journal_wants.journal_sending.AtRest.{by_side}
+use Rattle.journal_moves.proofs.journal_wants.journal_sending.journal_data.link_model.Hearing.{IsHeardWhole}
+use Rattle.journal_moves.proofs.journal_wants.journal_sending.journal_data.link_model.Sending.{past_together}
+use Rattle.journal_moves.specs.journal_wants.journal_sending.journal_data.open_links.OpenLinks.{OpenLink, facts_in, link_at}
+use Rattle.journal_moves.specs.journal_wants.journal_sending.controller_model.declared.doing.Turn.{Turn}
+use Rattle.journal_moves.specs.journal_wants.journal_sending.controller_model.Since.{data_waiting}
+use Rattle.journal_moves.specs.journal_wants.journal_sending.run_model.Feeding.{AreDistinct}
+use Rattle.journal_moves.specs.journal_wants.journal_sending.run_model.History.{Event, packet_received}
+use Rattle.journal_moves.specs.journal_wants.journal_sending.run_model.Journal.{journal_of, side_of}
+use Rattle.journal_moves.specs.journal_wants.journal_sending.run_model.LinkEnds.{HaveAddresses}
+use Rattle.journal_moves.specs.journal_wants.journal_sending.run_model.Readers.{turn_packets}
+use Rattle.journal_moves.specs.journal_wants.journal_sending.run_model.Run.{Given, facts_at, history_of, run_of, setup_at}
+use Rattle.journal_moves.proofs.journal_wants.journal_sending.run_model.EntryEvents.{is_aired}
+use Rattle.journal_moves.proofs.journal_wants.journal_sending.run_model.LinkEnds.{AreTaken, IsUnderstood}
+use Rattle.journal_moves.proofs.journal_wants.journal_sending.run_model.Stations.{is_in}
+use Rattle.journal_moves.proofs.journal_wants.journal_sending.run_model.Walk.{Place, AtPackets, IsKept}
+use Rattle.journal_moves.proofs.journal_wants.journal_sending.journal_data.run_laws.Agreed.{ack_of}
+use Rattle.journal_moves.proofs.journal_wants.journal_sending.journal_data.run_laws.DistinctAccess.{AreApart}
+use Rattle.journal_moves.proofs.journal_wants.journal_sending.journal_packets.AccessOrder.{AreNth}
+use Rattle.journal_moves.proofs.journal_wants.journal_sending.journal_packets.SoFar.{IsBelongingSoFar}
+use Rattle.journal_moves.specs.journal_wants.journal_sending.journal_acks.Exchange.{Exchanged}
+use Rattle.journal_moves.proofs.journal_wants.journal_sending.journal_acks.Counting.{IsEndCounted, ahead_if, taking_if}
+use Rattle.journal_moves.proofs.journal_wants.journal_sending.journal_acks.Exchanging.{exchange_at, number_at}
+use Rattle.journal_moves.proofs.journal_wants.journal_sending.journal_acks.Known.{known_of}
+use Rattle.journal_moves.specs.journal_wants.journal_sending.journal_acks.link_calls.Uses.{listens_under, sends_under}
+use Rattle.journal_moves.proofs.journal_wants.journal_sending.journal_acks.Seen.{IsSeen, seen_packet}
+use Rattle.journal_moves.proofs.journal_wants.journal_sending.journal_acks.TwoStations.{IsOfTwo}
+use Rattle.journal_moves.specs.journal_wants.journal_sending.journal_data.HostLines.{OpenUnder}
+use Rattle.journal_moves.specs.journal_wants.journal_sending.journal_data.Lines.{lines_of}
+use Rattle.journal_moves.proofs.journal_wants.journal_sending.journal_data.Ends.{sound}
+use Rattle.journal_moves.proofs.journal_wants.journal_sending.journal_data.FewLinks.{HaveFewLinks}
+use Rattle.journal_moves.proofs.journal_wants.journal_sending.journal_hosts.Calm.{IsCalm, calm_under}
+use Rattle.journal_moves.proofs.journal_wants.journal_sending.journal_hosts.QuietTurns.{AreQuiet, IsSilent, quiet_first, quiet_kept}
 use Rattle.journal_pdus.specs.AtOnce.{AllAreCreditedAtOnce}
 use Rattle.journal_pdus.specs.Settled.{AreCredited, IsCredited}
 use Rattle.journal_pdus.proofs.SettledEnds.{credited_end}
 use Rattle.journal_pdus.proofs.SettledRuns.{open_in}
-use Rattle.journal_sending.proofs.Together.{IsKnownAt, known_first, known_kept}
+use Rattle.journal_moves.proofs.journal_wants.journal_sending.Together.{IsKnownAt, known_first, known_kept}
 
 -- ---- what is acknowledged to an end that heard nothing in the turn
 

@@ -13,20 +13,20 @@ use Rattle.acl_banks.specs.History.{whole_packets}
 use Rattle.acl_banks.specs.Packets.{Marked}
 use Rattle.journal.specs.declared.entries.Entry.{Entry}
 use Rattle.journal.specs.declared.entries.Entry.TheVariants.{Fed, Up, Opened, Shut, Sent, Took}
-use Rattle.journal_sending.specs.journal_data.link_model.Acknowledgement.{Acknowledgement, Pdu, empty_pdu}
-use Rattle.journal_sending.specs.journal_data.link_model.Data.{data_in, data_of, is_empty}
-use Rattle.journal_sending.specs.journal_data.link_model.Data.{acked_data}
-use Rattle.journal_sending.specs.journal_data.link_model.Facts.{Facts as EndFacts}
-use Rattle.journal_sending.proofs.journal_data.link_model.Outgoing.{EndsIn}
-use Rattle.journal_sending.proofs.journal_data.link_model.Sending.{IsTogether, in_order}
-use Rattle.journal_sending.specs.journal_packets.Belonging.{is_side}
-use Rattle.journal_sending.specs.journal_acks.Carried.{SentLine, sent_line_after, sent_line_from, sent_line_of}
-use Rattle.journal_sending.specs.journal_acks.Exchange.{exchange_of}
-use Rattle.journal_sending.proofs.journal_acks.KeptLines.{IsLined}
-use Rattle.journal_sending.specs.journal_data.Lines.{Lines, PduLine, accepted_on, data_on, line_after, lines_after, lines_of, no_lines, pdus_on, received_on}
-use Rattle.journal_sending.proofs.journal_data.Arriving.{IsEndBooked, data_nonempty, lines_data, pdu_lines}
+use Rattle.journal_moves.specs.journal_wants.journal_sending.journal_data.link_model.Acknowledgement.{Acknowledgement, Pdu, empty_pdu}
+use Rattle.journal_moves.specs.journal_wants.journal_sending.journal_data.link_model.Data.{data_in, data_of, is_empty}
+use Rattle.journal_moves.specs.journal_wants.journal_sending.journal_data.link_model.Data.{acked_data}
+use Rattle.journal_moves.specs.journal_wants.journal_sending.journal_data.link_model.Facts.{Facts as EndFacts}
+use Rattle.journal_moves.proofs.journal_wants.journal_sending.journal_data.link_model.Outgoing.{EndsIn}
+use Rattle.journal_moves.proofs.journal_wants.journal_sending.journal_data.link_model.Sending.{IsTogether, in_order}
+use Rattle.journal_moves.specs.journal_wants.journal_sending.journal_packets.Belonging.{is_side}
+use Rattle.journal_moves.specs.journal_wants.journal_sending.journal_acks.Carried.{SentLine, sent_line_after, sent_line_from, sent_line_of}
+use Rattle.journal_moves.specs.journal_wants.journal_sending.journal_acks.Exchange.{exchange_of}
+use Rattle.journal_moves.proofs.journal_wants.journal_sending.journal_acks.KeptLines.{IsLined}
+use Rattle.journal_moves.specs.journal_wants.journal_sending.journal_data.Lines.{Lines, PduLine, accepted_on, data_on, line_after, lines_after, lines_of, no_lines, pdus_on, received_on}
+use Rattle.journal_moves.proofs.journal_wants.journal_sending.journal_data.Arriving.{IsEndBooked, data_nonempty, lines_data, pdu_lines}
 use Rattle.journal_pdus.specs.Settled.{IsCredited, acked_on, count_out}
-use Rattle.journal_sending.specs.Outgoing.{data_of_lines}
+use Rattle.journal_moves.specs.journal_wants.journal_sending.Outgoing.{data_of_lines}
 
 -- ---- the last line of a new PDU
 

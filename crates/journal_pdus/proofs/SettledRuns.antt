@@ -3,49 +3,49 @@
 use Rattle.std.proofs.Common.{◌≡◌, ℕ, true, Some, List, [], ◌∷◌, ◌++◌, inl, inr, sym, ap, subst, ◌∙◌, append-nil}
 use Rattle.ble_base.specs.declared.roles.Side.{Side}
 use Rattle.journal.specs.declared.entries.Entry.TheVariants.{Turn}
-use Rattle.journal_sending.proofs.AtRest.{by_side}
-use Rattle.journal_sending.proofs.journal_data.link_model.Hearing.{IsHeardWhole}
-use Rattle.journal_sending.proofs.journal_data.link_model.Sending.{past_together}
-use Rattle.journal_sending.specs.journal_data.open_links.OpenLinks.{OpenLink, facts_in, link_at}
-use Rattle.journal_sending.specs.controller_model.Between.{is_between_turns}
-use Rattle.journal_sending.specs.controller_model.Since.{data_waiting}
-use Rattle.journal_sending.specs.controller_model.Step.{TurnEnds}
-use Rattle.journal_sending.proofs.controller_model.BetweenTurns.{none_complete}
-use Rattle.journal_sending.specs.run_model.Feeding.{AreDistinct}
-use Rattle.journal_sending.specs.run_model.History.{Event, Called, TurnBegan, past_of, turns_begun}
-use Rattle.journal_sending.specs.run_model.Journal.{journal_of, side_of}
-use Rattle.journal_sending.specs.run_model.LinkEnds.{HaveAddresses}
-use Rattle.journal_sending.specs.run_model.Links.{links_of}
-use Rattle.journal_sending.specs.run_model.Run.{Given, GoesOn, facts_at, history_of, run_of, setup_at}
-use Rattle.journal_sending.proofs.run_model.EntryEvents.{is_of_event}
-use Rattle.journal_sending.proofs.run_model.LinkEnds.{AreTaken, IsUnderstood}
-use Rattle.journal_sending.proofs.run_model.Stations.{is_in}
-use Rattle.journal_sending.proofs.run_model.Walk.{Place, NoTurn, IsKept}
-use Rattle.journal_sending.proofs.journal_data.run_laws.DistinctAccess.{AreApart}
-use Rattle.journal_sending.proofs.journal_data.run_laws.TurnPlaces.{stands_at}
-use Rattle.journal_sending.proofs.journal_packets.AccessOrder.{AreNth}
-use Rattle.journal_sending.proofs.journal_packets.SoFar.{IsBelongingSoFar}
-use Rattle.journal_sending.proofs.journal_acks.Known.{known_of}
-use Rattle.journal_sending.proofs.journal_acks.RunCounts.{between_turns}
-use Rattle.journal_sending.proofs.journal_acks.Seen.{IsSeen, seen_last, seen_turn}
-use Rattle.journal_sending.proofs.journal_acks.TwoStations.{IsOfTwo}
-use Rattle.journal_sending.specs.journal_data.HostLines.{OpenUnder}
-use Rattle.journal_sending.specs.journal_data.Lines.{lines_of}
-use Rattle.journal_sending.proofs.journal_data.EachLine.{lines_at, numbers_at}
-use Rattle.journal_sending.proofs.journal_data.HeldLinks.{one_of}
-use Rattle.journal_sending.proofs.journal_data.Openness.{is_open}
-use Rattle.journal_sending.proofs.journal_acks.Exchanging.{number_at}
-use Rattle.journal_sending.proofs.journal_data.Ends.{sound}
-use Rattle.journal_sending.proofs.journal_data.FedInRuns.{between_standing}
-use Rattle.journal_sending.proofs.journal_data.FewLinks.{HaveFewLinks}
-use Rattle.journal_sending.proofs.journal_data.NotedLines.{is_link}
-use Rattle.journal_sending.proofs.journal_data.StationLines.{IsStationBooked}
+use Rattle.journal_moves.proofs.journal_wants.journal_sending.AtRest.{by_side}
+use Rattle.journal_moves.proofs.journal_wants.journal_sending.journal_data.link_model.Hearing.{IsHeardWhole}
+use Rattle.journal_moves.proofs.journal_wants.journal_sending.journal_data.link_model.Sending.{past_together}
+use Rattle.journal_moves.specs.journal_wants.journal_sending.journal_data.open_links.OpenLinks.{OpenLink, facts_in, link_at}
+use Rattle.journal_moves.specs.journal_wants.journal_sending.controller_model.Between.{is_between_turns}
+use Rattle.journal_moves.specs.journal_wants.journal_sending.controller_model.Since.{data_waiting}
+use Rattle.journal_moves.specs.journal_wants.journal_sending.controller_model.Step.{TurnEnds}
+use Rattle.journal_moves.proofs.journal_wants.journal_sending.controller_model.BetweenTurns.{none_complete}
+use Rattle.journal_moves.specs.journal_wants.journal_sending.run_model.Feeding.{AreDistinct}
+use Rattle.journal_moves.specs.journal_wants.journal_sending.run_model.History.{Event, Called, TurnBegan, past_of, turns_begun}
+use Rattle.journal_moves.specs.journal_wants.journal_sending.run_model.Journal.{journal_of, side_of}
+use Rattle.journal_moves.specs.journal_wants.journal_sending.run_model.LinkEnds.{HaveAddresses}
+use Rattle.journal_moves.specs.journal_wants.journal_sending.run_model.Links.{links_of}
+use Rattle.journal_moves.specs.journal_wants.journal_sending.run_model.Run.{Given, GoesOn, facts_at, history_of, run_of, setup_at}
+use Rattle.journal_moves.proofs.journal_wants.journal_sending.run_model.EntryEvents.{is_of_event}
+use Rattle.journal_moves.proofs.journal_wants.journal_sending.run_model.LinkEnds.{AreTaken, IsUnderstood}
+use Rattle.journal_moves.proofs.journal_wants.journal_sending.run_model.Stations.{is_in}
+use Rattle.journal_moves.proofs.journal_wants.journal_sending.run_model.Walk.{Place, NoTurn, IsKept}
+use Rattle.journal_moves.proofs.journal_wants.journal_sending.journal_data.run_laws.DistinctAccess.{AreApart}
+use Rattle.journal_moves.proofs.journal_wants.journal_sending.journal_data.run_laws.TurnPlaces.{stands_at}
+use Rattle.journal_moves.proofs.journal_wants.journal_sending.journal_packets.AccessOrder.{AreNth}
+use Rattle.journal_moves.proofs.journal_wants.journal_sending.journal_packets.SoFar.{IsBelongingSoFar}
+use Rattle.journal_moves.proofs.journal_wants.journal_sending.journal_acks.Known.{known_of}
+use Rattle.journal_moves.proofs.journal_wants.journal_sending.journal_acks.RunCounts.{between_turns}
+use Rattle.journal_moves.proofs.journal_wants.journal_sending.journal_acks.Seen.{IsSeen, seen_last, seen_turn}
+use Rattle.journal_moves.proofs.journal_wants.journal_sending.journal_acks.TwoStations.{IsOfTwo}
+use Rattle.journal_moves.specs.journal_wants.journal_sending.journal_data.HostLines.{OpenUnder}
+use Rattle.journal_moves.specs.journal_wants.journal_sending.journal_data.Lines.{lines_of}
+use Rattle.journal_moves.proofs.journal_wants.journal_sending.journal_data.EachLine.{lines_at, numbers_at}
+use Rattle.journal_moves.proofs.journal_wants.journal_sending.journal_data.HeldLinks.{one_of}
+use Rattle.journal_moves.proofs.journal_wants.journal_sending.journal_data.Openness.{is_open}
+use Rattle.journal_moves.proofs.journal_wants.journal_sending.journal_acks.Exchanging.{number_at}
+use Rattle.journal_moves.proofs.journal_wants.journal_sending.journal_data.Ends.{sound}
+use Rattle.journal_moves.proofs.journal_wants.journal_sending.journal_data.FedInRuns.{between_standing}
+use Rattle.journal_moves.proofs.journal_wants.journal_sending.journal_data.FewLinks.{HaveFewLinks}
+use Rattle.journal_moves.proofs.journal_wants.journal_sending.journal_data.NotedLines.{is_link}
+use Rattle.journal_moves.proofs.journal_wants.journal_sending.journal_data.StationLines.{IsStationBooked}
 use Rattle.journal_hearings.proofs.LinksOpened.{turn_event}
 use Rattle.journal_pdus.specs.Exchanged.{AllAreSettled}
 use Rattle.journal_pdus.specs.Settled.{AreSettled, IsSettled}
 use Rattle.journal_pdus.proofs.HandedUp.{AreHanded, IsFullThen, IsHandedOver, handed_first, handed_kept}
 use Rattle.journal_pdus.proofs.SettledEnds.{credited_end, received_end}
-use Rattle.journal_sending.proofs.Together.{IsKnownAt, known_first, known_kept}
+use Rattle.journal_moves.proofs.journal_wants.journal_sending.Together.{IsKnownAt, known_first, known_kept}
 
 -- ---- the links that are open by the lines
 

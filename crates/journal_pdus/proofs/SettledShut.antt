@@ -11,70 +11,70 @@ use Rattle.host_view.specs.Flow.{left_of}
 use Rattle.hci_cmd.specs.declared.command.Command.TheVariants.{Reset}
 use Rattle.journal.specs.declared.entries.Entry.{Entry}
 use Rattle.journal.specs.declared.entries.Entry.TheVariants.{Shut}
-use Rattle.journal_sending.specs.controller_model.Data.{facts_handed, notes_handed, notes_pieces}
-use Rattle.journal_sending.specs.controller_model.Facts.{Facts}
-use Rattle.journal_sending.specs.controller_model.Host.{commands_accepted_after}
-use Rattle.journal_sending.specs.controller_model.Links.{ends_for, notes_ended, notes_leaving}
-use Rattle.journal_sending.specs.controller_model.Shutting.{IsShut, leaving as shut_leaving, overdue as shut_overdue, reset as shut_reset}
-use Rattle.journal_sending.specs.controller_model.Side.{notes_after}
-use Rattle.journal_sending.specs.controller_model.Since.{data_waiting}
-use Rattle.journal_sending.specs.controller_model.Step.{Step, HostOctet, TurnBegins, PacketHeard, NothingHeard, TurnEnds}
-use Rattle.journal_sending.proofs.journal_data.link_model.Hearing.{IsHeardWhole}
-use Rattle.journal_sending.proofs.journal_data.link_model.Sending.{past_together}
-use Rattle.journal_sending.specs.journal_data.link_model.Acknowledgement.{Acknowledgement}
-use Rattle.journal_sending.specs.journal_data.link_model.Facts.{Facts as EndFacts}
-use Rattle.journal_sending.specs.journal_data.link_model.Step.{DataReported}
-use Rattle.journal_sending.specs.journal_data.open_links.Data.{complete_in, link_reported}
-use Rattle.journal_sending.specs.journal_data.open_links.declared.ended.LinkEnded.{LinkEnded}
-use Rattle.journal_sending.specs.journal_data.open_links.Turns.{ending_in}
-use Rattle.journal_sending.specs.journal_data.open_links.OpenLinks.{OpenLink, facts_in, link_after, link_at}
-use Rattle.journal_sending.specs.run_model.Due.{Each}
-use Rattle.journal_sending.specs.run_model.Feeding.{AreDistinct}
-use Rattle.journal_sending.specs.run_model.History.{Event, Called, Noted, packet_received, turns_begun}
-use Rattle.journal_sending.specs.run_model.Journal.{journal_of, side_of}
-use Rattle.journal_sending.specs.run_model.LinkEnds.{HaveAddresses}
-use Rattle.journal_sending.specs.run_model.NoteLines.{IsLineInCall, shut_line}
-use Rattle.journal_sending.specs.run_model.OnAir.{ends_phase}
-use Rattle.journal_sending.specs.run_model.Run.{Given, facts_at, history_of, run_of, setup_at, step_of}
-use Rattle.journal_sending.proofs.run_model.LinkEnds.{AreTaken, IsUnderstood}
-use Rattle.journal_sending.proofs.run_model.NoteLines.{line_in_call, number_then, to_line}
-use Rattle.journal_sending.proofs.run_model.Places.{each_at}
-use Rattle.journal_sending.proofs.run_model.Stations.{among, not_before}
-use Rattle.journal_sending.proofs.run_model.Walk.{Place, AtEnds}
-use Rattle.journal_sending.proofs.journal_data.run_laws.Agreed.{ack_of, step_facts}
-use Rattle.journal_sending.proofs.journal_data.run_laws.DistinctAccess.{AreApart}
-use Rattle.journal_sending.proofs.journal_data.run_laws.TurnPlaces.{Between, Within, at_stage}
-use Rattle.journal_sending.proofs.journal_acks.NewPdus.{first_part}
-use Rattle.journal_sending.proofs.journal_acks.link_calls.CallNotes.{HasNoData, SendsNone, all_more, end_noted, no_data}
-use Rattle.journal_sending.proofs.journal_packets.AccessOrder.{AreNth}
-use Rattle.journal_sending.proofs.journal_packets.SoFar.{IsBelongingSoFar}
-use Rattle.journal_sending.proofs.journal_acks.Counting.{AreKnown, HaveOwnNumbers, plain}
-use Rattle.journal_sending.proofs.journal_acks.EachCall.{HaveCalls, OfCall, run_calls}
-use Rattle.journal_sending.proofs.journal_acks.Exchanging.{exchange_at, notes_counts, number_at}
-use Rattle.journal_sending.proofs.journal_acks.KeptLines.{IsLined}
-use Rattle.journal_sending.proofs.journal_acks.Known.{known_of}
-use Rattle.journal_sending.proofs.journal_acks.SentLines.{line_in_call as sent_line_in_call, sent_line_at}
-use Rattle.journal_sending.proofs.journal_acks.Standing.{PhasedBy, last_phase, phased_at}
-use Rattle.journal_sending.proofs.journal_acks.TwoStations.{IsOfTwo}
-use Rattle.journal_sending.proofs.journal_data.Arriving.{IsEndBooked}
-use Rattle.journal_sending.specs.journal_data.Lines.{lines_of}
-use Rattle.journal_sending.proofs.journal_data.EachLine.{lines_at}
-use Rattle.journal_sending.proofs.journal_data.EndedLinks.{booked_within, reported_ack}
-use Rattle.journal_sending.proofs.journal_data.Ends.{IsWell}
-use Rattle.journal_sending.proofs.journal_data.FewLinks.{HaveFewLinks}
-use Rattle.journal_sending.proofs.journal_data.KeptData.{own_numbers}
-use Rattle.journal_sending.proofs.journal_data.Openness.{AreNot, handed_not, is_shutting}
-use Rattle.journal_sending.specs.journal_leaving.Reasons.{packets_passed}
-use Rattle.journal_sending.proofs.journal_hosts.QuietTurns.{IsSilent}
-use Rattle.journal_sending.proofs.journal_leaving.QuietTurns.{in_call_passed, is_early, none_passed, passed_at}
-use Rattle.journal_sending.proofs.journal_leaving.ShutCalls.{handed}
-use Rattle.journal_sending.proofs.journal_leaving.ShutLines.{shut_in}
+use Rattle.journal_moves.specs.journal_wants.journal_sending.controller_model.Data.{facts_handed, notes_handed, notes_pieces}
+use Rattle.journal_moves.specs.journal_wants.journal_sending.controller_model.Facts.{Facts}
+use Rattle.journal_moves.specs.journal_wants.journal_sending.controller_model.Host.{commands_accepted_after}
+use Rattle.journal_moves.specs.journal_wants.journal_sending.controller_model.Links.{ends_for, notes_ended, notes_leaving}
+use Rattle.journal_moves.specs.journal_wants.journal_sending.controller_model.Shutting.{IsShut, leaving as shut_leaving, overdue as shut_overdue, reset as shut_reset}
+use Rattle.journal_moves.specs.journal_wants.journal_sending.controller_model.Side.{notes_after}
+use Rattle.journal_moves.specs.journal_wants.journal_sending.controller_model.Since.{data_waiting}
+use Rattle.journal_moves.specs.journal_wants.journal_sending.controller_model.Step.{Step, HostOctet, TurnBegins, PacketHeard, NothingHeard, TurnEnds}
+use Rattle.journal_moves.proofs.journal_wants.journal_sending.journal_data.link_model.Hearing.{IsHeardWhole}
+use Rattle.journal_moves.proofs.journal_wants.journal_sending.journal_data.link_model.Sending.{past_together}
+use Rattle.journal_moves.specs.journal_wants.journal_sending.journal_data.link_model.Acknowledgement.{Acknowledgement}
+use Rattle.journal_moves.specs.journal_wants.journal_sending.journal_data.link_model.Facts.{Facts as EndFacts}
+use Rattle.journal_moves.specs.journal_wants.journal_sending.journal_data.link_model.Step.{DataReported}
+use Rattle.journal_moves.specs.journal_wants.journal_sending.journal_data.open_links.Data.{complete_in, link_reported}
+use Rattle.journal_moves.specs.journal_wants.journal_sending.journal_data.open_links.declared.ended.LinkEnded.{LinkEnded}
+use Rattle.journal_moves.specs.journal_wants.journal_sending.journal_data.open_links.Turns.{ending_in}
+use Rattle.journal_moves.specs.journal_wants.journal_sending.journal_data.open_links.OpenLinks.{OpenLink, facts_in, link_after, link_at}
+use Rattle.journal_moves.specs.journal_wants.journal_sending.run_model.Due.{Each}
+use Rattle.journal_moves.specs.journal_wants.journal_sending.run_model.Feeding.{AreDistinct}
+use Rattle.journal_moves.specs.journal_wants.journal_sending.run_model.History.{Event, Called, Noted, packet_received, turns_begun}
+use Rattle.journal_moves.specs.journal_wants.journal_sending.run_model.Journal.{journal_of, side_of}
+use Rattle.journal_moves.specs.journal_wants.journal_sending.run_model.LinkEnds.{HaveAddresses}
+use Rattle.journal_moves.specs.journal_wants.journal_sending.run_model.NoteLines.{IsLineInCall, shut_line}
+use Rattle.journal_moves.specs.journal_wants.journal_sending.run_model.OnAir.{ends_phase}
+use Rattle.journal_moves.specs.journal_wants.journal_sending.run_model.Run.{Given, facts_at, history_of, run_of, setup_at, step_of}
+use Rattle.journal_moves.proofs.journal_wants.journal_sending.run_model.LinkEnds.{AreTaken, IsUnderstood}
+use Rattle.journal_moves.proofs.journal_wants.journal_sending.run_model.NoteLines.{line_in_call, number_then, to_line}
+use Rattle.journal_moves.proofs.journal_wants.journal_sending.run_model.Places.{each_at}
+use Rattle.journal_moves.proofs.journal_wants.journal_sending.run_model.Stations.{among, not_before}
+use Rattle.journal_moves.proofs.journal_wants.journal_sending.run_model.Walk.{Place, AtEnds}
+use Rattle.journal_moves.proofs.journal_wants.journal_sending.journal_data.run_laws.Agreed.{ack_of, step_facts}
+use Rattle.journal_moves.proofs.journal_wants.journal_sending.journal_data.run_laws.DistinctAccess.{AreApart}
+use Rattle.journal_moves.proofs.journal_wants.journal_sending.journal_data.run_laws.TurnPlaces.{Between, Within, at_stage}
+use Rattle.journal_moves.proofs.journal_wants.journal_sending.journal_acks.NewPdus.{first_part}
+use Rattle.journal_moves.proofs.journal_wants.journal_sending.journal_acks.link_calls.CallNotes.{HasNoData, SendsNone, all_more, end_noted, no_data}
+use Rattle.journal_moves.proofs.journal_wants.journal_sending.journal_packets.AccessOrder.{AreNth}
+use Rattle.journal_moves.proofs.journal_wants.journal_sending.journal_packets.SoFar.{IsBelongingSoFar}
+use Rattle.journal_moves.proofs.journal_wants.journal_sending.journal_acks.Counting.{AreKnown, HaveOwnNumbers, plain}
+use Rattle.journal_moves.proofs.journal_wants.journal_sending.journal_acks.EachCall.{HaveCalls, OfCall, run_calls}
+use Rattle.journal_moves.proofs.journal_wants.journal_sending.journal_acks.Exchanging.{exchange_at, notes_counts, number_at}
+use Rattle.journal_moves.proofs.journal_wants.journal_sending.journal_acks.KeptLines.{IsLined}
+use Rattle.journal_moves.proofs.journal_wants.journal_sending.journal_acks.Known.{known_of}
+use Rattle.journal_moves.proofs.journal_wants.journal_sending.journal_acks.SentLines.{line_in_call as sent_line_in_call, sent_line_at}
+use Rattle.journal_moves.proofs.journal_wants.journal_sending.journal_acks.Standing.{PhasedBy, last_phase, phased_at}
+use Rattle.journal_moves.proofs.journal_wants.journal_sending.journal_acks.TwoStations.{IsOfTwo}
+use Rattle.journal_moves.proofs.journal_wants.journal_sending.journal_data.Arriving.{IsEndBooked}
+use Rattle.journal_moves.specs.journal_wants.journal_sending.journal_data.Lines.{lines_of}
+use Rattle.journal_moves.proofs.journal_wants.journal_sending.journal_data.EachLine.{lines_at}
+use Rattle.journal_moves.proofs.journal_wants.journal_sending.journal_data.EndedLinks.{booked_within, reported_ack}
+use Rattle.journal_moves.proofs.journal_wants.journal_sending.journal_data.Ends.{IsWell}
+use Rattle.journal_moves.proofs.journal_wants.journal_sending.journal_data.FewLinks.{HaveFewLinks}
+use Rattle.journal_moves.proofs.journal_wants.journal_sending.journal_data.KeptData.{own_numbers}
+use Rattle.journal_moves.proofs.journal_wants.journal_sending.journal_data.Openness.{AreNot, handed_not, is_shutting}
+use Rattle.journal_moves.specs.journal_wants.journal_sending.journal_leaving.Reasons.{packets_passed}
+use Rattle.journal_moves.proofs.journal_wants.journal_sending.journal_hosts.QuietTurns.{IsSilent}
+use Rattle.journal_moves.proofs.journal_wants.journal_sending.journal_leaving.QuietTurns.{in_call_passed, is_early, none_passed, passed_at}
+use Rattle.journal_moves.proofs.journal_wants.journal_sending.journal_leaving.ShutCalls.{handed}
+use Rattle.journal_moves.proofs.journal_wants.journal_sending.journal_leaving.ShutLines.{shut_in}
 use Rattle.journal_pdus.specs.Exchanged.{AllAreSettledAsShut}
 use Rattle.journal_pdus.specs.Settled.{IsSettled, was_full}
 use Rattle.journal_pdus.proofs.HandedUp.{IsFullThen, left_or_full, none_reported, reports}
 use Rattle.journal_pdus.proofs.SettledEnds.{credited_end, received_end}
 use Rattle.journal_moves.proofs.journal_wants.StillTurns.{none_ends_silent}
-use Rattle.journal_sending.proofs.Together.{IsKnownAt, known_first, known_kept}
+use Rattle.journal_moves.proofs.journal_wants.journal_sending.Together.{IsKnownAt, known_first, known_kept}
 
 -- ---- notes of two parts
 

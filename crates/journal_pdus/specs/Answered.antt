@@ -8,10 +8,10 @@ use Rattle.ble_base.specs.declared.verdicts.Verdict.TheVariants.{Broken}
 use Rattle.journal.specs.declared.entries.Entry.{Entry}
 use Rattle.journal.specs.declared.entries.Entry.TheVariants.{Air}
 use Rattle.journal.specs.declared.entries.Mark.TheVariants.{Pass as Passed}
-use Rattle.journal_sending.specs.journal_controls.host_answers.Flows.{most_received_on}
-use Rattle.journal_sending.specs.run_model.History.{is_handed}
-use Rattle.journal_sending.specs.run_model.Links.{is_advertising}
-use Rattle.journal_sending.specs.journal_packets.Belonging.{is_answer}
+use Rattle.journal_moves.specs.journal_wants.journal_sending.journal_controls.host_answers.Flows.{most_received_on}
+use Rattle.journal_moves.specs.journal_wants.journal_sending.run_model.History.{is_handed}
+use Rattle.journal_moves.specs.journal_wants.journal_sending.run_model.Links.{is_advertising}
+use Rattle.journal_moves.specs.journal_wants.journal_sending.journal_packets.Belonging.{is_answer}
 
 -- it is judged good, or forged where its integrity code is wrong for the end that hears it. One with a payload of more
 -- octets than that end receives may be broken: an end that does not open what it hears has no room for an integrity code

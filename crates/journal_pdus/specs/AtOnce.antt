@@ -6,7 +6,7 @@ use Rattle.ble_base.specs.declared.verdicts.Verdict.{Verdict}
 use Rattle.journal.specs.declared.entries.Entry.{Entry}
 use Rattle.journal.specs.declared.entries.Entry.TheVariants.{Air}
 use Rattle.journal.specs.declared.entries.Mark.{Mark}
-use Rattle.journal_sending.specs.run_model.Readers.{turn_packets}
+use Rattle.journal_moves.specs.journal_wants.journal_sending.run_model.Readers.{turn_packets}
 use Rattle.journal_pdus.specs.Settled.{AreCredited}
 
 -- before the first packet of each turn all that is complete is reported, also what the hosts sent in this turn

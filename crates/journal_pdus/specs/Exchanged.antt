@@ -5,14 +5,14 @@ use Rattle.ble_base.specs.declared.ErrCode.{ErrCode}
 use Rattle.ble_base.specs.declared.roles.Side.{Side}
 use Rattle.journal.specs.declared.entries.Entry.{Entry}
 use Rattle.journal.specs.declared.entries.Entry.TheVariants.{Turn, Sent, Shut}
-use Rattle.journal_sending.specs.journal_acks.Carried.{IsNewPdu}
-use Rattle.journal_sending.specs.journal_controls.journal_ends.Asked.{Words}
-use Rattle.journal_sending.specs.journal_leaving.Reasons.{packets_passed}
-use Rattle.journal_sending.specs.Announced.{AllGoOutAtOnce}
-use Rattle.journal_sending.specs.NextPdus.{AllNewPdusAreNext}
-use Rattle.journal_sending.specs.Pending.{AllAreTakenAtOnce}
-use Rattle.journal_sending.specs.Resting.{AllAreAtRest}
-use Rattle.journal_sending.specs.WhatWaits.{AllTellWhatWaits}
+use Rattle.journal_moves.specs.journal_wants.journal_sending.journal_acks.Carried.{IsNewPdu}
+use Rattle.journal_moves.specs.journal_wants.journal_sending.journal_controls.journal_ends.Asked.{Words}
+use Rattle.journal_moves.specs.journal_wants.journal_sending.journal_leaving.Reasons.{packets_passed}
+use Rattle.journal_moves.specs.journal_wants.journal_sending.Announced.{AllGoOutAtOnce}
+use Rattle.journal_moves.specs.journal_wants.journal_sending.NextPdus.{AllNewPdusAreNext}
+use Rattle.journal_moves.specs.journal_wants.journal_sending.Pending.{AllAreTakenAtOnce}
+use Rattle.journal_moves.specs.journal_wants.journal_sending.Resting.{AllAreAtRest}
+use Rattle.journal_moves.specs.journal_wants.journal_sending.WhatWaits.{AllTellWhatWaits}
 use Rattle.journal_pdus.specs.Settled.{AreSettled, IsSettled}
 
 -- each new PDU that is not empty comes after all PDUs before it are acknowledged

@@ -6,13 +6,13 @@ use Rattle.ble_base.specs.declared.verdicts.Verdict.{Verdict}
 use Rattle.journal.specs.declared.entries.Entry.{Entry}
 use Rattle.journal.specs.declared.entries.Entry.TheVariants.{Air}
 use Rattle.journal.specs.declared.entries.Mark.{Mark}
-use Rattle.journal_sending.specs.run_model.Links.{is_advertising}
-use Rattle.journal_sending.specs.run_model.Readers.{turns_of}
-use Rattle.journal_sending.specs.journal_links.Begun.{LinkBegun, link_numbered}
-use Rattle.journal_sending.specs.journal_links.Changes.{changes_of}
-use Rattle.journal_sending.specs.journal_links.Entered.{anchor_in}
-use Rattle.journal_sending.specs.journal_packets.Belonging.{link_of_packet}
-use Rattle.journal_sending.specs.journal_acks.EventOrder.{entered_on}
+use Rattle.journal_moves.specs.journal_wants.journal_sending.run_model.Links.{is_advertising}
+use Rattle.journal_moves.specs.journal_wants.journal_sending.run_model.Readers.{turns_of}
+use Rattle.journal_moves.specs.journal_wants.journal_sending.journal_links.Begun.{LinkBegun, link_numbered}
+use Rattle.journal_moves.specs.journal_wants.journal_sending.journal_links.Changes.{changes_of}
+use Rattle.journal_moves.specs.journal_wants.journal_sending.journal_links.Entered.{anchor_in}
+use Rattle.journal_moves.specs.journal_wants.journal_sending.journal_packets.Belonging.{link_of_packet}
+use Rattle.journal_moves.specs.journal_wants.journal_sending.journal_acks.EventOrder.{entered_on}
 
 -- a packet of a link that a side sends after these entries is in the turn of the anchor of the event that this side
 -- entered last, or in the next turn

@@ -5,16 +5,16 @@ use Rattle.ble_base.specs.declared.roles.Side.{Side}
 use Rattle.journal.specs.declared.entries.Entry.{Entry}
 use Rattle.journal.specs.declared.entries.Entry.TheVariants.{Opened}
 use Rattle.radio_replay.specs.Script.{Script}
-use Rattle.journal_sending.specs.journal_links.Entered.{AllAreEntered}
-use Rattle.journal_sending.specs.journal_links.Opened.{IsOpenedInTime}
-use Rattle.journal_sending.specs.journal_packets.Addresses.{AllAddressesAreNext}
-use Rattle.journal_sending.specs.journal_acks.EventOrder.{AllAreInOrder}
-use Rattle.journal_sending.specs.journal_data.Delivered.{AllDataArrives}
-use Rattle.journal_sending.specs.journal_data.Followed.{Mixed}
-use Rattle.journal_sending.specs.journal_data.Held.{LinesAreOfOpenLinks}
-use Rattle.journal_sending.specs.journal_controls.journal_ends.Asked.{Words}
-use Rattle.journal_sending.specs.journal_due.ProcedureLines.{AllIndicationsAreDue, AllProceduresAreDue, NoneIsDue}
-use Rattle.journal_sending.specs.journal_due.ProcedureLines.{NoneIsLeftOut}
+use Rattle.journal_moves.specs.journal_wants.journal_sending.journal_links.Entered.{AllAreEntered}
+use Rattle.journal_moves.specs.journal_wants.journal_sending.journal_links.Opened.{IsOpenedInTime}
+use Rattle.journal_moves.specs.journal_wants.journal_sending.journal_packets.Addresses.{AllAddressesAreNext}
+use Rattle.journal_moves.specs.journal_wants.journal_sending.journal_acks.EventOrder.{AllAreInOrder}
+use Rattle.journal_moves.specs.journal_wants.journal_sending.journal_data.Delivered.{AllDataArrives}
+use Rattle.journal_moves.specs.journal_wants.journal_sending.journal_data.Followed.{Mixed}
+use Rattle.journal_moves.specs.journal_wants.journal_sending.journal_data.Held.{LinesAreOfOpenLinks}
+use Rattle.journal_moves.specs.journal_wants.journal_sending.journal_controls.journal_ends.Asked.{Words}
+use Rattle.journal_moves.specs.journal_wants.journal_sending.journal_due.ProcedureLines.{AllIndicationsAreDue, AllProceduresAreDue, NoneIsDue}
+use Rattle.journal_moves.specs.journal_wants.journal_sending.journal_due.ProcedureLines.{NoneIsLeftOut}
 use Rattle.journal_failures.specs.Failures.{AllFailuresAreForged}
 use Rattle.journal_failures.specs.journal_outcomes.Done.{NoneIsDone}
 use Rattle.journal_failures.specs.journal_outcomes.journal_collisions.Collisions.{AllAreRefused, AllAreRejectedNext}
@@ -23,19 +23,20 @@ use Rattle.journal_failures.specs.journal_outcomes.journal_collisions.journal_en
 use Rattle.journal_failures.specs.journal_outcomes.journal_collisions.journal_agreement.Indications.{AllAreEnteredAlike, AllFollowCentral}
 use Rattle.journal_hearings.specs.Openings.{AllHeardLinksAreOpened, HeardLinksAreOpened, OpenedLinksWereToOpen}
 use Rattle.journal_hearings.specs.Requests.{AllRequestsAreHeard}
-use Rattle.journal_sending.specs.journal_hosts.Answered.{AllAreAnswered}
-use Rattle.journal_sending.specs.journal_hosts.Credits.{AllCreditsAreOfOne, AllCreditsAreOfSome, AllCreditsAscend}
-use Rattle.journal_sending.specs.journal_hosts.Credits.{AllEarlyCreditsComeAtOnce, AllLateCreditsComeLast}
-use Rattle.journal_sending.specs.journal_hosts.Ends.{AllLateEndsAreReported}
-use Rattle.journal_sending.specs.journal_hosts.HostFlow.{KeepsHostFlow}
-use Rattle.journal_sending.specs.journal_hosts.HostOrder.{AllComeInOrder, AllDataComesLast}
-use Rattle.journal_sending.specs.journal_leaving.Reasons.{AllAreShutAs, AllEndInTime, AllStayOpen}
-use Rattle.journal_sending.specs.Resting.{IsAtRest}
+use Rattle.journal_moves.specs.journal_wants.journal_sending.journal_hosts.Answered.{AllAreAnswered}
+use Rattle.journal_moves.specs.journal_wants.journal_sending.journal_hosts.Credits.{AllCreditsAreOfOne, AllCreditsAreOfSome, AllCreditsAscend}
+use Rattle.journal_moves.specs.journal_wants.journal_sending.journal_hosts.Credits.{AllEarlyCreditsComeAtOnce, AllLateCreditsComeLast}
+use Rattle.journal_moves.specs.journal_wants.journal_sending.journal_hosts.Ends.{AllLateEndsAreReported}
+use Rattle.journal_moves.specs.journal_wants.journal_sending.journal_hosts.HostFlow.{KeepsHostFlow}
+use Rattle.journal_moves.specs.journal_wants.journal_sending.journal_hosts.HostOrder.{AllComeInOrder, AllDataComesLast}
+use Rattle.journal_moves.specs.journal_wants.journal_sending.journal_leaving.Reasons.{AllAreShutAs, AllEndInTime, AllStayOpen}
+use Rattle.journal_moves.specs.journal_wants.journal_sending.Resting.{IsAtRest}
 use Rattle.journal_moves.specs.journal_anchors.Anchors.{NoEventIsMissed, NoEventsAreMissed}
 use Rattle.journal_moves.specs.Moves.{NothingIsOwed}
 use Rattle.journal_moves.specs.Owed.{MovesAreOwed}
 use Rattle.journal_moves.specs.Verdicts.{AllListenedForAreJudged}
 use Rattle.journal_moves.specs.journal_wants.Setups.{setups_by}
+use Rattle.journal_rules.specs.Rules.{KeepsRules}
 use Rattle.journal_seals.specs.journal_sealing.Mixed.{is_mixed}
 use Rattle.journal_slots.specs.SecondSlot.{AllAreContinued}
 use Rattle.journal_turns.specs.Follows.{FollowsSchedule}
@@ -142,6 +143,9 @@ pub record IsLawfulWith (words : Words) (mixed : Mixed) (a b : List ℕ) (script
   pub credits : CreditsAreInOrder journal
   -- what goes out on links and what is taken is what is due, line by line
   pub due : PdusAreDue words journal
+  -- MD, the events that a peripheral skips, and what a side seals are as the standard says it, by what was sent, taken and
+  -- heard before
+  pub in_words : KeepsRules words journal
   -- the packets of links are sealed and judged as the keys and the counters of their ends say
   pub sealed : PacketsAreSealed words journal
   -- a host whose flow control is on never holds more packets of data than it can take, and none is longer than its buffers

@@ -4,8 +4,8 @@ use Rattle.std.specs.List.{list_any}
 use Rattle.ble_base.specs.declared.roles.Side.{Side}
 use Rattle.journal.specs.declared.entries.Entry.{Entry}
 use Rattle.journal.specs.declared.entries.Entry.TheVariants.{Opened, Turn}
-use Rattle.journal_sending.specs.journal_links.Begun.{LinkBegun, link_numbered}
-use Rattle.journal_sending.specs.journal_packets.Belonging.{is_side}
+use Rattle.journal_moves.specs.journal_wants.journal_sending.journal_links.Begun.{LinkBegun, link_numbered}
+use Rattle.journal_moves.specs.journal_wants.journal_sending.journal_packets.Belonging.{is_side}
 
 -- a line says that this side holds the link with this number from there on
 abbrev pub opens : Side → ℕ → Entry → Bool

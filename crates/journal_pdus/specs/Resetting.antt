@@ -4,8 +4,8 @@ use Rattle.ble_base.specs.declared.roles.Side.{Side}
 use Rattle.host_view.specs.Noted.{two_octets}
 use Rattle.journal.specs.declared.entries.Entry.{Entry}
 use Rattle.journal.specs.declared.entries.Entry.TheVariants.{Up}
-use Rattle.journal_sending.specs.controller_model.Notes.{is_event}
-use Rattle.journal_sending.specs.journal_data.Held.{links_open}
+use Rattle.journal_moves.specs.journal_wants.journal_sending.controller_model.Notes.{is_event}
+use Rattle.journal_moves.specs.journal_wants.journal_sending.journal_data.Held.{links_open}
 
 -- an HCI_Reset is answered as done: by a Command Complete event, 0E, with the opcode 0C03, which is at the places 4 and 5,
 -- and the status 00 after it

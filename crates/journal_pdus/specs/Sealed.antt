@@ -10,8 +10,8 @@ use Rattle.journal_seals.specs.journal_forgeries.Forgeries.{AllForgedAreOfOtherK
 use Rattle.journal_seals.specs.journal_sealing.Judged.{AllVerdictsAreOfLines}
 use Rattle.journal_seals.specs.journal_sealing.SealedLines.{AllPayloadsAreOfLines, IsSentAgain}
 use Rattle.journal_seals.specs.Seals.{AllAreSealedAsOpened}
-use Rattle.journal_sending.specs.journal_controls.journal_ends.Asked.{Words}
-use Rattle.journal_sending.specs.run_model.Links.{is_advertising}
+use Rattle.journal_moves.specs.journal_wants.journal_sending.journal_controls.journal_ends.Asked.{Words}
+use Rattle.journal_moves.specs.journal_wants.journal_sending.run_model.Links.{is_advertising}
 
 -- a PDU that is sent again has the payload of its first packet, until it is acknowledged
 abbrev pub AllAreSentAgain : Words → List Entry → Type 0

@@ -6,15 +6,15 @@ use Rattle.acl_banks.specs.History.{whole_packets}
 use Rattle.acl_banks.specs.Packets.{Marked}
 use Rattle.journal.specs.declared.entries.Entry.{Entry}
 use Rattle.journal.specs.declared.entries.Entry.TheVariants.{Air, Fed, Shut, Turn}
-use Rattle.journal_sending.specs.journal_acks.Carried.{SentLine, sent_line_of}
-use Rattle.journal_sending.specs.journal_acks.Exchange.{exchange_of}
-use Rattle.journal_sending.specs.journal_data.Delivered.{host_buffers}
-use Rattle.journal_sending.specs.journal_data.HostLines.{OpenUnder}
-use Rattle.journal_sending.specs.journal_data.Lines.{accepted_on, credited_on, data_on, empties_on, lines_of, pdus_on, received_on}
-use Rattle.journal_sending.specs.journal_hosts.HostFlow.{is_host_full}
-use Rattle.journal_sending.specs.journal_packets.Belonging.{is_side}
-use Rattle.journal_sending.specs.run_model.Readers.{turn_packets}
-use Rattle.journal_sending.specs.Outgoing.{data_of_lines}
+use Rattle.journal_moves.specs.journal_wants.journal_sending.journal_acks.Carried.{SentLine, sent_line_of}
+use Rattle.journal_moves.specs.journal_wants.journal_sending.journal_acks.Exchange.{exchange_of}
+use Rattle.journal_moves.specs.journal_wants.journal_sending.journal_data.Delivered.{host_buffers}
+use Rattle.journal_moves.specs.journal_wants.journal_sending.journal_data.HostLines.{OpenUnder}
+use Rattle.journal_moves.specs.journal_wants.journal_sending.journal_data.Lines.{accepted_on, credited_on, data_on, empties_on, lines_of, pdus_on, received_on}
+use Rattle.journal_moves.specs.journal_wants.journal_sending.journal_hosts.HostFlow.{is_host_full}
+use Rattle.journal_moves.specs.journal_wants.journal_sending.journal_packets.Belonging.{is_side}
+use Rattle.journal_moves.specs.journal_wants.journal_sending.run_model.Readers.{turn_packets}
+use Rattle.journal_moves.specs.journal_wants.journal_sending.Outgoing.{data_of_lines}
 
 -- ---- what is handed up
 

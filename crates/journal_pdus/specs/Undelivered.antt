@@ -6,12 +6,12 @@ use Rattle.journal.specs.declared.entries.Entry.{Entry}
 use Rattle.radio_replay.specs.Script.{Script}
 use Rattle.journal_moves.specs.Moves.{IsOwed}
 use Rattle.journal_moves.specs.journal_wants.Setups.{setups_by}
-use Rattle.journal_sending.specs.run_model.Links.{is_advertising}
+use Rattle.journal_moves.specs.journal_wants.journal_sending.run_model.Links.{is_advertising}
 use Rattle.journal_seals.specs.journal_sealing.SealedLines.{HasPayload}
 use Rattle.journal_turns.specs.Stopped.{IsStoppedAt}
 use Rattle.journal_words.specs.Drawn.{words_by}
-use Rattle.journal_sending.specs.Announced.{announced_pdu, new_pdu_on}
-use Rattle.journal_sending.specs.WhatWaits.{TellsWhatWaits}
+use Rattle.journal_moves.specs.journal_wants.journal_sending.Announced.{announced_pdu, new_pdu_on}
+use Rattle.journal_moves.specs.journal_wants.journal_sending.WhatWaits.{TellsWhatWaits}
 
 -- after this journal a side sends these octets as this packet of this turn, and others reach the other side
 pub record IsUndelivered (script : Script) (turn packet : ℕ) (sent heard : List ℕ) (journal : List Entry) : Type 0 where

@@ -4,7 +4,7 @@ ghost use Rattle.std.specs.Prelude.{ℕ, List};
 ghost use Rattle.journal.specs.declared.entries.Entry.{Entry};
 ghost use Rattle.radio_replay.specs.Script.{Script};
 ghost use Rattle.journal_seals.specs.journal_sealing.Mixed.{HaveOneKey};
-ghost use Rattle.journal_sending.specs.journal_data.Followed.{none_mixed};
+ghost use Rattle.journal_moves.specs.journal_wants.journal_sending.journal_data.Followed.{none_mixed};
 ghost use Rattle.journal_words.specs.Drawn.{words_by};
 ghost use Rattle.journal_pdus.specs.Lawful.{IsLawful, IsLawfulWith};
 

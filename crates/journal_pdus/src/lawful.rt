@@ -2,10 +2,10 @@
 //! The body only calls the laws that it rests on: the contract is the law.
 ghost use Rattle.std.specs.Prelude.{◌≡◌, ℕ, List, length};
 ghost use Rattle.radio_replay.specs.Script.{Script};
-ghost use Rattle.journal_sending.specs.run_model.History.{Event};
-ghost use Rattle.journal_sending.specs.run_model.Journal.{journal_of};
-ghost use Rattle.journal_sending.specs.run_model.Pair.{given_of};
-ghost use Rattle.journal_sending.specs.run_model.Run.{GoesOn, Stop, Stops, history_of, run_of};
+ghost use Rattle.journal_moves.specs.journal_wants.journal_sending.run_model.History.{Event};
+ghost use Rattle.journal_moves.specs.journal_wants.journal_sending.run_model.Journal.{journal_of};
+ghost use Rattle.journal_moves.specs.journal_wants.journal_sending.run_model.Pair.{given_of};
+ghost use Rattle.journal_moves.specs.journal_wants.journal_sending.run_model.Run as run;
 ghost use Rattle.journal_pdus.specs.Lawful.{IsLawful, IsWhole};
 ghost use Rattle.journal_pdus.specs.Undelivered.{IsUndelivered};
 
@@ -71,6 +71,11 @@ use crate::links::{
 /// - MD of each packet of a link says whether a control PDU or data of the host waits there, by its
 ///   end as the PDU was fixed, so MD of an answer does not count what the packet before it queued;
 ///   and a new empty PDU goes out only where neither may go;
+/// - so MD is 1 exactly where something waited, as the turn began, after the PDU that the packet
+///   carries, a side skips an event exactly where it is an idle peripheral that heard a good packet
+///   last in an event before, not more than the latency in force before, and it seals from the start
+///   of an encryption that it took last, with the number of PDUs that it sent since as its counter
+///   (`journal_rules`);
 /// - the line of a new PDU is the last of its side before the packet that the PDU first goes out
 ///   in;
 /// - the next line of a side after the first good packet that brings a PDU is that it takes it, with
@@ -85,29 +90,29 @@ use crate::links::{
 pub fn each_journal_is_lawful()
     ensures lawful { (a b : List ℕ) (script : Script) → length script.a.public ≡ 6
         → length script.b.public ≡ 6
-        → IsLawful a b script (journal_of (history_of (run_of (given_of a b script)))) }
+        → IsLawful a b script (journal_of (run.history_of (run.run_of (given_of a b script)))) }
     ensures whole { (a b : List ℕ) (script : Script) (history : List Event)
         → length script.a.public ≡ 6 → length script.b.public ≡ 6
-        → run_of (given_of a b script) ≡ GoesOn history
+        → run.run_of (given_of a b script) ≡ run.GoesOn history
         → IsWhole script (journal_of history) }
-    ensures stopped { (a b : List ℕ) (script : Script) (history : List Event) (stop : Stop)
+    ensures stopped { (a b : List ℕ) (script : Script) (history : List Event) (stop : run.Stop)
         → length script.a.public ≡ 6 → length script.b.public ≡ 6
-        → run_of (given_of a b script) ≡ Stops history stop
+        → run.run_of (given_of a b script) ≡ run.Stops history stop
         → IsUndelivered script stop.slot stop.place stop.sent stop.heard (journal_of history) }
 {
-    journal_sending::a_pdu_is_understood();
+    journal_moves::a_pdu_is_understood();
     advertise::laws::connections_are_taken();
     scan_init::laws::searches_give_each_valid_address();
     air_frame::laws::packet_tells_its_pdu();
     journal_turns::each_journal_follows_its_schedule();
     journal_turns::a_run_stops_in_its_turn();
-    journal_sending::each_opened_line_names_its_link();
-    journal_sending::each_enter_line_is_at_its_anchor();
-    journal_sending::each_link_has_the_next_address();
-    journal_sending::each_sent_line_is_of_a_new_pdu();
-    journal_sending::each_side_enters_its_events_in_order();
-    journal_sending::lines_are_of_open_links_in_every_journal();
-    journal_sending::data_arrives_in_order_in_every_journal();
+    journal_moves::each_opened_line_names_its_link();
+    journal_moves::each_enter_line_is_at_its_anchor();
+    journal_moves::each_link_has_the_next_address();
+    journal_moves::each_sent_line_is_of_a_new_pdu();
+    journal_moves::each_side_enters_its_events_in_order();
+    journal_moves::lines_are_of_open_links_in_every_journal();
+    journal_moves::data_arrives_in_order_in_every_journal();
     journal_failures::ends_follow_their_central_in_every_journal();
     journal_failures::ends_enter_each_event_alike_in_every_journal();
     journal_failures::colliding_procedures_are_rejected_next();
@@ -116,9 +121,9 @@ pub fn each_journal_is_lawful()
     journal_failures::rejected_procedures_are_not_done();
     journal_failures::no_link_ends_by_a_protocol_error();
     journal_failures::a_link_fails_only_after_a_forged_packet();
-    journal_sending::each_line_of_a_procedure_is_where_it_is_due();
-    journal_sending::each_shut_line_has_its_reason_by_the_lines();
-    journal_sending::links_end_in_time_by_the_lines();
+    journal_moves::each_line_of_a_procedure_is_where_it_is_due();
+    journal_moves::each_shut_line_has_its_reason_by_the_lines();
+    journal_moves::links_end_in_time_by_the_lines();
     journal_words::the_words_of_a_run_are_given();
     journal_seals::a_mixed_journal_stays_mixed();
     journal_seals::ends_hear_no_mixed_packet_while_their_journal_is_not_mixed();
@@ -127,24 +132,25 @@ pub fn each_journal_is_lawful()
     journal_seals::each_verdict_is_that_of_the_lines();
     journal_seals::a_packet_is_forged_only_between_two_keys();
     journal_seals::both_ends_agree_on_what_is_sealed();
-    journal_sending::each_new_pdu_is_next_by_the_lines();
-    journal_sending::each_packet_of_a_link_tells_what_waits();
-    journal_sending::the_line_of_each_new_pdu_is_just_before_its_packet();
-    journal_sending::each_pdu_is_taken_at_once();
-    journal_sending::nothing_is_under_way_between_turns();
+    journal_moves::each_new_pdu_is_next_by_the_lines();
+    journal_moves::each_packet_of_a_link_tells_what_waits();
+    journal_moves::the_line_of_each_new_pdu_is_just_before_its_packet();
+    journal_moves::each_pdu_is_taken_at_once();
+    journal_moves::nothing_is_under_way_between_turns();
     journal_moves::no_end_misses_an_event();
     journal_moves::the_moves_of_each_turn_are_owed();
     journal_moves::each_packet_that_is_listened_for_is_judged();
     journal_slots::each_second_slot_has_its_reason();
-    journal_sending::each_command_is_answered();
-    journal_sending::each_credit_is_of_some_packets();
-    journal_sending::each_early_credit_is_of_one_packet();
-    journal_sending::credits_of_a_turn_are_in_the_order_of_handles();
-    journal_sending::each_late_credit_comes_as_its_turn_ends();
-    journal_sending::each_late_end_is_reported_at_once();
-    journal_sending::data_fits_the_buffers_of_its_host();
-    journal_sending::data_of_all_links_comes_in_one_order();
-    journal_sending::data_goes_up_as_its_turn_ends();
+    journal_rules::each_journal_keeps_the_rules_in_words();
+    journal_moves::each_command_is_answered();
+    journal_moves::each_credit_is_of_some_packets();
+    journal_moves::each_early_credit_is_of_one_packet();
+    journal_moves::credits_of_a_turn_are_in_the_order_of_handles();
+    journal_moves::each_late_credit_comes_as_its_turn_ends();
+    journal_moves::each_late_end_is_reported_at_once();
+    journal_moves::data_fits_the_buffers_of_its_host();
+    journal_moves::data_of_all_links_comes_in_one_order();
+    journal_moves::data_goes_up_as_its_turn_ends();
     journal_hearings::each_request_is_heard();
     journal_hearings::each_heard_link_is_opened();
     journal_hearings::each_opened_link_was_to_open();

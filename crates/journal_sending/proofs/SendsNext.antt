@@ -1,27 +1,32 @@
 -- What an end sends as a new PDU, by what it held as it fixed that PDU: an empty one only where nothing is to go.
-use Rattle.std.proofs.Common.{◌≡◌, ℕ, ◌≤◌, ◌&&◌, ◌||◌, not, Bool, true, false, Some, List, refl, sym, ap, ◌∙◌, if◌then◌else◌}
+use Rattle.std.proofs.Common.{◌≡◌, ℕ, ◌≤◌, ◌&&◌, ◌||◌, not, Bool, true, false, Option, Some, None, is_some, List, refl, sym, ap, ◌∙◌, if◌then◌else◌}
 use Rattle.ble_base.specs.declared.roles.Role.TheVariants.{Peripheral}
 use Rattle.data_pdu.specs.Header.{header_in}
-use Rattle.journal_leaving.specs.link_model.Acknowledgement.{Acknowledgement, is_acked}
-use Rattle.journal_leaving.specs.link_model.Controls.{pdu_fixed}
-use Rattle.journal_leaving.specs.link_model.Data.{Data, is_empty, next_piece}
+use Rattle.data_pdu.specs.declared.ctrl.Ctrl.{Ctrl}
+use Rattle.journal_leaving.specs.link_model.Acknowledgement.{Acknowledgement, empty_pdu, is_acked}
+use Rattle.journal_leaving.specs.link_model.Controls.{pdu_fixed, pdu_of_control}
+use Rattle.journal_leaving.specs.link_model.Data.{Data, is_empty, next_piece, pdu_with}
 use Rattle.journal_leaving.specs.link_model.End.{facts_after}
-use Rattle.journal_leaving.specs.link_model.Facts.{Facts, keyed_of, with_keyed}
+use Rattle.journal_leaving.specs.link_model.Facts.{Facts, keyed_of}
 use Rattle.journal_leaving.specs.link_model.Fixing.{data_cut}
 use Rattle.journal_leaving.specs.link_model.Packets.{good_pdu, pdu_sent}
 use Rattle.journal_leaving.specs.link_model.Receiving.{acks_control, has_acknowledged, keyed_acked_if}
 use Rattle.journal_leaving.specs.link_model.Setup.{Setup}
 use Rattle.journal_leaving.specs.link_model.Step.{PacketReceived, PduFixed}
 use Rattle.journal_leaving.specs.journal_data.open_links.OpenLinks.{OpenLink}
-use Rattle.journal_fixing.specs.NextPdu.{IsFixedBy, data_waits, lets_data_go, more_with_old, pdu_next}
+use Rattle.journal_fixing.specs.NextPdu.{IsFixedBy, data_waits, lets_data_go, pdu_next}
 use Rattle.journal_fixing.specs.PastFixing.{facts_fixing, past_fixing}
 use Rattle.journal_fixing.specs.journal_controls.KeyedLines.{has_next}
+use Rattle.journal_fixing.specs.link_model.control_end.Answers.{next_ctrl}
+use Rattle.journal_fixing.specs.link_model.control_end.Held.{held_of}
 use Rattle.journal_fixing.specs.link_model.keyed_control.Keyed.{Keyed}
+use Rattle.journal_fixing.specs.link_model.phased_control.Phased.{is_quiet_now}
 use Rattle.journal_leaving.proofs.link_model.KnownEnds.{IsPast, step_past}
 use Rattle.journal_fixing.proofs.AnsweredPdus.{answer_new}
-use Rattle.journal_fixing.proofs.journal_controls.EndSteps.{good_leave}
+use Rattle.journal_fixing.proofs.journal_controls.EndSteps.{filled, good_leave}
 use Rattle.journal_fixing.proofs.journal_controls.SendsAlike.{SendsAlike, alike_fixed}
-use Rattle.journal_fixing.proofs.FixedPdus.{fixed_by, fixed_left, fixed_next, fixing_stays}
+use Rattle.journal_fixing.proofs.FixedPdus.{fixed_by, fixed_next, fixing_stays}
+use Rattle.journal_fixing.proofs.UnsentOctets.{piece_full}
 use Rattle.journal_fixing.proofs.journal_controls.CentralFixed.{IsFree}
 use Rattle.journal_sending.specs.WhatWaits.{has_payload_next}
 use Rattle.journal_sending.proofs.AckedNext.{never_again, next_stays}
@@ -41,6 +46,14 @@ same_fixed link = step_same PduFixed (link_fixing link) tt refl
 
 -- ---- no PDU that goes is empty where one is to go
 
+-- a control PDU that waits is not empty, nor is a piece
+full_by : (next goes : Bool) (now : Option Ctrl) (cut : Data) → 1 ≤ cut.limit
+    → not (is_empty (if next then pdu_of_control now else (if goes then pdu_with (next_piece cut) else empty_pdu))) ≡ (if next then is_some now else goes && data_waits cut)
+full_by true goes None cut some = refl
+full_by true goes (Some ctrl) cut some = ap not (filled ctrl)
+full_by false true now cut some = piece_full cut some
+full_by false false now cut some = refl
+
 none_by : (next now other : Bool) → now ≡ next → (if next then now else other) ≡ false → (next || other) ≡ false
 none_by true now other same is = absurd (let h : true ≡ false = sym same ∙ is in absurd cc)
 none_by false now other same is = is
@@ -49,19 +62,14 @@ not_empty : (empty left : Bool) → not empty ≡ left → empty ≡ true → le
 not_empty empty left is holds = sym is ∙ ap not holds
 
 -- made by any end that has a control PDU next exactly where the one had that fixed it
-module _ (fixing : Keyed) (outgoing : Data) (facts : Facts) (is : IsFixedBy fixing outgoing facts)
-    (some : 1 ≤ outgoing.limit) (going : Keyed) (same : has_next going ≡ has_next fixing) where
-  abbrev with_going : Facts
-  with_going = with_keyed going facts
-
-  going_fixed : IsFixedBy fixing outgoing with_going
-  going_fixed = record { control = is.control; pdu = is.pdu; more = is.more }
-
-  pub none_is_next : is_empty (pdu_next fixing going (next_piece outgoing)) ≡ true → has_payload_next fixing (data_waits outgoing) ≡ false
-  none_is_next empty =
-      let made = fixed_next fixing outgoing with_going going_fixed in
-      none_by (has_next fixing) (has_next going) (lets_data_go fixing && data_waits outgoing) same
-      (not_empty (is_empty (pdu_fixed with_going)) (more_with_old fixing going (data_waits outgoing)) (fixed_left fixing outgoing with_going going_fixed some) (ap is_empty made ∙ empty))
+pub none_is_next : (fixing going : Keyed) (outgoing : Data) → 1 ≤ outgoing.limit → has_next going ≡ has_next fixing
+    → is_empty (pdu_next fixing going (next_piece outgoing)) ≡ true → has_payload_next fixing (data_waits outgoing) ≡ false
+none_is_next fixing going outgoing some same empty =
+    let control = next_ctrl (is_quiet_now going.phased) (held_of going.phased.control) in
+    let octets = lets_data_go fixing && data_waits outgoing in
+    none_by (has_next fixing) (has_next going) octets same
+    (not_empty (is_empty (pdu_next fixing going (next_piece outgoing))) (if has_next fixing then has_next going else octets)
+    (full_by (has_next fixing) (lets_data_go fixing) control outgoing some) empty)
 
 -- ---- once it is fixed, and after a good packet is received
 
@@ -76,7 +84,7 @@ module _ (setup : Setup) (held : Facts) (free : IsFree held) where
       → has_payload_next (keyed_of held) (data_waits (data_cut held)) ≡ false
   fixed_filled some acked empty =
       let sent = ap (λ b. if b then pdu_fixed fixed else fixed.acknowledgement.last) acked ∙ fixed_next (keyed_of held) (data_cut held) fixed is_fixed in
-      none_is_next (keyed_of held) (data_cut held) fixed is_fixed some (keyed_of fixed) (ap has_next (fixing_stays setup held)) (ap is_empty (sym sent) ∙ empty)
+      none_is_next (keyed_of held) (keyed_of fixed) (data_cut held) some (ap has_next (fixing_stays setup held)) (ap is_empty (sym sent) ∙ empty)
 
   pub fixed_sends : HasSameData fixed held → SendsNext held fixed
   fixed_sends same = record { same = same; filled = fixed_filled }
@@ -91,7 +99,7 @@ module _ (setup : Setup) (held : Facts) (free : IsFree held) where
         let acks = acks_control (has_acknowledged fixed (header_in pdu)) fixed in
         let sent = answer_new setup fixed slot octets pdu room (keyed_of held) (data_cut held) role is_fixed good acked in
         let stays = next_stays acks (keyed_of fixed) (never_again setup fixed (step_past setup held PduFixed p) role) in
-        none_is_next (keyed_of held) (data_cut held) fixed is_fixed some (keyed_acked_if acks (keyed_of fixed))
+        none_is_next (keyed_of held) (keyed_acked_if acks (keyed_of fixed)) (data_cut held) some
         (stays ∙ ap has_next (fixing_stays setup held)) (ap is_empty (sym sent) ∙ empty)
 
     -- also with other words, and after its answer to a request that is withheld

@@ -45,7 +45,7 @@ use Rattle.journal_leaving.proofs.journal_packets.AccessOrder.{AreNth}
 use Rattle.journal_leaving.proofs.journal_packets.SoFar.{IsBelongingSoFar}
 use Rattle.journal_leaving.proofs.link_model.Agreeing.{ack_ahead as sent_ack}
 use Rattle.journal_leaving.proofs.link_model.Hearing.{IsHeardWhole}
-use Rattle.journal_leaving.proofs.journal_data.run_laws.Agreed.{ack_of, step_facts}
+use Rattle.journal_leaving.proofs.journal_data.run_laws.Agreed.{ack_of}
 use Rattle.journal_leaving.proofs.journal_data.run_laws.DistinctAccess.{AreApart}
 use Rattle.journal_leaving.proofs.run_model.LinkEnds.{AreTaken, IsUnderstood}
 use Rattle.journal_leaving.proofs.run_model.Stations.{among, is_in}
@@ -53,7 +53,6 @@ use Rattle.journal_leaving.proofs.run_model.Walk.{Place, AtPackets, IsKept, IsSt
 use Rattle.journal_fixing.specs.NextPdu.{data_waits, data_waits_after, more_with_new, more_with_old}
 use Rattle.journal_fixing.specs.OnLines.{control_fixing}
 use Rattle.journal_fixing.specs.PastFixing.{facts_fixing, past_fixing}
-use Rattle.journal_fixing.specs.journal_controls.LineSteps.{keyed_on}
 use Rattle.journal_fixing.specs.journal_controls.journal_ends.Asked.{Words}
 use Rattle.journal_fixing.specs.journal_controls.journal_ends.GivenWords.{GivesWords}
 use Rattle.journal_fixing.proofs.FixedPasts.{fixing_stays}
@@ -63,9 +62,7 @@ use Rattle.journal_fixing.proofs.FixedSince.{since_in}
 use Rattle.journal_fixing.proofs.KeptFixing.{AreFixing, AreFixingAt, AreKnownAtBegins, fixing_first, fixing_kept}
 use Rattle.journal_fixing.proofs.RunFixing.{fixing_before_packet}
 use Rattle.journal_fixing.proofs.TellingMore.{TellsMore}
-use Rattle.journal_fixing.proofs.ToldMore.{again_stays}
-use Rattle.journal_fixing.proofs.journal_controls.KeptControls.{AreControlled}
-use Rattle.journal_fixing.proofs.journal_controls.RunControls.{keyed_at_end, keyed_before_call, keyed_before_packet}
+use Rattle.journal_fixing.proofs.journal_controls.RunControls.{keyed_before_call}
 use Rattle.journal_sending.specs.Outgoing.{octets_wait}
 use Rattle.journal_sending.specs.WhatWaits.{AllTellWhatWaits, TellsWhatWaits, has_payload_next, is_next_new, tells_more}
 use Rattle.journal_sending.proofs.HeldOnLines.{lines_wait, waits_with, waits_without}
@@ -117,7 +114,7 @@ empty_data : (pdu : Pdu) → is_empty pdu ≡ true → data_in pdu ≡ []
 empty_data pdu empty = sym (append-nil (data_in pdu)) ∙ sym (data_nonempty (pdu ∷ [])) ∙ ap (λ b. data_of (cond (not b) (pdu ∷ []) [])) empty
 
 module _ (words : Words) (given : Given) (are_two : IsOfTwo given) (before rest : List Event) (station channel : ℕ) (octets : List ℕ) (at : history_of (run_of given) ≡ before ++ rest)
-    (fixes : AreFixing words given before) (controls : AreControlled words given before) (seen : IsOfLines given before station channel octets) where
+    (fixes : AreFixing words given before) (seen : IsOfLines given before station channel octets) where
   abbrev sending : IsOfSendersLink given before station channel octets
   sending = seen.sending
 
@@ -165,9 +162,6 @@ module _ (words : Words) (given : Given) (are_two : IsOfTwo given) (before rest 
       fixes station seen.in_it sending.handle link sending.is_open (sends_uses sending.handle (facts_at given station before).turn.doing seen.on)
       ∙ ap (λ (f : EndFacts). Some (keyed_of f)) held_is
 
-  now_is : keyed_on words side number front ≡ Some (keyed_of (facts_in link))
-  now_is = controls station seen.in_it sending.handle link sending.is_open
-
   -- what waits after a new PDU, and after one that is sent again
   waits_new : is_acked facts.acknowledgement ≡ true → waiting ≡ data_waits_after (pdu_sent facts) (data_cut held)
   waits_new acked =
@@ -184,11 +178,11 @@ module _ (words : Words) (given : Given) (are_two : IsOfTwo given) (before rest 
       ap (λ b. if b then facts.acknowledgement.sent ++ pdu ∷ [] else facts.acknowledgement.sent) unacked ∙ next.same.sent in
       seen.waits ∙ (λ i. nat_lt (length (data_of (sent_is i))) (length (octets_of (next.same.given i)))) ∙ waits_without sending.link.setup (past_fixing sending.link.past)
 
-  tells_by : (acked : Bool) → is_acked facts.acknowledgement ≡ acked → more_sent facts ≡ tells_more acked (keyed_of held) (keyed_of (facts_in link)) waiting
+  tells_by : (acked : Bool) → is_acked facts.acknowledgement ≡ acked → more_sent facts ≡ tells_more acked (keyed_of held) (pdu_sent facts) waiting
   tells_by true acked = tells.new acked ∙ ap (more_with_new (keyed_of held)) (sym (waits_new acked))
   tells_by false unacked =
-      let stays = ap (λ (f : EndFacts). keyed_of f) (step_facts sending.link (PacketSent sending.slot)) ∙ again_stays sending.slot facts unacked in
-      tells.old room unacked ∙ (λ i. more_with_old (keyed_of held) (sym stays i) (sym (waits_again unacked) i))
+      let last : facts.acknowledgement.last ≡ pdu_sent facts = sym (ap (λ b. if b then pdu_fixed facts else facts.acknowledgement.last) unacked) in
+      tells.old unacked ∙ (λ i. more_with_old (keyed_of held) (last i) (sym (waits_again unacked) i))
 
   -- a new empty PDU
   none_next : is_acked facts.acknowledgement ≡ true → is_empty (pdu_sent facts) ≡ true → has_payload_next (keyed_of held) waiting ≡ false
@@ -200,17 +194,16 @@ module _ (words : Words) (given : Given) (are_two : IsOfTwo given) (before rest 
   pub tells_what_waits : TellsWhatWaits words front side channel octets
   tells_what_waits =
       let is = seen.packet.number_is in
-      let new_is = ap (λ n. is_next_new n front side) is ∙ seen.is_new in record {
+      let new_is = ap (λ n. is_next_new n front side) is ∙ seen.is_new in
+      let pdu_is = ap (λ n. carried_of n front side) is ∙ seen.carried in record {
         packet = seen.packet.packet;
         fixing = keyed_of held;
         fixing_is = ap (λ n. control_fixing words side n front) is ∙ fixing_is;
-        now = keyed_of (facts_in link);
-        now_is = ap (λ n. keyed_on words side n front) is ∙ now_is;
         more = seen.packet.more_is ∙ tells_by (is_acked facts.acknowledgement) refl
-            ∙ (λ i. tells_more (sym new_is i) (keyed_of held) (keyed_of (facts_in link)) (octets_wait (sym is i) (lines_at station before)));
+            ∙ (λ i. tells_more (sym new_is i) (keyed_of held) (sym pdu_is i) (octets_wait (sym is i) (lines_at station before)));
         empty_last = λ new empty.
             ap (λ n. has_payload_next (keyed_of held) (octets_wait n (lines_at station before))) is
-            ∙ none_next (sym new_is ∙ new) (ap is_empty (sym (ap (λ n. carried_of n front side) is ∙ seen.carried)) ∙ empty);
+            ∙ none_next (sym new_is ∙ new) (ap is_empty (sym pdu_is) ∙ empty);
       }
 
 -- ---- in a run
@@ -255,8 +248,7 @@ module _ (words : Words) (whole : IsHeardWhole) (understood : IsUnderstood) (tak
       subst (λ xs. TellsWhatWaits words xs side channel octets) (sym aired.front_is)
       (subst (λ s. TellsWhatWaits words (journal_of before) s channel octets) (sym aired.side_is)
       (tells_what_waits words given are_two before (Transmitted station channel octets hearings ∷ aired.after) station channel octets aired.is_at
-      (fixing_before_packet words whole understood taken nth apart given are_two six gives before aired.after station channel octets hearings aired.is_at)
-      (keyed_before_packet words whole understood taken nth apart given are_two six gives before aired.after station channel octets hearings aired.is_at) seen))
+      (fixing_before_packet words whole understood taken nth apart given are_two six gives before aired.after station channel octets hearings aired.is_at) seen))
 
   -- ---- where damage stops it
 
@@ -277,5 +269,4 @@ module _ (words : Words) (whole : IsHeardWhole) (understood : IsUnderstood) (tak
       let is_last = ap history_of stops in
       let seen = seen_stop given (IsToldAt given Q) keeps (λ history. Unit {0}) (IsOfLinesIf given) sees (told_first given) history stop stops off in
       tells_what_waits words given are_two history [] stop.sender stop.channel stop.sent (is_last ∙ sym (append-nil history))
-      (subst (AreFixing words given) is_last fixing_at_end)
-      (subst (AreControlled words given) is_last (keyed_at_end words whole understood taken nth apart given are_two six gives)) seen
+      (subst (AreFixing words given) is_last fixing_at_end) seen

@@ -10,13 +10,13 @@ use Rattle.journal_leaving.specs.journal_data.Delivered.{host_buffers}
 use Rattle.journal_leaving.specs.journal_data.Lines.{lines_of}
 use Rattle.journal_leaving.specs.journal_acks.Carried.{IsLinkPacket, carried_of}
 use Rattle.journal_leaving.specs.journal_acks.Exchange.{exchange_of}
+use Rattle.journal_leaving.specs.link_model.Acknowledgement.{Pdu}
 use Rattle.journal_leaving.specs.link_model.Data.{is_empty}
 use Rattle.journal_leaving.specs.run_model.Links.{is_advertising}
 use Rattle.journal_fixing.specs.NextPdu.{lets_data_go, more_with_new, more_with_old}
 use Rattle.journal_fixing.specs.OnLines.{control_fixing}
 use Rattle.journal_fixing.specs.journal_controls.journal_ends.Asked.{Words}
 use Rattle.journal_fixing.specs.journal_controls.KeyedLines.{has_next}
-use Rattle.journal_fixing.specs.journal_controls.LineSteps.{keyed_on}
 use Rattle.journal_fixing.specs.link_model.keyed_control.Keyed.{Keyed}
 use Rattle.journal_sending.specs.Outgoing.{octets_wait}
 
@@ -24,10 +24,10 @@ use Rattle.journal_sending.specs.Outgoing.{octets_wait}
 abbrev pub is_next_new : ℕ → List Entry → Side → Bool
 is_next_new link front side = (exchange_of link front side).acked == (exchange_of link front side).sent
 
--- MD with a new PDU, or with one that is sent again: by the end as it fixed the PDU and as it is now, and by whether
--- octets of data wait
-abbrev pub tells_more : Bool → Keyed → Keyed → Bool → Bool
-tells_more is_new fixing now octets = if is_new then more_with_new fixing octets else more_with_old fixing now octets
+-- MD with a new PDU, or with this one that is sent again: by the end as the turn began, and by whether octets of data
+-- wait. What the end takes in the turn changes nothing of it
+abbrev pub tells_more : Bool → Keyed → Pdu → Bool → Bool
+tells_more is_new fixing last octets = if is_new then more_with_new fixing octets else more_with_old fixing last octets
 
 -- a new PDU is not empty: a control PDU waited as it was fixed, or octets of data that may go
 abbrev pub has_payload_next : Keyed → Bool → Bool
@@ -39,10 +39,8 @@ pub record TellsWhatWaits (words : Words) (front : List Entry) (side : Side) (ch
   pub packet : IsLinkPacket front side channel octets
   pub fixing : Keyed
   pub fixing_is : control_fixing words side packet.number front ≡ Some fixing
-  pub now : Keyed
-  pub now_is : keyed_on words side packet.number front ≡ Some now
   pub more : packet.md
-      ≡ tells_more (is_next_new packet.number front side) fixing now
+      ≡ tells_more (is_next_new packet.number front side) fixing (carried_of packet.number front side)
       (octets_wait packet.number (lines_of host_buffers side front))
   pub empty_last : is_next_new packet.number front side ≡ true
       → is_empty (carried_of packet.number front side) ≡ true

@@ -13,11 +13,11 @@ ghost use Rattle.journal_sending.specs.Announced.{AllGoOutAtOnce, announced_pdu,
 ghost use Rattle.journal_sending.specs.WhatWaits.{AllTellWhatWaits, TellsWhatWaits};
 
 /// In the journal of a run of two stations, with any number of links each and whatever control
-/// procedures they carry, MD of each packet of a link says whether more waits, by the end of its side
-/// as the lines before it fixed its PDU and by the data of the host; and a new
-/// empty PDU goes out only where no control PDU waits and no data may go (Core 5.2, volume 6 part
-/// B, section 4.5.6; what counts, and when it is looked at, is our choice). So does the packet at
-/// which damage stops a run.
+/// procedures they carry, MD of each packet of a link says whether more waits after the PDU that the
+/// packet carries, by the end of its side as the lines before it fixed its next PDU and by the data
+/// of the host, also where a PDU is sent again; and a new empty PDU goes out only where no control
+/// PDU waits and no data may go (Core 5.2, volume 6 part B, section 4.5.6; what counts, and when it
+/// is looked at, is our choice). So does the packet at which damage stops a run.
 pub fn each_packet_of_a_link_tells_what_waits()
     ensures aired { (words : Words) (given : Given) → given.stations ≡ 0 ∷ 1 ∷ []
         → HaveAddresses given → GivesWords given words

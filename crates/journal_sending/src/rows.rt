@@ -15,7 +15,7 @@ ghost use Rattle.journal_leaving.specs.run_model.Rows.{first_packet, one_event_j
 ghost use Rattle.journal_fixing.specs.NextPdu.{pdu_next};
 ghost use Rattle.journal_fixing.specs.OnLines.{control_fixing};
 ghost use Rattle.journal_fixing.specs.Rows.{end_sent, length_taken, link_ended, long_allowed};
-ghost use Rattle.journal_fixing.specs.Rows.{own_version, version_heard};
+ghost use Rattle.journal_fixing.specs.Rows.{own_version, terminate_pdu, version_heard};
 ghost use Rattle.journal_fixing.specs.journal_controls.journal_ends.Rows.{some_words};
 ghost use Rattle.journal_sending.specs.Announced.{announced_pdu, new_pdu_in};
 ghost use Rattle.journal_sending.specs.Outgoing.{octets_wait, piece_after, piece_by_lines};
@@ -66,29 +66,33 @@ pub fn worked_control_and_data()
     ensures waits { octets_wait 1 (lines_of 8 A data_too) ≡ true }
     ensures control_first { pdu_next version_owed version_owed (piece_by_lines A 1 data_too 27)
         ≡ own_version }
-    ensures more { tells_more true version_owed version_owed
+    ensures more { tells_more true version_owed own_version
         (octets_wait 1 (lines_of 8 A data_too)) ≡ true }
-    ensures not_last { tells_more true version_owed version_owed
+    ensures not_last { tells_more true version_owed own_version
         (octets_wait 1 (lines_of 8 A data_too)) ≡ false → ⊥ }
-    ensures alone { tells_more true version_owed version_owed
+    ensures alone { tells_more true version_owed own_version
         (octets_wait 1 (lines_of 8 A version_heard)) ≡ false }
 {}
 
 /// MD of an answer does not count LL_LENGTH_RSP, which the packet that is answered has queued: the
-/// answer was fixed before. Where an older PDU is sent again in the next turn, MD counts it. Once
-/// the host has ended the link, no data goes and none is told of, though octets wait.
+/// answer was fixed before. Nor does it where an older PDU is sent again; in the next turn it counts
+/// it. Once the host has ended the link, no data goes and none is told of with a new PDU, though
+/// octets wait. With LL_TERMINATE_IND that is sent again MD is 1 for them (our choice).
 pub fn worked_counting()
-    ensures not_counted { tells_more true long_allowed length_taken false ≡ false }
-    ensures wrongly { tells_more true long_allowed length_taken false ≡ true → ⊥ }
-    ensures counted { tells_more false length_taken length_taken false ≡ true }
+    ensures not_counted { tells_more true long_allowed empty_pdu false ≡ false }
+    ensures wrongly { tells_more true long_allowed empty_pdu false ≡ true → ⊥ }
+    ensures not_again { tells_more false long_allowed empty_pdu false ≡ false }
+    ensures wrongly_again { tells_more false long_allowed empty_pdu false ≡ true → ⊥ }
+    ensures counted { tells_more false length_taken empty_pdu false ≡ true }
     ensures ends { has_payload_next link_ended true ≡ true }
     ensures ended { has_payload_next end_sent true ≡ false }
     ensures no_data { pdu_next end_sent end_sent (Some (record {
       start = true;
       body = record { items = 0xAA ∷ [] };
     })) ≡ empty_pdu }
-    ensures none_told { tells_more true end_sent end_sent true ≡ false }
-    ensures again { tells_more false end_sent end_sent true ≡ false }
+    ensures none_told { tells_more true end_sent empty_pdu true ≡ false }
+    ensures again { tells_more false end_sent terminate_pdu true ≡ true }
+    ensures not_untold { tells_more false end_sent terminate_pdu true ≡ false → ⊥ }
 {}
 
 /// The central sends a PDU of data. The packet after its line brings it; sent again, the packet

@@ -7,6 +7,8 @@ mod hosts;
 #[cfg(test)]
 mod pauses;
 #[cfg(test)]
+mod rooms;
+#[cfg(test)]
 mod sample;
 #[cfg(test)]
 mod starts;

@@ -3,7 +3,7 @@ ghost use Rattle.std.specs.Prelude.{◌≤◌};
 ghost use Rattle.phased_end.specs.Reached.{IsReached};
 
 use crate::sample::{DRAWN, FROM_CENTRAL, LTK, OPCODE, REQUEST, RESPONSE, params};
-use ble_base::{Kind, Role, SlotNo};
+use ble_base::{ErrCode, Kind, Role, SlotNo};
 use data_pdu::{Ctrl, CtrlRead};
 use enc_phase::PhaseFacts;
 use phased_end::PhasedEnd;
@@ -66,6 +66,16 @@ fn a_central_keeps_a_request_until_it_is_secure(rt: HostRuntime) {
         max_tx_time: 328,
     };
     assert_eq!(rt; central.next(), Some(response));
+}
+
+#[test]
+fn a_second_request_meanwhile_ends_a_central(rt: HostRuntime) {
+    let mut central = asking();
+    central.take(&CtrlRead::Known(LENGTHS), SlotNo(26), DRAWN);
+    assert_eq!(rt; central.ends(), None);
+    let features = Ctrl::PeripheralFeatureReq { features: 1 };
+    central.take(&CtrlRead::Known(features), SlotNo(26), DRAWN);
+    assert_eq!(rt; central.ends(), Some(ErrCode::MIC_FAILURE));
 }
 
 #[test]

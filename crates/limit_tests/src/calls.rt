@@ -1,6 +1,6 @@
 //! Calls of `pair` over files in memory, and what they must leave.
-use ble_tool::ble_tool;
 use outside::{MemFiles, MemSink};
+use program::run_words;
 use std::alloc::{AllocError, Global};
 use std::process::Abort;
 
@@ -51,7 +51,7 @@ struct Ending {
 fn call(alloc: Global, words: &Vec<String>, files: &mut MemFiles) -> Ending {
     let mut out = MemSink::new(alloc);
     let mut err = MemSink::new(alloc);
-    let status = ble_tool(alloc, words, files, &mut out, &mut err);
+    let status = run_words(alloc, words, files, &mut out, &mut err);
     Ending { status, out, err }
 }
 

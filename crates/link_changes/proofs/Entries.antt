@@ -19,7 +19,6 @@ use Rattle.link_model.specs.Controls.{goes_on, is_quiet_now}
 use Rattle.link_model.specs.End.{facts_of, notes_after, notes_of}
 use Rattle.link_model.specs.Entering.{began_notes, done_notes}
 use Rattle.link_model.specs.Events.{applied_notes}
-use Rattle.link_model.specs.Facts.{params_of}
 use Rattle.link_model.specs.Setup.{Setup, algorithm_of, first_anchor, first_params}
 use Rattle.link_model.specs.Step.{Step, EventEntered}
 use Rattle.link_changes.specs.InForce.{HasRanges, IsAppliedInTime, IsEnteredBy}
@@ -150,9 +149,6 @@ module _ (setup : Setup) (past : List Step) (slot : ℕ) (ranges : setup.link.ro
   abbrev u : TrackFacts
   u = track_after_enter t
 
-  abbrev skips : ℕ
-  skips = (params_of (facts_of setup past)).latency
-
   abbrev own_channel : ℕ
   own_channel = channel_of (algorithm_of setup.link) (event_of u) u.params.map
 
@@ -163,7 +159,7 @@ module _ (setup : Setup) (past : List Step) (slot : ℕ) (ranges : setup.link.ro
   quiet = is_quiet_now (facts_of setup past)
 
   -- its notes
-  own_notes : notes_after setup (facts_of setup past) (EventEntered slot) ≡ notes_when setup slot skips quiet c u (is_none c.ends)
+  own_notes : notes_after setup (facts_of setup past) (EventEntered slot) ≡ notes_when setup slot quiet c u (is_none c.ends)
   own_notes = entry_notes_are setup slot (facts_of setup past)
 
   knows_before : is_none c.ends ≡ true → Knows setup.link.role (first_params setup.link.fields) (first_anchor setup) (notes_of setup past) true t
@@ -193,10 +189,10 @@ module _ (setup : Setup) (past : List Step) (slot : ℕ) (ranges : setup.link.ro
       let began = began_notes setup.link.handle entry.began in
       let applied = applied_notes setup.link.handle (event_of u) (next_number t) in
       let note = Enter setup.link.handle own_event own_channel in
-      own_notes ∙ ap (λ b. notes_when setup slot skips quiet c u b) is ∙ append_assoc (applied ++ note ∷ []) done began ∙ append_assoc applied (note ∷ []) (done ++ began)
+      own_notes ∙ ap (λ b. notes_when setup slot quiet c u b) is ∙ append_assoc (applied ++ note ∷ []) done began ∙ append_assoc applied (note ∷ []) (done ++ began)
 
   entered_by : (b : Bool) → is_none c.ends ≡ b → (before later : List Note) (handle : ℕ) (event : EventNo) (channel : ℕ)
-      → notes_when setup slot skips quiet c u b ≡ before ++ Enter handle event channel ∷ later → IsEnteredBy setup past (notes_of setup past ++ before) event.0 channel
+      → notes_when setup slot quiet c u b ≡ before ++ Enter handle event channel ∷ later → IsEnteredBy setup past (notes_of setup past ++ before) event.0 channel
   entered_by false is before later handle event channel same = absurd (none_noted before later (Enter handle event channel) same)
   entered_by true is before later handle event channel same =
       let entry = entry_when slot quiet c true in
@@ -223,7 +219,7 @@ module _ (setup : Setup) (past : List Step) (slot : ℕ) (ranges : setup.link.ro
   enters before later handle event channel same = entered_by (is_none c.ends) refl before later handle event channel (sym own_notes ∙ same)
 
   applied_by : (b : Bool) → is_none c.ends ≡ b → (before later : List Note) (handle number : ℕ) (event : EventNo)
-      → notes_when setup slot skips quiet c u b ≡ before ++ Applied handle number event ∷ later
+      → notes_when setup slot quiet c u b ≡ before ++ Applied handle number event ∷ later
       → IsAppliedInTime setup.link.role (notes_of setup past ++ before) handle number event later
   applied_by false is before later handle number event same = absurd (none_noted before later (Applied handle number event) same)
   applied_by true is before later handle number event same =

@@ -44,7 +44,7 @@ use Rattle.link_model.specs.Data.{Data, data_acked_if, data_given, is_control, i
 use Rattle.link_model.specs.End.{facts_after, facts_of, notes_after, notes_of}
 use Rattle.link_model.specs.Entering.{began_notes, control_entered, done_notes, event_notes, facts_entered_if}
 use Rattle.link_model.specs.Events.{applied_notes, event_entered}
-use Rattle.link_model.specs.Facts.{Facts, keyed_of, params_of}
+use Rattle.link_model.specs.Facts.{Facts, keyed_of}
 use Rattle.link_model.specs.Fixing.{data_cut, data_fixed_by, data_goes, fixed_anew}
 use Rattle.link_model.specs.Hosts.{asked_unless, is_to_come, key_step}
 use Rattle.link_model.specs.Payload.{payload_made}
@@ -131,9 +131,9 @@ entry_when slot quiet c b =
     }
     else no_entry
 
-abbrev pub notes_when : Setup → ℕ → ℕ → Bool → Control → TrackFacts → Bool → List Note
-notes_when setup slot skips quiet c t b =
-    if b then event_notes setup.link.handle (event_entered setup slot skips t) (entry_when slot quiet c b) else []
+abbrev pub notes_when : Setup → ℕ → Bool → Control → TrackFacts → Bool → List Note
+notes_when setup slot quiet c t b =
+    if b then event_notes setup.link.handle (event_entered setup slot t) (entry_when slot quiet c b) else []
 
 -- a PDU of an encryption that is queued then leaves the track
 entered_track : (slot : ℕ) (facts : Facts) → is_none facts.control.ends ≡ true → (control_entered slot facts).track ≡ track_after_enter facts.control.track
@@ -147,11 +147,11 @@ entered_track slot facts lasts =
 
 pub entry_notes_are : (setup : Setup) (slot : ℕ) (facts : Facts)
     → notes_after setup facts (EventEntered slot)
-    ≡ notes_when setup slot (params_of facts).latency (is_quiet_now facts) facts.control (track_after_enter facts.control.track) (is_none facts.control.ends)
+    ≡ notes_when setup slot (is_quiet_now facts) facts.control (track_after_enter facts.control.track) (is_none facts.control.ends)
 entry_notes_are setup slot facts = by (is_none facts.control.ends) refl
   where
     notes : TrackFacts → Bool → List Note
-    notes t b = notes_when setup slot (params_of facts).latency (is_quiet_now facts) facts.control t b
+    notes t b = notes_when setup slot (is_quiet_now facts) facts.control t b
 
     by : (b : Bool) → is_none facts.control.ends ≡ b → notes (control_entered slot facts).track b ≡ notes (track_after_enter facts.control.track) b
     by true lasts = ap (λ (t : TrackFacts). notes t true) (entered_track slot facts lasts)
@@ -207,12 +207,12 @@ module _ (setup : Setup) (latency : setup.link.role ≡ Central → setup.link.f
 
   -- ---- an event is entered
 
-  entered_part : (notes : List Note) (slot skips : ℕ) (quiet : Bool) (c : Control) → is_none c.ends ≡ true → PartOf notes c
-      → PartOf (notes ++ notes_when setup slot skips quiet c (track_after_enter c.track) true) (after (Enters slot quiet) c)
-  entered_part notes slot skips quiet c lasts p =
+  entered_part : (notes : List Note) (slot : ℕ) (quiet : Bool) (c : Control) → is_none c.ends ≡ true → PartOf notes c
+      → PartOf (notes ++ notes_when setup slot quiet c (track_after_enter c.track) true) (after (Enters slot quiet) c)
+  entered_part notes slot quiet c lasts p =
       let d = after (Enters slot quiet) c in
       let u = track_after_enter c.track in
-      let channel = (event_entered setup slot skips u).channel in
+      let channel = (event_entered setup slot u).channel in
       let entry = entry_when slot quiet c true in
       let first = applied_notes setup.link.handle (event_of u) entry.applied ++ Enter setup.link.handle (record { 0 = event_of u }) channel ∷ [] in
       let done = done_notes setup.link.handle entry.done in
@@ -231,15 +231,15 @@ module _ (setup : Setup) (latency : setup.link.role ≡ Central → setup.link.f
       (more ((notes ++ first) ++ done) began d (more (notes ++ first) done d there (done_silent role setup.link.handle entry.done)) (began_silent role setup.link.handle entry.began))
 
   event_part : (notes : List Note) (slot : ℕ) (facts : Facts) (b : Bool) → is_none facts.control.ends ≡ b → PartOf notes facts.control
-      → PartOf (notes ++ notes_when setup slot (params_of facts).latency (is_quiet_now facts) facts.control (track_after_enter facts.control.track) b)
+      → PartOf (notes ++ notes_when setup slot (is_quiet_now facts) facts.control (track_after_enter facts.control.track) b)
       (facts_entered_if b setup slot facts).control
   event_part notes slot facts false is p = more notes [] facts.control p (silent_none role)
   event_part notes slot facts true is p =
       let k = keyed_of facts in
       let quiet = is_quiet_now facts in
-      let all = notes ++ notes_when setup slot (params_of facts).latency quiet facts.control (track_after_enter facts.control.track) true in
+      let all = notes ++ notes_when setup slot quiet facts.control (track_after_enter facts.control.track) true in
       whether all (is_none facts.control.ends) (keyed_moved (KeyedEnters slot) k) k
-      (λ lasts. entered_by (λ (c : Control). PartOf all c) (owes all) slot k.phased (entered_part notes slot (params_of facts).latency quiet facts.control is p))
+      (λ lasts. entered_by (λ (c : Control). PartOf all c) (owes all) slot k.phased (entered_part notes slot quiet facts.control is p))
       (λ ends. no_more (is_none facts.control.ends) is ends)
 
   -- ---- the host has a key, or none

@@ -18,7 +18,7 @@ use Rattle.open_links.specs.link_model.Setup.{Setup}
 use Rattle.open_links.specs.link_model.Step.{Step, Disconnected, KeyAnswered, ProcedureAsked, RequestAnswered}
 use Rattle.host_view.specs.declared.links.Link.{Link}
 use Rattle.host_view.specs.Links.{update_kind}
-use Rattle.host_view.specs.Changes.{answered, asking}
+use Rattle.host_view.specs.Changes.{asking, completed, keyed}
 use Rattle.link_commands.specs.declared.moments.Moment.{Moment}
 
 -- ---- which step it is, by the role of the end and by what it knows of its peer
@@ -126,13 +126,13 @@ link_accepted (LeSetPhy handle all tx rx options) link = asking phy_kind link
 link_accepted (LeParamReply handle min max latency timeout lengths) link = record link { waits_for_parameters = false }
 link_accepted (LeParamNegative handle reason) link = record link { waits_for_parameters = false }
 link_accepted (LeEnableEncryption handle rand ediv key) link = asking encrypt_kind link
-link_accepted (LeKeyReply handle key) link = record link { waits_for_key = false }
+link_accepted (LeKeyReply handle key) link = keyed link
 link_accepted (LeKeyNegative handle) link = record link { waits_for_key = false }
 link_accepted other link = link
 
--- what is answered at once is no longer asked for
+-- what is answered at once is done
 abbrev pub answered_if : Bool → Kind → Link → Link
-answered_if known kind link = if known then answered kind link else link
+answered_if known kind link = if known then completed kind link else link
 
 abbrev pub link_answered : Command → PeerFacts → Link → Link
 link_answered (ReadRemoteVersion handle) peer link = answered_if (is_some peer.version) version_kind link

@@ -12,7 +12,7 @@ use Rattle.link_model.specs.phased_end.keyed_control.KeyedSteps.{Enters}
 use Rattle.link_model.proofs.phased_end.Depending.{step_depends}
 use Rattle.link_model.specs.Events.{event_entered}
 use Rattle.link_model.specs.Setup.{Setup}
-use Rattle.link_model.specs.Facts.{Facts, keyed_of, params_of}
+use Rattle.link_model.specs.Facts.{Facts, keyed_of}
 use Rattle.link_model.specs.Step.{Step, EventEntered}
 use Rattle.link_model.specs.Controls.{goes_on as facts_go_on, is_quiet_now}
 use Rattle.link_model.specs.Entering.{event_notes, facts_entered, facts_entered_if, entry_notes as facts_entry_notes}
@@ -31,7 +31,7 @@ entered_of setup slot facts same =
     let control = sym (step_depends (Enters slot) (keyed_of facts) same) in
     λ i. record (held_of setup (facts_entered setup slot facts)) {
       control = control i;
-      event = event_entered setup slot (params_of facts).latency ((control i).control.track);
+      event = event_entered setup slot ((control i).control.track);
     }
 
 entered_if_of : (goes : Bool) (setup : Setup) (slot : ℕ) (facts : Facts) → IsInPhase facts

@@ -12,7 +12,7 @@ use Rattle.link_model.specs.Setup.{Setup}
 use Rattle.link_model.specs.Data.{Data, is_control, next_piece, pdu_with, unsent_of}
 use Rattle.link_model.specs.Controls.{is_quiet_now, next_control}
 use Rattle.link_model.specs.Facts.{Facts}
-use Rattle.link_model.specs.Fixing.{data_cut, data_fixed_by, data_goes, facts_fixed, fixed_anew}
+use Rattle.link_model.specs.Fixing.{data_cut, data_fixed_by, data_goes, facts_fixed, fixed_anew, is_last_of_all, waits_again}
 use Rattle.link_model.specs.Step.{Step, PduFixed}
 use Rattle.link_model.specs.End.{facts_of}
 use Rattle.link_end.specs.Held.{Held, held_of}
@@ -72,6 +72,7 @@ module _ (setup : Setup) (facts : Facts) (bank : Bank) (holds : HoldsData setup.
       ∙ (λ i. record (held_of setup (fixed_anew facts)) {
         fixed = pdu_same next left (data_cut facts) next_is left_is control quiet (data_goes facts) waiting i;
         more = more_same next left (data_cut facts) next_is left_is control quiet (data_goes facts) waiting i;
+        more_again = waits_again (is_last_of_all facts) control (data_goes facts) quiet waiting (next_is i);
         payload = payload_same control quiet (data_goes facts) waiting (data_cut facts) i;
       })
     where
@@ -84,6 +85,8 @@ module _ (setup : Setup) (facts : Facts) (bank : Bank) (holds : HoldsData setup.
             fixed = pdu_fixed_by control goes next;
             fixes_control = control;
             more = more_fixed_by control (waiting_in facts.control.table.queue) quiet goes next left;
+            more_again =
+                waits_again (is_last_of_all facts) control goes quiet (waiting_in facts.control.table.queue) next;
           }
 
   fixed_by : (stays : Bool)
@@ -118,8 +121,11 @@ module _ (handle : ℕ) (bank : Bank) where
       → HoldsData handle bank (if stays then facts else fixed_anew facts).outgoing
   holds_fixed true facts holds = holds
   holds_fixed false facts holds =
-      holds_by (is_some (next_control facts)) (is_quiet_now facts) (data_goes facts) (waiting_in facts.control.table.queue) (data_cut facts)
-      (record { packets = holds.packets; complete = holds.complete })
+      let by =
+      holds_by (is_some (next_control facts)) (is_quiet_now facts) (data_goes facts)
+      (waiting_in facts.control.table.queue) (data_cut facts)
+      (record { packets = holds.packets; complete = holds.complete }) in
+      record { packets = by.packets; complete = by.complete }
 
 pub fixed_holds : (setup : Setup) (past : List Step) (bank : Bank) → HoldsData setup.link.handle bank (facts_of setup past).outgoing
     → HoldsData setup.link.handle bank (facts_of setup (past ++ PduFixed ∷ [])).outgoing

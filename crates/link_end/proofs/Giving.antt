@@ -1,5 +1,6 @@
 -- What an end holds, and whether it draws, as its procedures take a control PDU.
-use Rattle.std.proofs.Common.{◌≡◌, ◌∙◌, ℕ, Bool, true, false, ◌&&◌, refl, sym, ap}
+use Rattle.std.proofs.Common.{◌≡◌, ◌∙◌, ℕ, Bool, true, false, ◌&&◌, Option, refl, sym, ap}
+use Rattle.data_pdu.specs.declared.ctrl.Ctrl.{Ctrl}
 use Rattle.data_pdu.specs.declared.ctrl.CtrlRead.{CtrlRead}
 use Rattle.link_model.specs.phased_end.control_end.procedure_values.Limits.{rx_of, tx_of}
 use Rattle.link_model.specs.phased_end.declared.taking.TakenKeyed.{TakenKeyed}
@@ -10,7 +11,7 @@ use Rattle.link_model.specs.phased_end.keyed_control.KeyedSteps.{Takes}
 use Rattle.link_model.specs.Acknowledgement.{Pdu}
 use Rattle.link_model.specs.unencrypted_ends.Unencrypted.{is_enc_req}
 use Rattle.link_model.specs.Controls.{read_of}
-use Rattle.link_model.specs.Receiving.{code_of, leaving_by, lengths_reported, peer_from_if}
+use Rattle.link_model.specs.Receiving.{code_of, leaving_by, kept_answered, lengths_reported, peer_answered}
 use Rattle.link_end.specs.Held.{Held}
 use Rattle.link_end.specs.Receiving.{draws_if, held_given_if, lengths_seen_from, may_answer}
 
@@ -35,30 +36,48 @@ draws pdu slot held now read sees answers drew after last same read_is sees_is a
     (is_handed (read_of pdu) held.control) (lasts (held_after (Takes (read_of pdu) slot (drawn held.response)) held.control))
     ∙ ap (λ (h : Held). draws_if true pdu slot h) same
 
-pub given : (pdu : Pdu) (slot : ℕ) (held first now : Held) (read : CtrlRead) (before : ℕ × ℕ)
-    (gives : TakenKeyed) (after : HeldKeyed) → held ≡ first → read ≡ read_of pdu
+pub given : (pdu : Pdu) (slot : ℕ) (held first knowing now : Held) (read answered : CtrlRead) (sees : Bool)
+    (kept last : Option Ctrl) (before : ℕ × ℕ) (gives : TakenKeyed) (after : HeldKeyed)
+    → held ≡ first → read ≡ read_of pdu
     → before ≡ (rx_of held.control.control.table.lengths, tx_of held.control.control.table.lengths)
+    → sees ≡ is_handed read held.control → kept ≡ held.control.kept
     → after ≡ held_after (Takes read slot (drawn held.response)) held.control
     → gives ≡ taken_keyed slot held.response read held.control
-    → now ≡ record held {
+    → last ≡ after.kept → answered ≡ kept_answered kept last
+    → knowing ≡ record held {
       control = after;
-      peer = peer_from_if (lasts after) read held.peer;
+      peer = peer_answered (lasts after) sees read answered held.peer;
+    }
+    → now ≡ record knowing {
       lengths =
           lengths_reported gives.kept.effect
           (lengths_reported gives.taken.effect
-          (lengths_seen_from before after.control.table.lengths held.lengths));
-      leaving = leaving_by (code_of gives.taken.effect) held.leaving;
+          (lengths_seen_from before knowing.control.control.table.lengths knowing.lengths));
+      leaving = leaving_by (code_of gives.taken.effect) knowing.leaving;
     }
     → now ≡ held_given_if true pdu slot first
-given pdu slot held first now read before gives after same read_is before_is after_is gives_is now_is =
+given pdu slot held first knowing now read answered sees kept last before gives after same read_is before_is sees_is
+    kept_is after_is gives_is last_is answered_is knowing_is now_is =
     let then_is : after ≡ held_after (Takes (read_of pdu) slot (drawn held.response)) held.control =
     after_is ∙ (λ i. held_after (Takes (read_is i) slot (drawn held.response)) held.control) in
     let taken : gives ≡ taken_keyed slot held.response (read_of pdu) held.control =
     gives_is ∙ (λ i. taken_keyed slot held.response (read_is i) held.control) in
+    let seen : sees ≡ is_handed (read_of pdu) held.control = sees_is ∙ (λ i. is_handed (read_is i) held.control) in
+    let known : answered ≡ kept_answered held.control.kept after.kept =
+    answered_is ∙ (λ i. kept_answered (kept_is i) (last_is i)) in
     now_is
+    ∙ ap (λ (h : Held). record h {
+      lengths =
+          lengths_reported gives.kept.effect
+          (lengths_reported gives.taken.effect
+          (lengths_seen_from before h.control.control.table.lengths h.lengths));
+      leaving = leaving_by (code_of gives.taken.effect) h.leaving;
+    }) knowing_is
     ∙ (λ i. record held {
       control = then_is i;
-      peer = peer_from_if (lasts (then_is i)) (read_is i) held.peer;
+      peer =
+          peer_answered (lasts (then_is i)) (seen i) (read_is i)
+          ((known ∙ (λ j. kept_answered held.control.kept (then_is j).kept)) i) held.peer;
       lengths =
           lengths_reported (taken i).kept.effect
           (lengths_reported (taken i).taken.effect

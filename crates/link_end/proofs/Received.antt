@@ -26,7 +26,7 @@ use Rattle.link_model.specs.Data.{Data, data_acked_if, is_control, is_data, is_e
 use Rattle.link_model.specs.Payload.{end_accepting}
 use Rattle.link_model.specs.Controls.{is_procedure_pdu, read_of}
 use Rattle.link_model.specs.Facts.{Facts, keyed_of, with_keyed}
-use Rattle.link_model.specs.Receiving.{accepted_if, acknowledged_if, acks_control, answers_with_control as facts_answer, data_taken_if, facts_before_taking, fixed_goes, has_acknowledged, heard_in_slot, keyed_acked_if, peer_from_if, procedures_answer, procedures_take, procedures_take_if, taken_if}
+use Rattle.link_model.specs.Receiving.{accepted_if, acknowledged_if, acks_control, answers_with_control as facts_answer, data_taken_if, facts_before_taking, fixed_goes, has_acknowledged, heard_in_slot, is_seen, kept_answered, keyed_acked_if, peer_answered, procedures_answer, procedures_take, procedures_take_if, taken_if}
 use Rattle.link_model.specs.Sending.{control_gone_if, takes_leave}
 use Rattle.link_end.specs.Held.{Held, held_of}
 use Rattle.link_end.specs.Receiving.{answers_with_control, bits_received, control_acked_if, held_accepted_if, held_acked_if, held_before_taking, held_data_if, held_given_if, held_heard, held_taken_if, known_lengths}
@@ -137,6 +137,10 @@ more_acked : (acked : Bool) (outgoing : Data) → outgoing.more ≡ (data_acked_
 more_acked true outgoing = refl
 more_acked false outgoing = refl
 
+again_acked : (acked : Bool) (outgoing : Data) → outgoing.more_again ≡ (data_acked_if acked outgoing).more_again
+again_acked true outgoing = refl
+again_acked false outgoing = refl
+
 payload_acked : (acked : Bool) (outgoing : Data) → outgoing.payload ≡ (data_acked_if acked outgoing).payload
 payload_acked true outgoing = refl
 payload_acked false outgoing = refl
@@ -154,6 +158,7 @@ acked_of setup says facts same low high =
       control = acked_control (acked && is_control ack.last) (keyed_of facts) same i;
       fixed = fixed_acked (acked && is_data ack.last) facts.outgoing i;
       more = more_acked (acked && is_data ack.last) facts.outgoing i;
+      more_again = again_acked (acked && is_data ack.last) facts.outgoing i;
       payload = payload_acked (acked && is_data ack.last) facts.outgoing i;
     }
 
@@ -199,7 +204,9 @@ given_of true setup pdu slot facts agrees =
     let before = keyed_held (keyed_of facts) in
     λ i. record (held_of setup (procedures_take pdu slot facts)) {
       control = control i;
-      peer = peer_from_if (lasts (control i)) (read_of pdu) facts.peer;
+      peer =
+          peer_answered (lasts (control i)) (is_seen pdu facts) (read_of pdu)
+          (kept_answered facts.encryption.kept (control i).kept) facts.peer;
       lengths = known_lengths before (control i) (procedures_answer pdu slot facts) facts.lengths;
     }
 given_of false setup pdu slot facts agrees = refl

@@ -17,7 +17,6 @@ use Rattle.link_model.proofs.phased_end.Depending.{step_depends}
 use Rattle.link_model.specs.Setup.{Setup}
 use Rattle.link_model.specs.Acknowledgement.{Pdu, bits_of, empty_pdu, is_acked}
 use Rattle.link_model.specs.Data.{Data, is_data, is_empty}
-use Rattle.link_model.specs.Events.{event_sent}
 use Rattle.link_model.specs.Facts.{Facts, keyed_of}
 use Rattle.link_model.specs.Controls.{pdu_of_control}
 use Rattle.link_model.specs.Packets.{more_sent, packet_sent, payload_sent, pdu_sent}
@@ -32,7 +31,7 @@ use Rattle.link_end.specs.Tied.{HoldsData, LeavesOthers, bank_went_if}
 use Rattle.link_end.proofs.Banked.{holds_sent, sent_leaves}
 use Rattle.link_end.proofs.Counting.{acked_sent, counted}
 use Rattle.link_end.proofs.Keeping.{held_is, holds_after, stepped}
-use Rattle.link_end.proofs.Phases.{gone_agrees, gone_keyed, past_agrees, past_phase}
+use Rattle.link_end.proofs.Phases.{gone_keyed, past_phase}
 
 -- the session is in the phase of the procedures
 abbrev pub IsInPhase : Facts → Type 0
@@ -65,24 +64,28 @@ more_then : (payload : List ℕ) (is_new : Bool) (outgoing : Data)
 more_then payload true outgoing = refl
 more_then payload false outgoing = refl
 
+again_then : (payload : List ℕ) (is_new : Bool) (outgoing : Data)
+    → outgoing.more_again ≡ (data_sent_as payload is_new outgoing).more_again
+again_then payload true outgoing = refl
+again_then payload false outgoing = refl
+
 payload_then : (payload : List ℕ) (is_new : Bool) (outgoing : Data)
     → (if is_new then payload else outgoing.payload) ≡ (data_sent_as payload is_new outgoing).payload
 payload_then payload true outgoing = refl
 payload_then payload false outgoing = refl
 
-out_of : (setup : Setup) (slot : ℕ) (facts : Facts) → IsInPhase facts → held_out slot (held_of setup facts) ≡ held_of setup (fixed_sent slot facts)
-out_of setup slot facts same =
+out_of : (setup : Setup) (slot : ℕ) (facts : Facts) → held_out slot (held_of setup facts) ≡ held_of setup (fixed_sent slot facts)
+out_of setup slot facts =
     let ack = facts.acknowledgement in
     let next = facts.outgoing.fixed in
     let is_new = is_acked ack in
     let payload = payload_made facts.encryption.end next in
-    let pdu = next_same facts same facts.fixes_control next in
     λ i. record (held_of setup (fixed_sent slot facts)) {
       is_acked = acked_sent is_new ack next refl i;
-      event = event_sent slot (if is_new then facts.outgoing.more else not (is_empty (pdu i))) facts.event;
       payload = payload_then payload is_new facts.outgoing i;
       fixed = fixed_then payload is_new facts.outgoing i;
       more = more_then payload is_new facts.outgoing i;
+      more_again = again_then payload is_new facts.outgoing i;
       sent = counted ack.sent next is_new (is_empty next) refl i;
     }
 
@@ -103,15 +106,6 @@ module _ (control_pdu fixed last : Pdu) where
   notes_same true true handle number = refl
   notes_same true false handle number = refl
   notes_same false fixes handle number = refl
-
-more_same : (acked fixes more : Bool) (control after : HeldKeyed) (fixed : Pdu)
-    → let goes = acked && fixes in
-    let pdu = λ (f : Bool) (c : HeldKeyed) (p : Pdu). if f then pdu_of_control (next_ctrl (quiet_now c) c.control) else p in
-    (if acked then more
-    else not (is_empty (pdu (if goes then false else fixes) (if goes then after else control) (if goes then pdu fixes control fixed else fixed))))
-    ≡ (if acked then more else not (is_empty (pdu fixes control fixed)))
-more_same true fixes more control after fixed = refl
-more_same false fixes more control after fixed = refl
 
 -- the session stays as a control PDU leaves the queue
 sends_end : (slot : ℕ) (h : HeldKeyed) → (held_after (Sends slot) h).end ≡ h.end
@@ -136,10 +130,6 @@ end_if false after before = refl
 gone_pdu : (slot : ℕ) (held : Held) → pdu_out (held_gone slot held) ≡ (if held.is_acked then pdu_fixed held else held.last)
 gone_pdu slot held =
     out_same (pdu_of_control (next_ctrl (quiet_now held.control) held.control.control)) held.fixed held.last held.is_acked held.fixes_control
-
-gone_more : (slot : ℕ) (held : Held) → more_out (held_gone slot held) ≡ more_out held
-gone_more slot held =
-    more_same held.is_acked held.fixes_control held.more held.control (held_after (Sends slot) held.control) held.fixed
 
 gone_payload : (slot : ℕ) (held : Held)
     → payload_out (held_gone slot held) ≡ (if held.is_acked then payload_made held.control.end (pdu_fixed held) else held.payload)
@@ -178,9 +168,6 @@ module _ (setup : Setup) (held : Held) (past : List Step) (knows : Knows setup h
   same : IsInPhase facts
   same = past_phase setup past
 
-  gone_same : IsInPhase (control_gone_if (facts_leave facts) slot facts)
-  gone_same = (gone_agrees setup (facts_leave facts) slot facts (past_agrees setup past)).phase
-
   gone_known : gone ≡ held_of setup (control_gone_if (facts_leave facts) slot facts)
   gone_known = gone_held ∙ gone_if_of (facts_leave facts) setup slot facts same
 
@@ -189,7 +176,7 @@ module _ (setup : Setup) (held : Held) (past : List Step) (knows : Knows setup h
   sent new before noted is notes =
       record {
         knows = stepped setup new past (PacketSent slot)
-            (is ∙ ap (held_out slot) gone_known ∙ out_of setup slot (control_gone_if (facts_leave facts) slot facts) gone_same);
+            (is ∙ ap (held_out slot) gone_known ∙ out_of setup slot (control_gone_if (facts_leave facts) slot facts));
         notes = notes ∙ ap (λ (h : Held). before ++ sent_notes h) gone_held ∙ ap (λ notes. before ++ notes) (gone_notes setup slot facts same);
       }
 
@@ -209,12 +196,10 @@ module _ (setup : Setup) (held : Held) (past : List Step) (knows : Knows setup h
       gone_pdu slot held ∙ ap (λ (p : Pdu). if held.is_acked then p else held.last) fixed in
       let payload : payload_out (held_gone slot held) ≡ payload_sent facts =
       gone_payload slot held ∙ ap (λ (p : Pdu). if held.is_acked then payload_made facts.encryption.end p else held.payload) fixed in
-      let more_same : more_out (held_gone slot held) ≡ more_sent facts =
-      gone_more slot held ∙ ap (λ (p : Pdu). if held.is_acked then held.more else not (is_empty p)) fixed in
       is ∙ (λ i. octets_after (new_is i) (more_is i))
       ∙ ap (λ (h : Held). octets_after (held_out slot h) (more_out h)) gone_held
       ∙ (λ i. on_air facts.event.channel setup.link.fields.access setup.link.fields.crc_init
-      (octets_of (header_of (bits_of facts.acknowledgement) ((pdu i).llid) (more_same i) (length (payload i))) ++ payload i))
+      (octets_of (header_of (bits_of facts.acknowledgement) ((pdu i).llid) (more_sent facts) (length (payload i))) ++ payload i))
 
   pub sent_holds : (before after : Bank) → after ≡ bank_went_if (carries_next gone) before gone.setup.link.handle (length gone.fixed.body)
       → HoldsData setup.link.handle before facts.outgoing

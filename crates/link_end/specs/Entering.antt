@@ -16,14 +16,13 @@ use Rattle.link_end.specs.Held.{Held}
 abbrev pub control_entered : ℕ → Held → HeldKeyed
 control_entered slot held = held_after (Enters slot) held.control
 
--- the latency is that of before, and so are the lengths that count as long (our choice)
+-- the latency is that of the parameters which are in force from the event on; the lengths that count as long are those of
+-- before (our choice)
 abbrev pub held_entered : ℕ → Held → Held
 held_entered slot held =
     record held {
       control = control_entered slot held;
-      event =
-          event_entered held.setup slot held.control.control.track.params.latency
-          (control_entered slot held).control.track;
+      event = event_entered held.setup slot (control_entered slot held).control.track;
       lengths = record held.lengths { long = is_long held.control.control.table.lengths; changed = false };
     }
 

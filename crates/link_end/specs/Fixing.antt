@@ -7,7 +7,9 @@ use Rattle.procedures.specs.procedure_values.Limits.{tx_of}
 use Rattle.control_end.specs.Answers.{next_ctrl}
 use Rattle.link_model.specs.phased_end.Answers.{quiet_now}
 use Rattle.link_model.specs.Acknowledgement.{Pdu, empty_pdu}
+use Rattle.link_model.specs.Controls.{is_terminate}
 use Rattle.link_model.specs.Data.{is_control, pdu_with}
+use Rattle.link_model.specs.Fixing.{waits_again}
 use Rattle.link_end.specs.Held.{Held}
 
 -- the most octets of a piece: the effective length that it transmits (section 4.5.10)
@@ -32,6 +34,10 @@ abbrev pub more_fixed_by : Bool → ℕ → Bool → Bool → Option Piece → B
 more_fixed_by control waiting quiet goes next left =
     if control then nat_lt 1 waiting || (quiet && is_some next) else (if goes then left else false)
 
+-- nothing is sent after the last PDU: it is LL_TERMINATE_IND of a Disconnect
+abbrev pub is_last_of_all : Held → Bool
+is_last_of_all held = is_disconnecting held.control.control.table.closing && is_terminate held.last
+
 abbrev pub held_fixed_anew : Option Piece → Bool → Held → Held
 held_fixed_anew next left held =
     record held {
@@ -40,6 +46,9 @@ held_fixed_anew next left held =
       more =
           more_fixed_by (control_is_next held) (waiting_in held.control.control.table.queue) (quiet_now held.control)
           (data_goes held) next left;
+      more_again =
+          waits_again (is_last_of_all held) (control_is_next held) (data_goes held) (quiet_now held.control)
+          (waiting_in held.control.control.table.queue) next;
     }
 
 -- a control PDU that has left the queue and is not sent stays the one that is fixed (our choice)

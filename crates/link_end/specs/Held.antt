@@ -34,8 +34,9 @@ pub record Held : Type 0 where
   pub payload : List ℕ
   pub fixed : Pdu
   pub fixes_control : Bool
-  -- a further PDU waited as that was fixed
+  -- as that was fixed a further PDU waited after it, and one after the last PDU, where that is sent again
   pub more : Bool
+  pub more_again : Bool
   -- how many PDUs that are not empty it sent, and how many it took
   pub sent : ℕ
   pub taken : ℕ
@@ -60,6 +61,7 @@ held_of setup facts =
       fixed = facts.outgoing.fixed;
       fixes_control = facts.fixes_control;
       more = facts.outgoing.more;
+      more_again = facts.outgoing.more_again;
       sent = numbered facts.acknowledgement.sent;
       taken = numbered facts.acknowledgement.accepted;
       last_good = facts.last_good;

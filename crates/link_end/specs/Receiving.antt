@@ -34,7 +34,7 @@ use Rattle.link_model.specs.Verdicts.{whole_in}
 use Rattle.link_model.specs.Controls.{is_procedure_pdu, is_terminate, read_of}
 use Rattle.link_model.specs.Entering.{done_notes}
 use Rattle.link_model.specs.Payload.{end_accepting, first_octet, opens_now}
-use Rattle.link_model.specs.Receiving.{code_of, given_notes, leaving_acked_if, leaving_by, lengths_reported, lengths_seen, peer_from_if}
+use Rattle.link_model.specs.Receiving.{kept_answered, code_of, given_notes, leaving_acked_if, leaving_by, lengths_reported, lengths_seen, peer_answered}
 use Rattle.link_end.specs.declared.pdus.Got.{Got}
 use Rattle.link_end.specs.Held.{Held, count_if}
 use Rattle.link_end.specs.Pdus.{got_with, pdu_in}
@@ -220,7 +220,11 @@ held_given_if takes pdu slot held =
     let given = given_if takes pdu slot held in
     record held {
       control = control;
-      peer = (if takes then peer_from_if (lasts control) (read_of pdu) held.peer else held.peer);
+      peer =
+          (if takes
+          then peer_answered (lasts control) (is_handed (read_of pdu) held.control) (read_of pdu)
+          (kept_answered held.control.kept control.kept) held.peer
+          else held.peer);
       lengths = (if takes then known_lengths held.control control given held.lengths else held.lengths);
       leaving = (if takes then leaving_by (code_of given.taken.effect) held.leaving else held.leaving);
     }

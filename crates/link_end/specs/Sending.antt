@@ -42,9 +42,9 @@ held_gone slot held = held_gone_if (takes_leave held) slot held
 abbrev pub pdu_out : Held → Pdu
 pdu_out held = if held.is_acked then held.fixed else held.last
 
--- MD: a further PDU waits (section 4.5.6)
+-- MD: a further PDU waited as the turn began (section 4.5.6)
 abbrev pub more_out : Held → Bool
-more_out held = if held.is_acked then held.more else not (is_empty (pdu_fixed held))
+more_out held = if held.is_acked then held.more else held.more_again
 
 -- the PDU that it sends first in this packet is not empty
 abbrev pub numbers_next : Held → Bool

@@ -97,8 +97,10 @@ pub struct LinkEnd {
     pub(crate) payload: ArrayVec<u8, SEALED_OCTETS>,
     pub(crate) fixed: Pdu,
     pub(crate) fixes_control: bool,
-    /// A further PDU waited as that was fixed.
+    /// As that was fixed a further PDU waited after it, and one after the last PDU, where that is
+    /// sent again.
     pub(crate) more: bool,
+    pub(crate) more_again: bool,
     /// How many PDUs that are not empty were sent and taken.
     pub(crate) sent: u64,
     pub(crate) taken: u64,
@@ -128,6 +130,7 @@ impl Model for LinkEnd {
       fixed = record { llid = e.fixed.llid; body = e.fixed.body.items };
       fixes_control = e.fixes_control;
       more = e.more;
+      more_again = e.more_again;
       sent = e.sent;
       taken = e.taken;
       last_good = e.last_good;
@@ -180,6 +183,7 @@ impl LinkEnd {
             fixed: Pdu::empty(),
             fixes_control: false,
             more: false,
+            more_again: false,
             sent: 0,
             taken: 0,
             last_good: None,
@@ -335,10 +339,10 @@ impl LinkEnd {
     }
 
     /// Fixes the PDU that is sent next where the last one is acknowledged, and whether a further
-    /// one waits after it. A control PDU that may be sent goes before data, and is made as it is
-    /// sent; else it is the next piece of at most the effective length, or an empty PDU. Data goes
-    /// in phase Clear or Secure alone, and none once the host has ended the link (Core 5.2, volume 6
-    /// part B, section 5.1.3).
+    /// one waits after it, or after the last one, where that is sent again. A control PDU that may
+    /// be sent goes before data, and is made as it is sent; else it is the next piece of at most the
+    /// effective length, or an empty PDU. Data goes in phase Clear or Secure alone, and none once the
+    /// host has ended the link (Core 5.2, volume 6 part B, section 5.1.3).
     pub fn ready<const T: usize>(&mut self, tx: &TxBank<T>)
         requires entered { 1 ≤ self.old.control.control.track.entered }
         requires tied { IsTied self.old tx.now }

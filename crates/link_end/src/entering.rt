@@ -47,15 +47,15 @@ impl LinkEnd {
         ensures entry { result ≡ entry_of slot (quiet_now self.old.control) self.old.control.control }
         ensures enters { 1 ≤ self.new.control.control.track.entered }
     {
-        let latency = self.control.params().latency;
         let long = is_long(self.control.lengths());
         let entry = enter(&mut self.control, slot);
         let event = self.control.event();
+        let params = self.control.params();
         self.event = ConnectionEvent {
             number: event.0,
             slot,
-            channel: self.selector.channel(event, &self.control.params().map),
-            latency,
+            channel: self.selector.channel(event, &params.map),
+            latency: params.latency,
             heard: false,
             more: false,
         };

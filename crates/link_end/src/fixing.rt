@@ -3,7 +3,8 @@ ghost use Rattle.std.specs.Prelude.{◌≡◌, ◌<◌, ◌≤◌, length, nat_l
 ghost use Rattle.acl_banks.specs.Banks.{next_length, next_piece, unsent_of};
 ghost use Rattle.link_model.specs.Acknowledgement.{empty_pdu};
 ghost use Rattle.link_end.specs.Fixing.{held_fixed, held_fixed_anew, limit_of};
-ghost use Rattle.link_end.specs.Fixing.{more_fixed_by, pdu_fixed_by};
+ghost use Rattle.link_end.specs.Fixing.{is_last_of_all, more_fixed_by, pdu_fixed_by};
+ghost use Rattle.link_model.specs.Fixing.{waits_again};
 ghost use Rattle.link_end.specs.Pdus.{pdu_value};
 
 use crate::controls::{has_next, limit};
@@ -42,8 +43,35 @@ fn more_fixed(
     }
 }
 
+/// Whether a PDU waits after the last one, where that is sent again: the one that is fixed, and
+/// after LL_TERMINATE_IND, which `ends` the link, what is left, although it never goes.
+fn waits_again(
+    ends: bool,
+    control: bool,
+    goes: bool,
+    quiet: bool,
+    waiting: usize,
+    next: &Option<Piece>,
+) -> bool
+    ensures { result ≡ waits_again ends control goes quiet waiting next.now }
+{
+    if ends {
+        waiting > 0 || (quiet && next.is_some())
+    } else {
+        control || (goes && next.is_some())
+    }
+}
+
 impl LinkEnd {
-    /// Fixes the PDU that it sends next, and whether a further one waits after it.
+    /// Whether nothing is sent after its last PDU: that is LL_TERMINATE_IND of a Disconnect.
+    fn is_last_of_all(&self) -> bool
+        ensures { result ≡ is_last_of_all self.now }
+    {
+        self.control.is_disconnecting() && self.last.is_terminate()
+    }
+
+    /// Fixes the PDU that it sends next, and whether a further one waits after it, or after the
+    /// last one.
     fn fix_anew<const T: usize>(&mut self, tx: &TxBank<T>)
         requires entered { 1 ≤ self.old.control.control.track.entered }
         ensures { self.new
@@ -59,7 +87,9 @@ impl LinkEnd {
         let next = tx.peek(handle, limit);
         let left = tx.waits(handle, limit);
         let waiting = self.control.waiting();
+        let ends = self.is_last_of_all();
         self.more = more_fixed(control, waiting, quiet, goes, &next, left);
+        self.more_again = waits_again(ends, control, goes, quiet, waiting, &next);
         self.fixed = pdu_fixed(control, goes, next);
         self.fixes_control = control;
     }

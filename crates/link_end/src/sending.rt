@@ -14,7 +14,7 @@ ghost use Rattle.link_model.specs.Sending.{leaving_sent, sent_notes_if};
 ghost use Rattle.link_end.specs.Held.{count_if};
 ghost use Rattle.link_end.specs.Pdus.{pdu_value};
 ghost use Rattle.link_end.specs.Sending.{carries_next, held_gone, held_gone_if, held_out};
-ghost use Rattle.link_end.specs.Sending.{more_out, pdu_fixed, sent_notes};
+ghost use Rattle.link_end.specs.Sending.{more_out, sent_notes};
 ghost use Rattle.link_end.specs.Sending.{takes_leave, with_next_sent};
 ghost use Rattle.link_end.specs.Tied.{IsTied, bank_went_if};
 
@@ -77,27 +77,14 @@ impl LinkEnd {
         self.go_if(self.takes_leave(), slot);
     }
 
-    /// Whether the PDU that is fixed is empty.
-    fn fixes_nothing(&self) -> bool
-        requires entered { 1 ≤ self.now.control.control.track.entered }
-        ensures { result ≡ is_empty (pdu_fixed self.now) }
-    {
-        if self.fixes_control {
-            next_pdu(&self.control).is_empty()
-        } else {
-            self.fixed.is_empty()
-        }
-    }
-
-    /// Whether its packet says that more waits.
+    /// Whether its packet says that more waits: what waited as the turn began.
     pub(crate) fn more_out(&self) -> bool
-        requires entered { 1 ≤ self.now.control.control.track.entered }
         ensures { result ≡ more_out self.now }
     {
         if self.is_acked {
             self.more
         } else {
-            !self.fixes_nothing()
+            self.more_again
         }
     }
 

@@ -6,7 +6,7 @@ ghost use Rattle.link_model.specs.phased_end.Taking.{nothing_keyed};
 ghost use Rattle.link_model.specs.unencrypted_ends.Unencrypted.{is_enc_req};
 ghost use Rattle.link_model.specs.Receiving.{code_of, leaving_by};
 ghost use Rattle.link_model.specs.Receiving.{lengths_reported};
-ghost use Rattle.link_model.specs.Receiving.{peer_from, peer_from_if};
+ghost use Rattle.link_model.specs.Receiving.{kept_answered, peer_answered, peer_from, peer_from_if};
 ghost use Rattle.link_end.specs.Pdus.{pdu_in};
 ghost use Rattle.link_end.specs.Receiving.{IsSingle, draws_if, given_if, held_data_if};
 ghost use Rattle.link_end.specs.Receiving.{held_given_if, lengths_seen_from, may_answer};
@@ -68,6 +68,16 @@ fn peer_from_if(goes_on: bool, read: &CtrlRead, peer: PeerFacts) -> PeerFacts
     ensures { result ≡ peer_from_if goes_on read.now peer }
 {
     if goes_on { peer_from(read, peer) } else { peer }
+}
+
+/// What was kept before and is not any more: it was answered.
+fn kept_answered(before: Option<Ctrl>, after: Option<Ctrl>) -> CtrlRead
+    ensures { result ≡ kept_answered before after }
+{
+    match (before, after) {
+        (Some(ctrl), None) => CtrlRead::Known(ctrl),
+        _ => CtrlRead::Bare,
+    }
 }
 
 /// What is known of the lengths after this effect.
@@ -178,8 +188,12 @@ impl LinkEnd {
         let before = self.control.lengths();
         let sees = self.control.would_see(&read);
         let answers = self.answers(&read, sees);
+        let kept = self.control.kept();
         let given = take(&mut self.control, &read, slot, self.response);
-        self.know(before, &read, &given);
+        let last = self.control.kept();
+        let answered = kept_answered(kept, last);
+        self.know_peer(sees, &read, &answered);
+        self.know(before, &given);
         Given {
             given,
             draws: self.draws(answers),
@@ -201,18 +215,28 @@ impl LinkEnd {
         answers && self.control.ends().is_none()
     }
 
-    /// What it knows then of the peer, of its lengths, and of how the link is to end: `before` are
-    /// the lengths before. A PDU that is kept is read at once.
-    fn know(&mut self, before: (u16, u16), read: &CtrlRead, given: &TakenKeyed)
+    /// What it knows of the peer then, by what was taken, if the procedures see it, and by what was
+    /// kept until then and is answered.
+    fn know_peer(&mut self, sees: bool, read: &CtrlRead, kept: &CtrlRead)
         ensures { self.new ≡ record self.old {
-          peer = peer_from_if (lasts self.old.control) read.now self.old.peer;
+          peer = peer_answered (lasts self.old.control) sees read.now kept.now self.old.peer;
+        } }
+    {
+        let goes_on = self.control.ends().is_none();
+        let peer = peer_from_if(goes_on && sees, read, self.peer);
+        self.peer = peer_from_if(goes_on, kept, peer);
+    }
+
+    /// What it knows then of its lengths, and of how the link is to end: `before` are the lengths
+    /// before.
+    fn know(&mut self, before: (u16, u16), given: &TakenKeyed)
+        ensures { self.new ≡ record self.old {
           lengths = lengths_reported given.now.kept.effect
               (lengths_reported given.now.taken.effect (lengths_seen_from before
               self.old.control.control.table.lengths self.old.lengths));
           leaving = leaving_by (code_of given.now.taken.effect) self.old.leaving;
         } }
     {
-        self.peer = peer_from_if(self.control.ends().is_none(), read, self.peer);
         let seen = lengths_seen(before, self.control.lengths(), self.lengths);
         self.lengths = lengths_given(given, seen);
         self.leaving = leaving_by(code_of(&given.taken.effect), self.leaving);

@@ -7,4 +7,6 @@ mod host_events;
 #[cfg(test)]
 mod random_runs;
 #[cfg(test)]
+mod rare_links;
+#[cfg(test)]
 mod worked_links;

@@ -102,6 +102,37 @@ turn 26 . x = a enter 1 20 sent 1 2 01020304 b enter 1 20 took 1 2 01020304
 turn 50 . x = a enter 2 6 b enter 2 6
 turn 74 = a enter 3 21 b enter 3 21
 new
+# Data that is sent again says that more waits, which goes in the second exchange.
+turn 2 = a b
+a give 01 = yes
+a give 02 = yes
+turn 26 x = a enter 1 20 sent 1 2 01 b enter 1 20
+turn 50 = a enter 2 6 b enter 2 6 took 1 2 01
+turn 51 = a sent 2 2 02 b took 2 2 02
+new
+# So does LL_TERMINATE_IND that is sent again, although data that waits never goes.
+turn 2 = a b
+a end 13 10
+turn 26 x = a enter 1 20 sent 1 3 0213 b enter 1 20
+turn 50 x = a enter 2 6 b enter 2 6
+a give 01 = yes
+turn 74 . x = a enter 3 21 b enter 3 21 took 1 3 0213 ends 13
+b again = yes
+new
+# The latency of an update holds in the event of its Instant.
+turn 2 = a b
+a ask latency
+turn 26 = a enter 1 20 began Update sent 1 3 000100001800010064000700 \
+    b enter 1 20 took 1 3 000100001800010064000700
+turn 50 = a enter 2 6 b enter 2 6
+turn 74 = a enter 3 21 b enter 3 21
+turn 98 = a enter 4 34 b enter 4 34
+turn 122 = a enter 5 36 b enter 5 36
+turn 146 = a enter 6 23 b enter 6 23
+b wants = yes
+turn 170 x = a applied 1 7 enter 7 14 done Update b applied 1 7 enter 7 14
+b wants = no
+new
 # A map of the central and a request of the peripheral cross: the request is rejected.
 turn 2 = a b
 a ask map

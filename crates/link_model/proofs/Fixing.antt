@@ -20,7 +20,7 @@ use Rattle.link_model.specs.Verdicts.{pdu_of}
 use Rattle.link_model.specs.Facts.{Facts, first_facts}
 use Rattle.link_model.specs.Step.{Step, DataGiven, DataReported, Disconnected, EventEntered, PacketReceived, PacketSent, PduFixed, ProcedureAsked, RequestAnswered, KeyAnswered, WordsGiven}
 use Rattle.link_model.specs.Controls.{goes_on, is_procedure_pdu, next_control, pdu_fixed, pdu_of_control, is_quiet_now}
-use Rattle.link_model.specs.Fixing.{data_cut, data_fixed_by, data_goes, fixed_anew}
+use Rattle.link_model.specs.Fixing.{data_cut, data_fixed_by, data_goes, fixed_anew, is_last_of_all, waits_again}
 use Rattle.link_model.specs.Entering.{facts_entered_if}
 use Rattle.link_model.specs.Hosts.{asked_unless, is_to_come}
 use Rattle.link_model.specs.Packets.{good_pdu, is_forged}
@@ -98,6 +98,16 @@ module _ (setup : Setup) (facts : Facts) where
       → (facts_after setup facts PduFixed).outgoing.more ≡ false
   more_nothing is next goes =
       ap (λ (f : Facts). f.outgoing.more) (anew is) ∙ (λ i. (fixed_for (next i) (goes i)).more)
+
+  -- MD where the last PDU is sent again
+  abbrev again_for : Bool → Bool
+  again_for ends =
+      waits_again ends (is_some (next_control facts)) (data_goes facts) (is_quiet_now facts)
+      (waiting_in facts.control.table.queue) (next_piece (data_cut facts))
+
+  pub more_again : (ends : Bool) → is_control facts.outgoing.fixed ≡ false → is_last_of_all facts ≡ ends
+      → (facts_after setup facts PduFixed).outgoing.more_again ≡ again_for ends
+  more_again ends is last = ap (λ (f : Facts). f.outgoing.more_again) (anew is) ∙ ap again_for last
 
 -- ---- a control PDU that has left the queue is the one that goes
 

@@ -19,7 +19,10 @@ pub mod Counts
 pub mod Numbering
 pub mod Sending
 pub mod Taking
+pub mod TurnParts
 pub mod Repeating
+pub mod MoreData
+pub mod KeptPdus
 pub mod Llids
 pub mod Fixing
 pub mod Skipping

@@ -17,7 +17,7 @@ use Rattle.link_model.specs.Facts.{Facts, first_facts}
 use Rattle.link_model.specs.Step.{Step, DataGiven, DataReported, Disconnected, EventEntered, PacketReceived, PacketSent, PduFixed, ProcedureAsked, RequestAnswered, KeyAnswered, WordsGiven}
 use Rattle.link_model.specs.Controls.{goes_on, is_procedure_pdu, next_control, pdu_of_control, is_quiet_now}
 use Rattle.link_model.specs.Entering.{facts_entered_if}
-use Rattle.link_model.specs.Fixing.{data_cut, data_fixed_by, data_goes, fixed_anew}
+use Rattle.link_model.specs.Fixing.{data_cut, data_fixed_by, data_goes, fixed_anew, is_more_again}
 use Rattle.link_model.specs.Hosts.{asked_unless, is_to_come}
 use Rattle.link_model.specs.Packets.{good_pdu, is_forged}
 use Rattle.link_model.specs.Sending.{control_gone_if, data_sent_as, facts_sent, takes_leave}
@@ -34,9 +34,10 @@ pub record EachMoveKeeps (P : Acknowledgement → Data → Type 0) : Type 0 wher
       → P ack (data_given handle start body outgoing)
   pub reported : (ack : Acknowledgement) (outgoing : Data) → P ack outgoing → P ack (data_reported outgoing)
   -- a PDU is fixed
-  pub fixed : (control : Bool) (waiting limit : ℕ) (quiet goes : Bool) (ack : Acknowledgement) (outgoing : Data)
+  pub fixed : (control : Bool) (waiting limit : ℕ) (quiet goes again : Bool) (ack : Acknowledgement) (outgoing : Data)
       → P ack outgoing
-      → P ack (data_fixed_by control waiting quiet goes (record outgoing { limit = limit }))
+      → P ack
+      (record (data_fixed_by control waiting quiet goes (record outgoing { limit = limit })) { more_again = again })
   -- a control PDU leaves the queue, where the last PDU is acknowledged
   pub gone : (control : Option Ctrl) (ack : Acknowledgement) (outgoing : Data) → is_acked ack ≡ true → P ack outgoing
       → P ack (record outgoing { fixed = pdu_of_control control })
@@ -69,7 +70,7 @@ module _ (P : Acknowledgement → Data → Type 0) (moves : EachMoveKeeps P) whe
   fixed true facts h = h
   fixed false facts h =
       moves.fixed (is_some (next_control facts)) (waiting_in facts.control.table.queue) (data_cut facts).limit
-      (is_quiet_now facts) (data_goes facts) facts.acknowledgement facts.outgoing h
+      (is_quiet_now facts) (data_goes facts) (is_more_again facts) facts.acknowledgement facts.outgoing h
 
   gone : (goes : Bool) (slot : ℕ) (facts : Facts) → (goes ≡ true → takes_leave facts ≡ true) → Holds facts
       → Holds (control_gone_if goes slot facts)

@@ -94,14 +94,15 @@ pub cut_again : (limit : ℕ) (found : Option DataPacket)
 cut_again limit None = refl
 cut_again limit (Some packet) = ap (λ piece. pdu_with (Some piece)) (piece-again limit packet)
 
-fixed_together : (control : Bool) (waiting limit : ℕ) (quiet goes : Bool) (ack : Acknowledgement) (outgoing : Data)
+fixed_together : (control : Bool) (waiting limit : ℕ) (quiet goes again : Bool) (ack : Acknowledgement) (outgoing : Data)
     → IsTogether ack outgoing
-    → IsTogether ack (data_fixed_by control waiting quiet goes (record outgoing { limit = limit }))
-fixed_together true waiting limit quiet goes ack outgoing are =
+    → IsTogether ack
+    (record (data_fixed_by control waiting quiet goes (record outgoing { limit = limit })) { more_again = again })
+fixed_together true waiting limit quiet goes again ack outgoing are =
     record { kept = are.kept; counts = are.counts; next = empty_next outgoing.packets }
-fixed_together false waiting limit quiet false ack outgoing are =
+fixed_together false waiting limit quiet false again ack outgoing are =
     record { kept = are.kept; counts = are.counts; next = empty_next outgoing.packets }
-fixed_together false waiting limit quiet true ack outgoing are =
+fixed_together false waiting limit quiet true again ack outgoing are =
     record {
       kept = are.kept;
       counts = are.counts;

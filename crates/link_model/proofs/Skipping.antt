@@ -1,5 +1,5 @@
 -- Which events an end wants.
-use Rattle.std.proofs.Common.{◌≡◌, ◌<◌, ℕ, ◌+◌, ◌==◌, nat_le, nat_lt, ◌&&◌, ◌||◌, not, Bool, true, false, length, Option, Some, None, refl, ap, ◌∙◌, arith}
+use Rattle.std.proofs.Common.{◌≡◌, ◌<◌, ℕ, ◌+◌, ◌==◌, nat_le, nat_lt, ◌&&◌, ◌||◌, not, Bool, true, false, length, Option, Some, None, refl, ap, sym, ◌∙◌, arith}
 use Rattle.std.proofs.lemmas.Bool.{ne_eqb}
 use Rattle.std.proofs.lemmas.Bool.Decides.{nat_tests}
 use Rattle.ble_base.specs.declared.roles.Role.{Role}
@@ -13,8 +13,24 @@ use Rattle.link_model.specs.declared.events.Reception.{Reception}
 use Rattle.link_model.specs.Acknowledgement.{is_acked}
 use Rattle.link_model.specs.Data.{is_empty, unsent_of}
 use Rattle.link_model.specs.Lost.{is_recent, skips_by}
-use Rattle.link_model.specs.Facts.{Facts}
+use Rattle.link_model.specs.Facts.{Facts, params_of}
+use Rattle.link_model.specs.Step.{EventEntered}
+use Rattle.link_model.specs.Controls.{goes_on}
+use Rattle.link_model.specs.Entering.{facts_entered, facts_entered_if}
+use Rattle.link_model.specs.End.{facts_after}
 use Rattle.link_model.specs.Times.{has_nothing_to_send, is_idle, wants_of}
+
+-- ---- an event is entered
+
+pub in_force : (setup : Setup) (facts : Facts) (slot : ℕ) → goes_on facts ≡ true
+    → let after = facts_after setup facts (EventEntered slot) in after.event.latency ≡ (params_of after).latency
+in_force setup facts slot goes =
+    ap (λ (f : Facts). f.event.latency) (entered goes) ∙ ap (λ (f : Facts). (params_of f).latency) (sym (entered goes))
+  where
+    entered : goes_on facts ≡ true → facts_after setup facts (EventEntered slot) ≡ facts_entered setup slot facts
+    entered is = ap (λ b. facts_entered_if b setup slot facts) is
+
+-- ---- which events it wants
 
 pub no_last : (first : Bool) → (first && false) ≡ false
 no_last true = refl

@@ -20,10 +20,11 @@ pub record Data : Type 0 where
   pub reported : ℕ
   -- the most octets of a piece
   pub limit : ℕ
-  -- the PDU that is sent next where the last one is acknowledged, as the turn began, and whether a further one waited
-  -- then
+  -- the PDU that is sent next where the last one is acknowledged, as the turn began; whether a further one waited then,
+  -- and whether one waited after the last PDU, where that is sent again
   pub fixed : Pdu
   pub more : Bool
+  pub more_again : Bool
   -- the payload of the PDU that was sent last, as it was on the air
   pub payload : List ℕ
 
@@ -37,6 +38,7 @@ first_data = record {
   limit = first_payload_octets;
   fixed = empty_pdu;
   more = false;
+  more_again = false;
   payload = empty_pdu.body;
 }
 

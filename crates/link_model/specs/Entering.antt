@@ -12,7 +12,7 @@ use Rattle.phased_end.specs.control_end.Held.{held_of}
 use Rattle.link_model.specs.Setup.{Setup}
 use Rattle.link_model.specs.declared.events.ConnectionEvent.{ConnectionEvent}
 use Rattle.link_model.specs.Events.{applied_notes, event_entered}
-use Rattle.link_model.specs.Facts.{Facts, keyed_of, params_of, with_keyed}
+use Rattle.link_model.specs.Facts.{Facts, keyed_of, with_keyed}
 use Rattle.link_model.specs.Controls.{goes_on, is_long, is_quiet_now}
 
 -- the indication that waits holds from its Instant on, and then a procedure may begin; with an encryption its phase changes
@@ -25,7 +25,7 @@ control_entered slot facts = (keyed_entered slot facts).phased.control
 abbrev pub facts_entered : Setup → ℕ → Facts → Facts
 facts_entered setup slot facts =
     record (with_keyed (keyed_entered slot facts) facts) {
-      event = event_entered setup slot (params_of facts).latency (control_entered slot facts).track;
+      event = event_entered setup slot (control_entered slot facts).track;
       lengths = record facts.lengths { long = is_long facts.control.table.lengths; changed = false };
     }
 

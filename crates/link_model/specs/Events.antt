@@ -12,15 +12,15 @@ use Rattle.link_model.specs.Setup.{Setup, algorithm_of}
 abbrev pub no_event : ConnectionEvent
 no_event = record { number = 0; slot = 0; channel = 0; latency = 0; heard = false; more = false }
 
--- ---- it is entered, with its anchor in this slot (section 4.5.1)
+-- ---- it is entered, with its anchor in this slot and the parameters that are in force from it on (section 4.5.1)
 
-abbrev pub event_entered : Setup → ℕ → ℕ → TrackFacts → ConnectionEvent
-event_entered setup slot latency parameters =
+abbrev pub event_entered : Setup → ℕ → TrackFacts → ConnectionEvent
+event_entered setup slot parameters =
     record {
       number = event_of parameters;
       slot = slot;
       channel = channel_of (algorithm_of setup.link) (event_of parameters) parameters.params.map;
-      latency = latency;
+      latency = parameters.params.latency;
       heard = false;
       more = false;
     }

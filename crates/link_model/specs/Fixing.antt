@@ -1,13 +1,14 @@
 -- As a turn begins, an end fixes the PDU that it sends next (Core 5.2, volume 6 part B, sections 2.4 and 4.5.6; the order
 -- is our choice).
-use Rattle.std.specs.Prelude.{ℕ, nat_lt, ◌||◌, ◌&&◌, Bool, false, not, [], is_some, if◌then◌else◌}
+use Rattle.std.specs.Prelude.{ℕ, nat_lt, ◌||◌, ◌&&◌, Bool, false, not, [], Option, is_some, if◌then◌else◌}
+use Rattle.acl_banks.specs.declared.pieces.Piece.{Piece}
 use Rattle.phased_end.specs.control_end.procedure_stages.Closing.{is_disconnecting}
 use Rattle.phased_end.specs.control_end.procedure_stages.Queue.{waiting_in}
 use Rattle.phased_end.specs.control_end.procedure_values.Limits.{tx_of}
 use Rattle.link_model.specs.Acknowledgement.{empty_pdu}
 use Rattle.link_model.specs.Data.{Data, data_fixed, is_control, next_piece}
 use Rattle.link_model.specs.Facts.{Facts}
-use Rattle.link_model.specs.Controls.{is_quiet_now, next_control}
+use Rattle.link_model.specs.Controls.{is_quiet_now, is_terminate, next_control}
 
 -- its data, cut into pieces of at most the effective length (section 4.5.10)
 abbrev pub data_cut : Facts → Data
@@ -34,13 +35,32 @@ abbrev pub data_fixed_by : Bool → ℕ → Bool → Bool → Data → Data
 data_fixed_by control waiting quiet goes outgoing =
     if control then control_fixed waiting quiet outgoing else data_fixed_if goes outgoing
 
+-- ---- where the last PDU is sent again
+
+-- the last PDU is LL_TERMINATE_IND of a Disconnect that was accepted: nothing is sent after it
+abbrev pub is_last_of_all : Facts → Bool
+is_last_of_all facts = is_disconnecting facts.control.table.closing && is_terminate facts.acknowledgement.last
+
+-- MD is 1 where the PDU that is fixed is not empty. After LL_TERMINATE_IND it is 1 where a control PDU waits, or data in
+-- phase Clear or Secure, although it never goes (section 4.5.6; that this counts is our choice)
+abbrev pub waits_again : (ends control goes quiet : Bool) → ℕ → Option Piece → Bool
+waits_again ends control goes quiet waiting piece =
+    if ends then nat_lt 0 waiting || (quiet && is_some piece) else control || (goes && is_some piece)
+
+abbrev pub is_more_again : Facts → Bool
+is_more_again facts =
+    waits_again (is_last_of_all facts) (is_some (next_control facts)) (data_goes facts) (is_quiet_now facts)
+    (waiting_in facts.control.table.queue) (next_piece (data_cut facts))
+
+-- ---- all of it
+
 abbrev pub fixed_anew : Facts → Facts
 fixed_anew facts =
     record facts {
       fixes_control = is_some (next_control facts);
       outgoing =
-          data_fixed_by (is_some (next_control facts)) (waiting_in facts.control.table.queue) (is_quiet_now facts)
-          (data_goes facts) (data_cut facts);
+          record (data_fixed_by (is_some (next_control facts)) (waiting_in facts.control.table.queue)
+          (is_quiet_now facts) (data_goes facts) (data_cut facts)) { more_again = is_more_again facts };
     }
 
 -- a control PDU that has left the queue and is not sent stays the one that is fixed

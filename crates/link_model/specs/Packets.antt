@@ -21,10 +21,11 @@ use Rattle.link_model.specs.Controls.{pdu_fixed}
 abbrev pub pdu_sent : Facts → Pdu
 pdu_sent facts = if is_acked facts.acknowledgement then pdu_fixed facts else facts.acknowledgement.last
 
--- MD: a further PDU waited as the turn began. After one that is sent again, that is the fixed one, unless it is empty
--- (section 4.5.6; when it is looked at is our choice)
+-- MD: a further PDU waited as the turn began, after the one that the packet carries. What the end takes in this turn
+-- changes nothing of it (section 4.5.6; when it is looked at is our choice)
 abbrev pub more_sent : Facts → Bool
-more_sent facts = if is_acked facts.acknowledgement then facts.outgoing.more else not (is_empty (pdu_fixed facts))
+more_sent facts =
+    if is_acked facts.acknowledgement then facts.outgoing.more else facts.outgoing.more_again
 
 -- the payload of that packet: it is made as the PDU is first sent, and the same octets are sent again (section 4.5.9)
 abbrev pub payload_sent : Facts → List ℕ

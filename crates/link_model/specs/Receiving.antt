@@ -10,7 +10,8 @@ use Rattle.ble_base.specs.declared.roles.Role.TheVariants.{Central, Peripheral}
 use Rattle.ack_bit.specs.AckBits.{acknowledges}
 use Rattle.data_pdu.specs.declared.ctrl.Ctrl.TheVariants.{FeatureReq, FeatureRsp, PeripheralFeatureReq, VersionInd}
 use Rattle.data_pdu.specs.declared.ctrl.CtrlRead.{CtrlRead}
-use Rattle.data_pdu.specs.declared.ctrl.CtrlRead.TheVariants.{Known}
+use Rattle.data_pdu.specs.declared.ctrl.Ctrl.{Ctrl}
+use Rattle.data_pdu.specs.declared.ctrl.CtrlRead.TheVariants.{Bare, Known}
 use Rattle.data_pdu.specs.declared.header.DataHeader.{DataHeader}
 use Rattle.data_pdu.specs.Header.{header_in}
 use Rattle.phased_end.specs.control_end.procedure_stages.declared.steps.Effect.{Effect}
@@ -131,10 +132,21 @@ peer_from_if goes_on read peer = if goes_on then peer_from read peer else peer
 abbrev pub is_seen : Pdu → Facts → Bool
 is_seen pdu facts = is_handed (read_of pdu) (keyed_held (keyed_of facts))
 
--- a PDU is read as it is taken, also where it is kept and answered later; an end that ended the link by it knows nothing
--- of it
+-- what was kept before, and is not any more, was answered
+abbrev pub kept_answered : Option Ctrl → Option Ctrl → CtrlRead
+kept_answered (Some ctrl) None = Known ctrl
+kept_answered before after = Bare
+
+-- a PDU is known as it is answered: as it is taken, and one that is kept later. An end that ended the link by it knows
+-- nothing of it (our choice)
+abbrev pub peer_answered : (goes_on seen : Bool) → (read kept : CtrlRead) → PeerFacts → PeerFacts
+peer_answered goes_on seen read kept peer = peer_from_if goes_on kept (peer_from_if (goes_on && seen) read peer)
+
 abbrev pub peer_taken : Pdu → ℕ → Facts → PeerFacts
-peer_taken pdu slot facts = peer_from_if (is_none (control_taken pdu slot facts).ends) (read_of pdu) facts.peer
+peer_taken pdu slot facts =
+    let after = keyed_taken pdu slot facts in
+    peer_answered (is_none after.phased.control.ends) (is_seen pdu facts) (read_of pdu)
+    (kept_answered facts.encryption.kept after.phased.kept) facts.peer
 
 abbrev pub lengths_seen : Lengths → Lengths → KnownLengths → KnownLengths
 lengths_seen before after lengths = record lengths { changed = lengths.changed || not (are_equal before after) }

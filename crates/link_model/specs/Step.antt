@@ -1,5 +1,5 @@
 -- What happens to one end of a link, step by step (our choice).
-use Rattle.std.specs.Prelude.{ℕ, Bool, List, Option, Result}
+use Rattle.std.specs.Prelude.{ℕ, Bool, true, false, List, Option, Result}
 use Rattle.ble_base.specs.declared.error_codes.ErrCode.{ErrCode}
 use Rattle.phased_end.specs.control_end.procedure_values.declared.asks.Ask.{Ask}
 
@@ -25,3 +25,7 @@ pub data Step : Type 0 where
   PacketReceived : (slot : ℕ) (octets : List ℕ) (room : Bool) → Step
   -- the complete packets are reported to its host
   DataReported : Step
+
+abbrev pub begins_turn : Step → Bool
+begins_turn PduFixed = true
+begins_turn other = false

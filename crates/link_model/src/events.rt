@@ -9,7 +9,7 @@ pub struct ConnectionEvent {
     pub slot: u64,
     /// Its data channel, 0 to 36.
     pub channel: u8,
-    /// The latency that was in force as it was entered, in connection events.
+    /// The latency that is in force in it, in connection events.
     pub latency: u16,
     /// A good packet was received in its first exchange.
     pub heard: bool,

@@ -2,7 +2,7 @@
 //! the laws.
 ghost use Rattle.std.specs.Prelude.{◌≡◌, ◌<◌, ◌≤◌, ◌+◌, ◌-◌, ℕ, nat_lt, Bool, true, false, List};
 ghost use Rattle.std.specs.Prelude.{[], ◌∷◌, ◌++◌, length, take, Some, None, slice_get};
-ghost use Rattle.std.specs.Prelude.{◌&&◌, not, is_some};
+ghost use Rattle.std.specs.Prelude.{◌&&◌, ◌||◌, not, is_none, is_some};
 ghost use Rattle.std.specs.List.{filter, find};
 ghost use Rattle.std.specs.Option.{option_map};
 ghost use Rattle.acl_banks.specs.Packets.{piece_of};
@@ -12,6 +12,7 @@ ghost use Rattle.ble_base.specs.ErrorCodes.{mic_failure};
 ghost use Rattle.phased_end.specs.control_end.procedure_stages.declared.steps.Effect.TheVariants.{Nothing};
 ghost use Rattle.ack_bit.specs.Nonempty.{nonempty};
 ghost use Rattle.data_pdu.specs.declared.ctrl.Ctrl.{Ctrl};
+ghost use Rattle.data_pdu.specs.declared.ctrl.CtrlRead.TheVariants.{Bare, Known};
 ghost use Rattle.data_pdu.specs.declared.header.DataHeader.{DataHeader};
 ghost use Rattle.data_pdu.specs.Header.{header_in};
 ghost use Rattle.instants.specs.Track.{is_free};
@@ -32,18 +33,21 @@ ghost use Rattle.link_model.specs.Numbers.{is_took_note};
 ghost use Rattle.link_model.specs.Verdicts.{pdu_of};
 ghost use Rattle.link_model.specs.OneLink.{AreInAgreement};
 ghost use Rattle.link_model.specs.Payload.{CanOpen, payload_made};
-ghost use Rattle.link_model.specs.Facts.{Facts, keyed_of};
+ghost use Rattle.link_model.specs.Facts.{Facts, keyed_of, params_of};
 ghost use Rattle.link_model.specs.Controls.{goes_on, is_long, is_quiet_now, next_control};
-ghost use Rattle.link_model.specs.Controls.{pdu_fixed, pdu_of_control};
-ghost use Rattle.link_model.specs.Step.{Step, PacketReceived, PacketSent, PduFixed};
-ghost use Rattle.link_model.specs.Fixing.{data_cut, data_goes};
+ghost use Rattle.link_model.specs.Controls.{pdu_fixed, pdu_of_control, read_of};
+ghost use Rattle.link_model.specs.Step.{Step, EventEntered, PacketReceived, PacketSent};
+ghost use Rattle.link_model.specs.Step.{PduFixed, begins_turn};
+ghost use Rattle.link_model.specs.Fixing.{data_cut, data_goes, is_last_of_all};
 ghost use Rattle.link_model.specs.Packets.{FitsReceiver, good_pdu, header_sent, is_forged};
-ghost use Rattle.link_model.specs.Packets.{packet_sent, payload_sent};
+ghost use Rattle.link_model.specs.Packets.{more_sent, packet_sent, payload_sent};
 ghost use Rattle.link_model.specs.Packets.{pdu_sent, verdict_of};
 ghost use Rattle.link_model.specs.Hearing.{IsOpened, IsUnderstood, is_on_air, pdu_heard};
 ghost use Rattle.link_model.specs.Hearing.{pdu_octets};
 ghost use Rattle.link_model.specs.Sending.{facts_sent};
-ghost use Rattle.link_model.specs.Receiving.{accepts, effect_of, ended_by_forgery};
+ghost use Rattle.link_model.specs.Receiving.{accepts, control_taken, effect_of};
+ghost use Rattle.link_model.specs.Receiving.{ended_by_forgery, is_seen, kept_answered};
+ghost use Rattle.link_model.specs.Receiving.{keyed_taken, peer_from, peer_from_if, peer_taken};
 ghost use Rattle.link_model.specs.Receiving.{facts_hearing, notes_hearing, replies_of};
 ghost use Rattle.link_model.specs.Times.{ending_of, has_second_exchange, wants_of};
 ghost use Rattle.link_model.specs.KeyedSteps.{is_forged_in_step};
@@ -226,8 +230,11 @@ pub fn a_payload_is_sent_again()
 /// nothing else waits: no other control PDU, also none that may not be sent yet, and no piece of
 /// data that the phase lets go. Where none may be sent and data goes, the next piece of at most the
 /// effective length is fixed, or an empty PDU where there is none, and MD says whether octets of
-/// data wait after it. Where no data goes, an empty PDU is fixed, with MD 0 (Core 5.2, volume 6
-/// part B, sections 4.5.6 and 4.5.10).
+/// data wait after it. Where no data goes, an empty PDU is fixed, with MD 0. MD of the last PDU,
+/// where that is sent again, is whether a PDU waits after that: a control PDU that may be sent, or a
+/// piece where data goes. After LL_TERMINATE_IND of an accepted Disconnect nothing is sent, and MD
+/// is whether any control PDU waits, or a piece that the phase lets go (Core 5.2, volume 6 part B,
+/// sections 4.5.6 and 4.5.10).
 pub fn control_pdus_go_before_data()
     ensures stays { (setup : Setup) (facts : Facts) → is_control facts.outgoing.fixed ≡ true
         → facts_after setup facts PduFixed ≡ facts }
@@ -258,12 +265,41 @@ pub fn control_pdus_go_before_data()
         → is_control facts.outgoing.fixed ≡ false → next_control facts ≡ None
         → data_goes facts ≡ false
         → (facts_after setup facts PduFixed).outgoing.more ≡ false }
+    ensures again { (setup : Setup) (facts : Facts) → is_control facts.outgoing.fixed ≡ false
+        → is_last_of_all facts ≡ false
+        → (facts_after setup facts PduFixed).outgoing.more_again
+        ≡ (is_some (next_control facts)
+        || (data_goes facts && is_some (next_piece (data_cut facts)))) }
+    ensures again_at_end { (setup : Setup) (facts : Facts)
+        → is_control facts.outgoing.fixed ≡ false → is_last_of_all facts ≡ true
+        → (facts_after setup facts PduFixed).outgoing.more_again
+        ≡ (nat_lt 0 (waiting_in facts.control.table.queue)
+        || (is_quiet_now facts && is_some (next_piece (data_cut facts)))) }
 {}
 
-/// A central wants every event, and so does a peripheral whose latency is 0. A peripheral wants an
-/// event too where a PDU with a payload is not acknowledged, a control PDU or data waits, a
-/// procedure is in progress, or an indication waits (Core 5.2, volume 6 part B, section 4.5.1).
+/// MD of the packet that an end sends in a turn is what waited as the turn began, and nothing that
+/// it receives before changes it. A new PDU has whether a further one waited after it, and a PDU
+/// that is sent again has whether one waited after that, which changes only as a turn begins (Core
+/// 5.2, volume 6 part B, section 4.5.6; when it is looked at is our choice).
+pub fn md_is_what_waited_as_the_turn_began()
+    ensures new { (setup : Setup) (facts : Facts) (slot : ℕ) (octets : List ℕ) (room : Bool)
+        → let after = facts_after setup facts (PacketReceived slot octets room) in
+        is_acked after.acknowledgement ≡ true → more_sent after ≡ facts.outgoing.more }
+    ensures again { (setup : Setup) (facts : Facts) (slot : ℕ) (octets : List ℕ) (room : Bool)
+        → let after = facts_after setup facts (PacketReceived slot octets room) in
+        is_acked after.acknowledgement ≡ false → more_sent after ≡ facts.outgoing.more_again }
+    ensures stays { (setup : Setup) (facts : Facts) (step : Step) → begins_turn step ≡ false
+        → (facts_after setup facts step).outgoing.more_again ≡ facts.outgoing.more_again }
+{}
+
+/// A central wants every event, and so does a peripheral whose latency is 0: the latency of an event
+/// is the one that is in force in it, as the end has entered it. A peripheral wants an event too
+/// where a PDU with a payload is not acknowledged, a control PDU or data waits, a procedure is in
+/// progress, or an indication waits (Core 5.2, volume 6 part B, section 4.5.1).
 pub fn only_latency_skips_events()
+    ensures in_force { (setup : Setup) (facts : Facts) (slot : ℕ) → goes_on facts ≡ true
+        → let after = facts_after setup facts (EventEntered slot) in
+        after.event.latency ≡ (params_of after).latency }
     ensures central { (setup : Setup) (facts : Facts) → setup.link.role ≡ Central
         → wants_of setup facts ≡ true }
     ensures no_latency { (setup : Setup) (facts : Facts) → facts.event.latency ≡ 0
@@ -334,6 +370,28 @@ pub fn nothing_is_taken_after_the_end()
     ensures noted { (setup : Setup) (facts : Facts) (step : Step)
         → (facts_after setup facts step).leaving.acknowledged ≡ true
         → filter is_took_note (notes_after setup facts step) ≡ [] }
+{}
+
+/// An end knows the features and the version of its peer from a PDU that has them as it answers
+/// that: as it takes it, or, where a central keeps it while its encryption runs, as it answers what
+/// it kept. As it keeps a PDU, it knows nothing of that; and an end that ended the link by a PDU
+/// knows nothing of it (Core 5.2, volume 6 part B, sections 2.4.2.9 to 2.4.2.15 and 5.1.3).
+pub fn a_kept_pdu_is_known_as_it_is_answered()
+    ensures kept { (pdu : Pdu) (slot : ℕ) (facts : Facts) → is_seen pdu facts ≡ false
+        → kept_answered facts.encryption.kept (keyed_taken pdu slot facts).phased.kept ≡ Bare
+        → peer_taken pdu slot facts ≡ facts.peer }
+    ensures answered { (pdu : Pdu) (slot : ℕ) (facts : Facts) (ctrl : Ctrl)
+        → facts.encryption.kept ≡ Some ctrl → (keyed_taken pdu slot facts).phased.kept ≡ None
+        → is_none (control_taken pdu slot facts).ends ≡ true
+        → peer_taken pdu slot facts
+        ≡ peer_from (Known ctrl)
+        (peer_from_if (is_seen pdu facts) (read_of pdu) facts.peer) }
+    ensures seen { (pdu : Pdu) (slot : ℕ) (facts : Facts) → is_seen pdu facts ≡ true
+        → facts.encryption.kept ≡ None → is_none (control_taken pdu slot facts).ends ≡ true
+        → peer_taken pdu slot facts ≡ peer_from (read_of pdu) facts.peer }
+    ensures ended { (pdu : Pdu) (slot : ℕ) (facts : Facts)
+        → is_none (control_taken pdu slot facts).ends ≡ false
+        → peer_taken pdu slot facts ≡ facts.peer }
 {}
 
 /// Two ends are in agreement as their link begins, and stay so: where one of them sends, also where

@@ -17,7 +17,6 @@ use Rattle.link_model.proofs.BodyPayloads.{anew_same as fixed_payload, given_sam
 use Rattle.link_model.proofs.Ending.{key_stays}
 use Rattle.link_model.proofs.Fixing.{given_control as given_fixed}
 use Rattle.link_model.proofs.phased_end.keyed_control.Phases.{phased_once}
-use Rattle.link_model.specs.declared.events.ConnectionEvent.{ConnectionEvent}
 use Rattle.link_model.specs.declared.state.KnownLengths.{KnownLengths}
 use Rattle.link_model.specs.Acknowledgement.{Acknowledgement, Pdu, is_acked}
 use Rattle.link_model.specs.Data.{Data, data_given, data_reported, is_control, is_empty}
@@ -178,22 +177,6 @@ same_still setup facts =
     record {
       control = takes_none facts.control;
       lacks = λ is. is;
-      end = λ shut. refl;
-      phase = λ shut. refl;
-      acknowledgement = refl;
-      payload = refl;
-      none_gone = λ none. none;
-      by_peer = refl;
-      stays = refl;
-      answered = λ is. is;
-    }
-
--- only its event is another one
-pub event_still : (setup : Setup) (facts : Facts) (e : ConnectionEvent) → HasNothingNew setup facts (record facts { event = e })
-event_still setup facts e =
-    record {
-      control = takes_none facts.control;
-      lacks = λ is. record { role = is.role; asked = is.asked; none = is.none };
       end = λ shut. refl;
       phase = λ shut. refl;
       acknowledgement = refl;

@@ -31,9 +31,9 @@ fn encryption(ltk: [u8; 16]) -> Ask
     }
 }
 
-/// What a host asks: an update to a timeout of 1 s, a request for 40 ms, a map of the channels 0 to
-/// 32, at most 251 octets, a PHY update, the features of the peer, an encryption, one with another
-/// key, or the version of the peer.
+/// What a host asks: an update to a timeout of 1 s, with a latency of no event or of one, a request
+/// for 40 ms, a map of the channels 0 to 32, at most 251 octets, a PHY update, the features of the
+/// peer, an encryption, one with another key, or the version of the peer.
 pub fn ask_named(name: &str) -> Ask
     ensures { IsAsk result }
 {
@@ -41,6 +41,11 @@ pub fn ask_named(name: &str) -> Ask
         "update" => Ask::Update {
             interval: 24,
             latency: 0,
+            timeout: 100,
+        },
+        "latency" => Ask::Update {
+            interval: 24,
+            latency: 1,
             timeout: 100,
         },
         "request" => Ask::Request {
@@ -109,6 +114,7 @@ fn look_further(end: &End, name: &str, told: &mut String) -> Result<(), AllocErr
         "span" => put_number(told, u64::from(end.link.span())),
         "timeout" => put_number(told, u64::from(end.link.params().timeout)),
         "wants" => put_answer(told, end.wants()),
+        "again" => put_answer(told, end.link.again()),
         "knows_version" => put_answer(told, end.link.peer().version.is_some()),
         _ => told.push_str(" which call?"),
     }

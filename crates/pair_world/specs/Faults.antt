@@ -1,17 +1,20 @@
--- What is lawful of a run that has no whole journal (our choice).
+-- Why a run has no whole journal (our choice).
 use Rattle.std.specs.Prelude.{ℕ, List, ⊤}
-use Rattle.journal_pdus.specs.Lawful.{IsLawful}
-use Rattle.journal_pdus.specs.Undelivered.{IsUndelivered}
-use Rattle.radio_replay.specs.Script.{Script}
-use Rattle.simulated_pair.specs.declared.run.RunFault.{RunFault}
-use Rattle.simulated_pair.specs.declared.run.RunFault.TheVariants.{Unseen as UnseenFault, Memory as OutOfMemory}
+use Rattle.journal.specs.declared.entries.Entry.{Entry}
+use Rattle.run_model.specs.Pair.{EndsUnseen}
+use Rattle.run_model.specs.Run.{Given}
+use Rattle.pair_world.specs.declared.run.RunFault.{RunFault}
+use Rattle.pair_world.specs.declared.run.RunFault.TheVariants.{Unseen as UnseenFault, Memory as OutOfMemory}
+use Rattle.pair_world.specs.declared.stops.Stop.{Stop}
+use Rattle.pair_world.specs.declared.stops.Stop.TheVariants.{Unseen, Memory}
 
--- the journal before unseen damage is lawful
-abbrev pub IsLawfulSoFar : List ℕ → List ℕ → Script → RunFault → Type 0
-IsLawfulSoFar a b script OutOfMemory = ⊤
-IsLawfulSoFar a b script (UnseenFault turn packet sent heard journal) = IsLawful a b script journal
+-- unseen damage ends the run at this packet, or there is no memory
+abbrev pub IsRunFault : Given → RunFault → Type 0
+IsRunFault given OutOfMemory = ⊤
+IsRunFault given (UnseenFault turn packet sent heard journal) = EndsUnseen given turn packet sent heard journal
 
--- and that packet is the one that is due after it
-abbrev pub IsDueAtFault : Script → RunFault → Type 0
-IsDueAtFault script OutOfMemory = ⊤
-IsDueAtFault script (UnseenFault turn packet sent heard journal) = IsUndelivered script turn packet sent heard journal
+-- the fault of a stop in the turn of this slot, with the journal so far
+abbrev pub fault_of : Stop → ℕ → List Entry → RunFault
+fault_of Memory turn journal = OutOfMemory
+fault_of (Unseen unseen) turn journal =
+    UnseenFault turn unseen.packet unseen.sent.items unseen.heard.items journal

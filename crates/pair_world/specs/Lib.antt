@@ -1,7 +1,10 @@
 -- The definitions that the contracts of this crate cite.
+pub mod KnownLinks
+pub mod Logs
+pub mod Stations
+pub mod Order
+pub mod Outcomes
+pub mod Wishes
+pub mod Air
+pub mod Turns
 pub mod Faults
-pub mod Counts
--- what the crates above use of those below
-pub use Rattle.journal_pdus.specs as journal_pdus
-pub use Rattle.journal_pdus.specs.run_model as run_model
-pub use Rattle.simulated_pair.specs as simulated_pair

@@ -1,29 +1,122 @@
-//! A run, and what is lawful of its journal.
-ghost use Rattle.std.specs.Prelude.{◌≡◌, ◌≤◌, length, IfOk, IfErr};
-ghost use Rattle.journal_pdus.specs.run_model.Pair.{IsRun, given_of};
-ghost use Rattle.journal_pdus.specs.Lawful.{IsLawful, IsWhole};
-ghost use Rattle.pair_world.specs.Faults.{IsDueAtFault, IsLawfulSoFar};
-ghost use Rattle.simulated_pair.specs.Faults.{IsRunFault};
+//! A run.
+ghost use Rattle.std.specs.Prelude.{◌≡◌, ◌≤◌, ◌⊎◌, [], length, IfOk, IfErr};
+ghost use Rattle.controller_model.specs.Facts.{setup_of};
+ghost use Rattle.run_model.specs.Pair.{IsRun, given_of};
+ghost use Rattle.run_model.specs.Run.{Given};
+ghost use Rattle.pair_world.specs.Faults.{IsRunFault, fault_of};
+ghost use Rattle.pair_world.specs.Logs.{first_log};
+ghost use Rattle.pair_world.specs.Order.{MayBothBegin};
+ghost use Rattle.pair_world.specs.Stations.{IsFirst};
+ghost use Rattle.pair_world.specs.Turns.{HasPlans, PairIsUpTo};
 
-use journal::Journal;
+use crate::logs::Log;
+use crate::phases::{Pair, Wishes};
+use crate::stations::Station;
+use crate::stops::Stop;
+use crate::turns::run_turn;
+use ble_base::Outbox;
+use journal::{Journal, Octets};
 use radio_replay::Schedule;
-use simulated_pair::{RunFault, simulate};
-use std::alloc::Global;
+use std::alloc::{AllocError, Global};
 
-/// A public address has six octets.
-fn is_six(public: [u8; 6])
-    ensures { length public ≡ 6 }
-{
-    let [_, _, _, _, _, _] = public;
+/// Why a run has no whole journal.
+#[derive(Drop)]
+pub enum RunFault {
+    /// A packet was changed on the air, and its receiver would judge it good.
+    Unseen {
+        /// The slot of the turn.
+        turn: u64,
+        /// The place of the packet among those of the turn, counted from 1.
+        packet: u32,
+        /// Its octets as sent: the access address, least significant octet first, then, whitened,
+        /// the PDU and the CRC.
+        sent: Octets,
+        /// Its octets as they would be heard.
+        heard: Octets,
+        /// All that came before it.
+        journal: Journal,
+    },
+    /// There is no memory.
+    Memory,
 }
 
-/// Both public addresses have six octets.
-fn publics_are_six(schedule: &Schedule)
-    ensures a { length schedule.now.a.public ≡ 6 }
-    ensures b { length schedule.now.b.public ≡ 6 }
+impl From<AllocError> for RunFault {
+    ghost use Rattle.std.specs.Prelude.{◌≡◌};
+    ghost use Rattle.pair_world.specs.declared.run.RunFault.TheVariants.{Memory};
+
+    ghost from_gives = { λ _ fault. fault ≡ Memory };
+
+    fn from(_: AllocError) -> Self {
+        RunFault::Memory
+    }
+}
+
+impl RunFault {
+    /// The fault of a stop in the turn in this slot, with the journal so far. The octets of an
+    /// unseen packet are copied; the error is that there is no memory for them.
+    fn of(alloc: Global, stop: Stop, turn: u32, journal: Journal) -> Result<RunFault, AllocError>
+        ensures { IfOk result (λ fault. fault ≡ fault_of stop turn journal) }
+    {
+        match stop {
+            Stop::Memory => Ok(RunFault::Memory),
+            Stop::Unseen(unseen) => Ok(RunFault::Unseen {
+                turn: u64::from(turn),
+                packet: unseen.packet,
+                sent: Octets::copy(alloc, unseen.sent.as_slice())?,
+                heard: Octets::copy(alloc, unseen.heard.as_slice())?,
+                journal,
+            }),
+        }
+    }
+
+    /// Why the turn in this slot stopped the run, whose journal so far this is: the fault of its
+    /// stop, or that there is no memory to tell it.
+    fn told(alloc: Global, stop: Stop, turn: u32, journal: Journal) -> RunFault
+        ensures { (result ≡ fault_of stop turn journal) ⊎ (result ≡ RunFault.Memory) }
+    {
+        match RunFault::of(alloc, stop, turn, journal) {
+            Ok(fault) => fault,
+            Err(_) => RunFault::Memory,
+        }
+    }
+}
+
+/// Both stations before the first turn. The error is out of memory.
+fn start_both<'s>(
+    alloc: Global,
+    a: &'s [u8],
+    b: &'s [u8],
+    schedule: &Schedule,
+) -> Result<Pair<'s>, AllocError>
+    requires words_a { 1 ≤ length schedule.now.a.words.items }
+    requires words_b { 1 ≤ length schedule.now.b.words.items }
+    ensures up { IfOk result (λ pair. PairIsUpTo
+        (given_of a.now b.now schedule.now) 0 pair.a pair.b first_log []) }
+    ensures order { IfOk result (λ pair. MayBothBegin 0 pair.a pair.b) }
 {
-    is_six(schedule.a.public);
-    is_six(schedule.b.public);
+    Ok(Pair {
+        a: Station::start(alloc, schedule.a.copy(), a)?,
+        b: Station::start(alloc, schedule.b.copy(), b)?,
+    })
+}
+
+/// Runs all turns.
+fn run_turns(alloc: Global, schedule: &Schedule, mut pair: Pair<'_>) -> Result<Journal, RunFault>
+    requires order { MayBothBegin 0 pair.a pair.b }
+    ensures ok { IfOk result (λ journal. (given : Given) → HasPlans given schedule.now.turns
+        → PairIsUpTo given 0 pair.entry.a pair.entry.b first_log [] → IsRun given journal) }
+    ensures err { IfErr result (λ fault. (given : Given) → HasPlans given schedule.now.turns
+        → PairIsUpTo given 0 pair.entry.a pair.entry.b first_log [] → IsRunFault given fault) }
+{
+    let mut wanted = Wishes::new();
+    let mut out = Outbox::new();
+    let mut log = Log::new(alloc);
+    for turn in 0..schedule.turns() {
+        if let Err(stop) = run_turn(schedule, turn, &mut wanted, &mut pair, &mut out, &mut log) {
+            return Err(RunFault::told(alloc, stop, turn, log.into_journal()));
+        }
+    }
+    Ok(log.into_journal())
 }
 
 /// Runs two controllers over the streams of their hosts and a schedule, and gives the journal of
@@ -31,14 +124,6 @@ fn publics_are_six(schedule: &Schedule)
 /// are the H4 octets of the two hosts, in the order in which they are fed; those that the schedule
 /// leaves unfed are not part of the run. `schedule` has at least one random word for each
 /// controller.
-///
-/// The journal follows the schedule: its turns, what is fed in them, and the fates of packets are
-/// those of the schedule. In it, after each of its lines, what one host receives of a link is the
-/// first octets of what the other submitted, and no packet is reported as complete that the other
-/// side did not accept whole (Core 5.2, volume 4 part E, section 4.1). Each new PDU is the next piece
-/// of what a host submitted, and is taken as the first good packet brings it; MD says whether more
-/// waits; and between turns each host has all that its side took, or as many packets as its buffers
-/// take (volume 6 part B, sections 4.5.6 and 4.5.9; volume 4 part E, section 4.2).
 ///
 /// Errors: `Unseen` exactly where a fate changes a packet and its receiver would judge the changed
 /// one good; `Memory` where there is no memory for the two controllers, for a line of the journal,
@@ -48,16 +133,7 @@ pub fn run_pair(alloc: Global, a: &[u8], b: &[u8], schedule: &Schedule) -> Resul
     requires words_b { 1 ≤ length schedule.now.b.words.items }
     ensures ok { IfOk result (IsRun (given_of a.now b.now schedule.now)) }
     ensures err { IfErr result (IsRunFault (given_of a.now b.now schedule.now)) }
-    // It follows the schedule; links are those of their CONNECT_INDs, data arrives in order, and
-    // what goes out and what is taken is what is due.
-    ensures lawful { IfOk result (IsLawful a.now b.now schedule.now) }
-    ensures lawful_so_far { IfErr result (IsLawfulSoFar a.now b.now schedule.now) }
-    // The packet at which damage ends it is the one that is due next.
-    ensures due { IfErr result (IsDueAtFault schedule.now) }
-    // All turns begin, and at the end each host has what its buffers take.
-    ensures whole { IfOk result (IsWhole schedule.now) }
 {
-    journal_pdus::each_journal_is_lawful();
-    publics_are_six(schedule);
-    simulate(alloc, a, b, schedule)
+    let pair = start_both(alloc, a, b, schedule)?;
+    run_turns(alloc, schedule, pair)
 }

@@ -50,8 +50,8 @@ phy_event handle status = PhyComplete status handle le_1m le_1m
 
 -- ---- encryption
 
--- the link is encrypted from now on: Encryption Change, and where it was encrypted before Encryption Key Refresh Complete
--- (sections 7.7.8 and 7.7.39)
+-- the link is encrypted from now on: Encryption Change, and Encryption Key Refresh Complete where this end was in phase
+-- Secure before on this link (sections 7.7.8 and 7.7.39)
 abbrev pub encryption_event : ℕ → Bool → Event
 encryption_event handle was_encrypted =
     if was_encrypted then KeyRefresh success handle else EncryptionChange success handle 1
@@ -82,7 +82,7 @@ event_of_refusal handle params Version code = Some (RemoteVersion code.0 handle 
 event_of_refusal handle params Encrypt code = Some (EncryptionChange code.0 handle 0)
 event_of_refusal handle params other code = None
 
--- a control PDU has this effect on a link that was encrypted before, or was not (sections 7.7.65.6 and 7.7.65.7)
+-- a control PDU has this effect on a link where this end was Secure before, or was not (sections 7.7.65.6 and 7.7.65.7)
 abbrev pub event_of_effect : ℕ → Bool → Effect → Option Event
 event_of_effect handle was_encrypted (Lengths rx tx) = Some (length_event handle rx tx)
 event_of_effect handle was_encrypted (AskHost min max latency timeout) =

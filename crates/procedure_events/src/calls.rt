@@ -65,9 +65,9 @@ fn event_if_refused(handle: u16, params: &Params, refused: Option<(Kind, ErrCode
 }
 
 /// The events for a packet that is received: for the procedure `acked` that its acknowledgement
-/// completes, and for what its PDU does. `was_encrypted` says whether encryption started on the link
-/// before, `params` has the parameters of now, and `peer` what is known of the peer after the PDU.
-/// Lengths in the effect are at most 251 octets.
+/// completes, and for what its PDU does. `was_encrypted` says whether this end was in phase Secure
+/// before on this link, `params` has the parameters of now, and `peer` what is known of the peer
+/// after the PDU. Lengths in the effect are at most 251 octets.
 pub fn events_of_reception(
     handle: u16,
     was_encrypted: bool,

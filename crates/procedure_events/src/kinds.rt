@@ -136,7 +136,7 @@ pub fn event_of_refusal(handle: u16, params: &Params, kind: Kind, code: ErrCode)
     }
 }
 
-/// Encryption Change, or Encryption Key Refresh Complete where the link was encrypted before.
+/// Encryption Change, or Encryption Key Refresh Complete where this end was in phase Secure before.
 fn encryption_event(handle: u16, was_encrypted: bool) -> Event
     ensures { result ≡ encryption_event handle was_encrypted }
 {
@@ -163,7 +163,7 @@ fn event_of_cipher(handle: u16, was_encrypted: bool, ctrl: &Ctrl) -> Option<Even
 }
 
 /// The event for the effect of a control PDU of the peer, whose lengths are at most 251 octets, on a
-/// link that was encrypted before, or was not.
+/// link where this end was in phase Secure before, or was not.
 pub fn event_of_effect(handle: u16, was_encrypted: bool, effect: &Effect) -> Option<Event>
     requires { HasPayloadLengths effect.now }
     ensures { result ≡ event_of_effect handle was_encrypted effect.now }

@@ -5,7 +5,7 @@ use ble_base::{ChannelMap, ErrCode, EventNo, SlotNo};
 use data_pdu::{Ctrl, CtrlRead, read_ctrl};
 use procedures::{Ask, ProcTable};
 use std::alloc::AllocError;
-use test_words::{Call, hex_number, octets_of, put_answer, put_number, put_value, slot};
+use test_words::{Call, hex_number, number, octets_of, put_answer, put_number, put_value, slot};
 
 /// What a host asks: an update to 30 ms, a request for 40 ms, a map of the channels 0 to 32 or of
 /// all channels, a PHY update, at most 100 octets, or an encryption.
@@ -84,6 +84,7 @@ fn take_more(end: &mut ProcTable, call: Call<'_>, told: &mut String) -> Result<(
         "lengths" => put_value(told, &end.lengths()),
         "tick" => put_value(told, &end.tick(slot_no(first))),
         "owe" => owe(end, first, told),
+        "crowd" => crowd(end, number(first)),
         "refuse" => refuse(end, code_of(told, first), told),
         "terminate" => terminate(end, code_of(told, first), told),
         _ => told.push_str(" which call?"),
@@ -177,6 +178,16 @@ fn owe(end: &mut ProcTable, octets: &str, told: &mut String) -> Result<(), Alloc
         }
         _ => told.push_str(" cannot"),
     }
+}
+
+/// The layer above queues LL_UNKNOWN_RSP this many times.
+fn crowd(end: &mut ProcTable, count: u16) -> Result<(), AllocError> {
+    for _ in 0..count {
+        if end.waiting() < 24 {
+            end.owe(Ctrl::UnknownRsp { opcode: 0x0A });
+        }
+    }
+    Ok(())
 }
 
 /// The host of a central that was asked refuses.

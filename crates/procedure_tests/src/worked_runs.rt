@@ -109,6 +109,34 @@ central acked = None
 central busy = no
 peripheral busy = no
 new
+# A crowd of control PDUs.
+# While fifteen control PDUs wait, the host of the central is asked. While sixteen wait, the link
+# ends with Memory Capacity Exceeded where it would be asked.
+central crowd 15
+central take 26 0f2000200000004800000100ffffffffffffffffffffffff = Step { effect: AskHost { \
+    min: 32, max: 32, latency: 0, timeout: 72 }, ends: None, refused: None, done: None }
+new
+central crowd 16
+central take 26 0f2000200000004800000100ffffffffffffffffffffffff = Step { effect: Nothing, \
+    ends: Some(ErrCode(0x07)), refused: None, done: None }
+new
+# One indication waits for its Instant.
+# A second one that is taken meanwhile ends the link: with LL Procedure Collision where it is of the
+# same procedure, and else with Different Transaction Collision.
+peripheral take 26 01ffffffff010700 = Step { effect: Indicated(Map { map: ChannelMap { \
+    bits: 0x01ffffffff }, instant: 7 }), ends: None, refused: None, done: None }
+peripheral take 50 000100001800000064000700 = Step { effect: Nothing, \
+    ends: Some(ErrCode(0x2a)), refused: None, done: None }
+peripheral take 50 01ffffffff010700 = Step { effect: Nothing, \
+    ends: Some(ErrCode(0x23)), refused: None, done: None }
+new
+peripheral take 26 000100001800000064000700 = Step { effect: Indicated(Update { win_offset: 0, \
+    interval: 24, latency: 0, timeout: 100, instant: 7 }), ends: None, refused: None, done: None }
+peripheral take 50 000100001800000064000700 = Step { effect: Nothing, \
+    ends: Some(ErrCode(0x23)), refused: None, done: None }
+peripheral take 50 01ffffffff010700 = Step { effect: Nothing, \
+    ends: Some(ErrCode(0x2a)), refused: None, done: None }
+new
 # Response times out.
 # The peer has 32,000 slots from the slot in which LL_LENGTH_REQ was first sent.
 central ask length

@@ -1,6 +1,6 @@
 //! Calls of the program over files in memory.
-use ble_tool::ble_tool;
 use outside::{MemFiles, MemSink};
+use program::run_words;
 use std::alloc::{AllocError, Global};
 use test_words::{octets_of, push_lines};
 
@@ -51,7 +51,7 @@ pub(crate) fn called(alloc: Global, given: &Given<'_>, line: &str) -> Result<End
 /// Calls the program over this output and an empty error stream.
 fn call(alloc: Global, words: &Vec<String>, files: &mut MemFiles, mut out: MemSink) -> Ending {
     let mut err = MemSink::new(alloc);
-    let status = ble_tool(alloc, words, files, &mut out, &mut err);
+    let status = run_words(alloc, words, files, &mut out, &mut err);
     Ending { status, out, err }
 }
 

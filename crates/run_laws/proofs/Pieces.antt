@@ -221,7 +221,7 @@ whole_kept = record {
   first = λ some empty. refl;
   given = whole_given;
   reported = λ ack outgoing is. is;
-  fixed = λ control waiting limit quiet goes ack outgoing is. whole_fixed control waiting quiet goes ack (record outgoing { limit = limit });
+  fixed = λ control waiting limit quiet goes again ack outgoing is. whole_fixed control waiting quiet goes ack (record outgoing { limit = limit });
   gone = λ control ack outgoing acked is. λ some. control_whole control;
   sent = λ payload ack outgoing is. whole_sent payload (is_acked ack) ack outgoing is;
   acked = λ acked ack outgoing out is. whole_acked (acked && is_data ack.last) outgoing is;

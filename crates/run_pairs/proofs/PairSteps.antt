@@ -32,9 +32,9 @@ use Rattle.run_pairs.proofs.AtOnce.{may_refuse}
 use Rattle.run_pairs.proofs.EndCalls.{IsEndBegun, IsUnheard, good_or_unheard, refused_facts}
 use Rattle.run_pairs.proofs.Worded.{fitting_words, link_in_phase, worded_channel}
 use Rattle.run_pairs.proofs.OneSide.{LastBefore, last_other}
-use Rattle.run_pairs.proofs.Refusing.{IsButMore, lacking_first, received_stays, refused_first}
+use Rattle.run_pairs.proofs.Refusing.{lacking_first, received_stays, refused_first}
 use Rattle.run_pairs.proofs.QuietSteps.{IsQuiet, answer_quiet, key_quiet, reported_quiet}
-use Rattle.run_pairs.proofs.Stages.{answered_more, answered_quiet, begun_worded, both_begin, central_forged, central_heard, central_hosted_open, central_quiet, central_unheard, peripheral_forged, peripheral_heard, peripheral_hosted_open, peripheral_quiet, peripheral_unheard}
+use Rattle.run_pairs.proofs.Stages.{answered_quiet, begun_worded, both_begin, central_forged, central_heard, central_hosted_open, central_quiet, central_unheard, peripheral_forged, peripheral_heard, peripheral_hosted_open, peripheral_quiet, peripheral_unheard}
 use Rattle.link_calls.specs.Uses.{listens_under}
 
 -- where the end sent last in this slot, this is so
@@ -234,7 +234,7 @@ module _ (whole : IsHeardWhole) (opens_there : IsOpenedThere) (c_end p_end : End
 
     step_then : (step : EndStep) (replies : Bool) → replies ≡ replied → ((f : EndFacts) → MayHost step f)
         → ((f : EndFacts) → IsQuiet f (end_after p_end f step))
-        → (replied ≡ true → IsButMore (facts_sent slot (end_after p_end heard_so step)) (end_after p_end (facts_sent slot heard_so) step))
+        → (replied ≡ true → facts_sent slot (end_after p_end heard_so step) ≡ end_after p_end (facts_sent slot heard_so) step)
         → AreAnsweredEnds c_end p_end slot replied c (turns.sent_if replies p_end slot (end_after p_end heard_so step))
     step_then step replies are may quiet first = by replies are
       where
@@ -245,10 +245,8 @@ module _ (whole : IsHeardWhole) (opens_there : IsOpenedThere) (c_end p_end : End
         by : (b : Bool) → b ≡ replied → AreAnsweredEnds c_end p_end slot replied c (turns.sent_if b p_end slot (end_after p_end heard_so step))
         by false none = subst (λ b. AreAnsweredEnds c_end p_end slot replied c (end_after p_end (turns.sent_if b p_end slot heard_so) step)) (sym none) done_then
         by true does =
-            let sent = subst (λ b. AreAnsweredEnds c_end p_end slot replied c (end_after p_end (turns.sent_if b p_end slot heard_so) step)) (sym does) done_then in
-            let alike = first (sym does) in
-            subst (λ (f : EndFacts). AreAnsweredEnds c_end p_end slot replied c f) (sym alike.is)
-            (answered_more whole opens_there c_end p_end ends slot replied alike.more c _ sent)
+            subst (λ (f : EndFacts). AreAnsweredEnds c_end p_end slot replied c f) (sym (first (sym does)))
+            (subst (λ b. AreAnsweredEnds c_end p_end slot replied c (end_after p_end (turns.sent_if b p_end slot heard_so) step)) (sym does) done_then)
 
     refuses_then : (answer : Option EndStep) (replies : Bool) → IfSome answer IsRefusal → heard_so.encryption.end.phase ≡ heard_so.encryption.phase → replies ≡ replied
         → AreAnsweredEnds c_end p_end slot replied c (turns.sent_if replies p_end slot (refused_facts answer p_end heard_so))

@@ -1,5 +1,5 @@
 -- A peripheral that answers a request of its peer, or one for a key, between a packet that it receives and its own packet.
-use Rattle.std.proofs.Common.{◌≡◌, ◌&&◌, ◌||◌, ◌==◌, ℕ, not, Result, Bool, true, false, List, Option, Some, None, is_none, is_some, refl, ap, sym, ◌∙◌, if◌then◌else◌}
+use Rattle.std.proofs.Common.{◌≡◌, ◌&&◌, ℕ, not, Result, Bool, true, false, List, Option, Some, None, is_none, is_some, refl, ap, sym, ◌∙◌, if◌then◌else◌}
 use Rattle.ble_base.specs.declared.error_codes.ErrCode.{ErrCode}
 use Rattle.ble_base.specs.declared.roles.Role.{Role}
 use Rattle.ble_base.specs.declared.roles.Role.TheVariants.{Central, Peripheral}
@@ -21,7 +21,7 @@ use Rattle.link_calls.specs.link_model.phased_control.Taken.{phased_moved, Lacks
 use Rattle.link_calls.specs.link_model.keyed_control.Keyed.{Keyed}
 use Rattle.link_calls.specs.link_model.keyed_control.declared.material.KeyMaterial.{KeyMaterial}
 use Rattle.link_calls.specs.link_model.keyed_control.KeyedSteps.{LacksKey, end_changed, keyed_moved}
-use Rattle.link_calls.specs.link_model.Packets.{good_pdu, is_forged, more_sent}
+use Rattle.link_calls.specs.link_model.Packets.{good_pdu, is_forged}
 use Rattle.link_calls.specs.link_model.Receiving.{accepted_if, accepts, acknowledged_if, data_taken_if, facts_before_taking, facts_forged_if, facts_hearing, facts_received, has_acknowledged, heard_in_slot, procedures_take_if, replies_by, replies_of}
 use Rattle.link_calls.specs.link_model.Sending.{control_gone_if, data_sent_as, facts_sent, fixed_sent, leaving_sent, seals_new, takes_leave}
 use Rattle.link_calls.specs.link_model.Setup.{Setup}
@@ -30,7 +30,6 @@ use Rattle.link_calls.specs.link_model.Data.{is_data, is_empty}
 use Rattle.link_calls.specs.link_model.Verdicts.{pdu_of}
 use Rattle.link_runs.specs.link_pairs.Hearing.{received}
 use Rattle.link_runs.proofs.link_pairs.Items.{never}
-use Rattle.run_pairs.proofs.Stages.{with_more}
 
 -- after a good packet no control PDU leaves the queue of a peripheral
 gone_stays : (goes : Bool) (slot : ℕ) (facts : Facts) → takes_leave facts ≡ goes → takes_leave (control_gone_if goes slot facts) ≡ false
@@ -62,25 +61,13 @@ sent_fixed : (leaves : Bool) (slot : ℕ) (facts : Facts) → leaves ≡ false �
 sent_fixed false slot facts is = refl
 sent_fixed true slot facts is = absurd (cc)
 
--- an end that has sent is as this, but for MD of the event
-pub record IsButMore (now other : Facts) : Type 0 where
-  pub more : Bool
-  pub is : now ≡ with_more more other
-
--- to answer the request first changes at most MD of the event
-module _ (slot : ℕ) (answer : Result Ask ErrCode) (facts : Facts) (stays : takes_leave facts ≡ false) where
-  abbrev asked : Facts
-  asked = facts_answered answer facts
-
-  abbrev more : Bool
-  more = facts.event.more || ((slot == facts.event.slot) && more_sent asked)
-
-  pub refused_first : IsButMore (facts_sent slot asked) (facts_answered answer (facts_sent slot facts))
-  refused_first = record {
-    more = more;
-    is = sent_fixed (takes_leave asked) slot asked stays
-        ∙ sym (ap (λ (f : Facts). with_more more (facts_answered answer f)) (sent_fixed (takes_leave facts) slot facts stays));
-  }
+-- to answer the request first changes nothing of what it sends
+pub refused_first : (slot : ℕ) (answer : Result Ask ErrCode) (facts : Facts) → takes_leave facts ≡ false
+    → facts_sent slot (facts_answered answer facts) ≡ facts_answered answer (facts_sent slot facts)
+refused_first slot answer facts stays =
+    let asked = facts_answered answer facts in
+    sent_fixed (takes_leave asked) slot asked stays
+    ∙ sym (ap (λ (f : Facts). facts_answered answer f) (sent_fixed (takes_leave facts) slot facts stays))
 
 -- ---- so does an answer to a request for a key
 
@@ -147,11 +134,8 @@ module _ (slot now : ℕ) (facts : Facts) (leaves : Bool) (phased : Phased) (cha
   abbrev answered_to : Facts → Facts
   answered_to f = record (with_keyed (keyed_to f.encryption.end) f) { leaving = leaving_from_if leaves now f.leaving }
 
-  abbrev more_then : Bool
-  more_then = facts.event.more || ((slot == facts.event.slot) && more_sent (answered_to facts))
-
   abbrev sent_then : Facts
-  sent_then = with_more more_then (answered_to (fixed_sent slot facts))
+  sent_then = answered_to (fixed_sent slot facts)
 
   leaves_then : (b : Bool) → leaving_sent (leaving_from_if b now facts.leaving) ≡ leaving_from_if b now (leaving_sent facts.leaving)
   leaves_then true = refl
@@ -189,24 +173,17 @@ module _ (slot now : ℕ) (facts : Facts) (stays : takes_leave facts ≡ false) 
   lacking_if goes f =
       record (with_keyed (keyed_if goes (keyed_of f)) f) { leaving = leaving_from_if (ends_without_key None facts) now f.leaving }
 
-  fixed_then : (goes : Bool) → IsButMore (fixed_sent slot (lacking_if goes facts)) (lacking_if goes (fixed_sent slot facts))
-  fixed_then true = record {
-    more = _;
-    is = answered_sent slot now facts (ends_without_key None facts) (phased_moved phased_lacks_key s) (changes_if (s.asks_key && is_open_now s))
-        (alike_if (s.asks_key && is_open_now s));
-  }
-  fixed_then false = record {
-    more = _;
-    is = answered_sent slot now facts (ends_without_key None facts) s Stays (stays_alike counts facts.encryption.material facts.encryption.end);
-  }
+  fixed_then : (goes : Bool) → fixed_sent slot (lacking_if goes facts) ≡ lacking_if goes (fixed_sent slot facts)
+  fixed_then true =
+      answered_sent slot now facts (ends_without_key None facts) (phased_moved phased_lacks_key s) (changes_if (s.asks_key && is_open_now s))
+      (alike_if (s.asks_key && is_open_now s))
+  fixed_then false =
+      answered_sent slot now facts (ends_without_key None facts) s Stays (stays_alike counts facts.encryption.material facts.encryption.end)
 
-  pub lacking_first : IsButMore (facts_sent slot (lacking facts)) (lacking (facts_sent slot facts))
+  pub lacking_first : facts_sent slot (lacking facts) ≡ lacking (facts_sent slot facts)
   lacking_first =
-      let then_is = fixed_then (is_none facts.control.ends) in record {
-        more = then_is.more;
-        is = sent_fixed (takes_leave facts) slot (lacking facts) stays ∙ then_is.is
-            ∙ sym (ap (λ (f : Facts). with_more then_is.more (lacking f)) (sent_fixed (takes_leave facts) slot facts stays));
-      }
+      sent_fixed (takes_leave facts) slot (lacking facts) stays ∙ fixed_then (is_none facts.control.ends)
+      ∙ sym (ap (λ (f : Facts). lacking f) (sent_fixed (takes_leave facts) slot facts stays))
 
 -- a peripheral that answers received a good packet
 good_stays : (setup : Setup) (role : Role) (slot : ℕ) (room : Bool) (pdu : Option (List ℕ)) (facts : Facts) → role ≡ Peripheral → is_some pdu ≡ true

@@ -33,7 +33,7 @@ use Rattle.link_runs.proofs.link_pairs.EndingNothing.{begun_ends_nothing, host_e
 use Rattle.link_runs.proofs.link_pairs.First.{first_linked}
 use Rattle.link_runs.proofs.link_pairs.HeardCounts.{hearing_agreed}
 use Rattle.link_runs.proofs.link_pairs.Hosting.{central_hosts, peripheral_hosts}
-use Rattle.link_runs.proofs.link_pairs.NothingNew.{event_still, host_still, prepared_still, sender_still, taker_still}
+use Rattle.link_runs.proofs.link_pairs.NothingNew.{host_still, prepared_still, sender_still, taker_still}
 use Rattle.link_runs.proofs.link_pairs.OtherKeys.{mixed_at_central, mixed_at_peripheral}
 use Rattle.link_runs.proofs.link_pairs.PartingBegins.{central_took, peripheral_took}
 use Rattle.link_runs.proofs.link_pairs.PartingEndings.{taker_ends}
@@ -77,64 +77,6 @@ peripheral_hosted_open central peripheral ends turns c p step may (inl link) = i
   linked = peripheral_hosts central peripheral ends turns false c p link.linked step may;
 })
 peripheral_hosted_open central peripheral ends turns c p step may (inr parting) = inr (sender_still central peripheral c p parting _ (host_still peripheral p step may))
-
--- ---- MD of an event is read in no joint run
-
-abbrev pub with_more : Bool → Facts → Facts
-with_more more facts = record facts { event = record facts.event { more = more } }
-
-linked_more : (central peripheral : Setup) (turns : ℕ) (answers more : Bool) (c p : Facts) → AreLinked central peripheral turns answers c p
-    → AreLinked central peripheral turns answers c (with_more more p)
-linked_more central peripheral turns answers more c p linked = record {
-  steps = linked.steps;
-  may = linked.may;
-  in_range = linked.in_range;
-  shows = λ running. shows (linked.shows running);
-  keys = λ running. over_keys (linked.keys running);
-  lasts = linked.lasts;
-}
-  where
-    rests : IsAtRest peripheral turns p → IsAtRest peripheral turns (with_more more p)
-    rests r = record {
-      fits = r.fits;
-      holds = r.holds;
-      role = r.role;
-      none_gone = r.none_gone;
-      fits_any = r.fits_any;
-      two_bits = r.two_bits;
-      slot = r.slot;
-      number = r.number;
-      heard = r.heard;
-      past = r.past;
-      stays = r.stays;
-    }
-
-    over_keys : HaveKeys (keys_of central peripheral linked.steps) c p → HaveKeys (keys_of central peripheral linked.steps) c (with_more more p)
-    over_keys has = record {
-      central_keys = has.central_keys;
-      peripheral_keys =
-          record { material = has.peripheral_keys.material; session = has.peripheral_keys.session; made = has.peripheral_keys.made };
-    }
-
-    shows : Shows central peripheral turns answers (link_of central peripheral linked.steps) c p
-        → Shows central peripheral turns answers (link_of central peripheral linked.steps) c (with_more more p)
-    shows s = record {
-      central_part = s.central_part;
-      peripheral_part = s.peripheral_part;
-      down = s.down;
-      up = s.up;
-      agreement = s.agreement;
-      begun = s.begun;
-      replies = s.replies;
-      last = s.last;
-      central_heard = s.central_heard;
-      peripheral_heard = s.peripheral_heard;
-      free = s.free;
-      central_rests = s.central_rests;
-      peripheral_rests = rests s.peripheral_rests;
-      central_fits = s.central_fits;
-      peripheral_fits = s.peripheral_fits;
-    }
 
 -- ---- a peripheral is given words, as a turn has begun
 
@@ -668,36 +610,6 @@ module _ (whole : IsHeardWhole) (opened : IsOpenedThere) (central peripheral : S
       forged = quiet.ends ∙ link.forged;
       agreement = subst (λ (a : Acknowledgement). AreInAgreement c.acknowledgement a) (sym quiet.counts) link.agreement;
     }) none
-
-  -- ---- MD of what it sent in the event is another one
-
-  pub answered_more : (answers more : Bool) (c p : Facts) → AreAnsweredEnds central peripheral slot answers c p
-      → AreAnsweredEnds central peripheral slot answers c (with_more more p)
-  answered_more answers more c p (Lasts link) = Lasts (record {
-    central_lasts = link.central_lasts;
-    peripheral_lasts = link.peripheral_lasts;
-    linked = linked_more central peripheral (slot + 1) answers more c p link.linked;
-    central_past = link.central_past;
-    entered = link.entered;
-  })
-  answered_more answers more c p (PeripheralTook parting) =
-      PeripheralTook (taker_still peripheral central p c parting (with_more more p) (event_still peripheral p (record p.event { more = more })))
-  answered_more answers more c p (CentralTook parting none) =
-      CentralTook (sender_still central peripheral c p parting (with_more more p) (event_still peripheral p (record p.event { more = more }))) none
-  answered_more answers more c p (IsLate link none) =
-      IsLate (record { central_lasts = link.central_lasts; late = link.late; agreement = link.agreement }) none
-  answered_more answers more c p (IsOver link none) = IsOver (record {
-    goes_on = link.goes_on;
-    seen = record {
-      acknowledged = link.seen.acknowledged;
-      ending = link.seen.ending;
-      goes_on = link.seen.goes_on;
-      took_none = link.seen.took_none;
-      agreement = link.seen.agreement;
-    };
-  }) none
-  answered_more answers more c p (IsForged link none) =
-      IsForged (record { goes_on = link.goes_on; forged = link.forged; agreement = link.agreement }) none
 
   -- ---- a new link
 

@@ -5,4 +5,5 @@ pub mod Numbers
 pub mod Recent
 pub mod Recurring
 pub mod Searches
+pub mod Stepping
 pub mod Transitions

@@ -29,6 +29,23 @@ pub search_end : (cursor travel : ℕ) → 2 ^ 32 ≤ travel → next_access_of 
 unfolding next_access_of
 search_end cursor travel h = let none : 2 ^ 32 - travel ≡ 0 = omega arith in rw none refl
 
+-- the search over distances with no valid address
+pub search_over : (cursor travel step : ℕ)
+    → ((t : ℕ) → travel ≤ t → t < travel + step → is_valid_access (access_at cursor t) ≡ false)
+    → next_access_of cursor travel ≡ next_access_of cursor (travel + step)
+search_over cursor travel zero quiet = let same : travel ≡ travel + 0 = omega arith in ap (next_access_of cursor) same
+search_over cursor travel (suc step) quiet =
+    let more : travel + step + 1 ≡ travel + suc step = omega arith in
+    search_over cursor travel step (λ t from below. quiet t from (omega arith))
+    ∙ one_over (travel + step) (quiet (travel + step) (omega arith) (omega arith)) ∙ ap (next_access_of cursor) more
+  where
+    one_over : (t : ℕ) → is_valid_access (access_at cursor t) ≡ false → next_access_of cursor t ≡ next_access_of cursor (t + 1)
+    one_over t e =
+        elim (cases_lt t (2 ^ 32)) [
+          | inl below ↦ search_step cursor t false below e
+          | inr beyond ↦ search_end cursor t beyond ∙ sym (search_end cursor (t + 1) (omega arith))
+        ]
+
 -- ---- what the search finds
 
 -- what a search from a distance on gives is what was looked for

@@ -45,7 +45,7 @@ has_one (suc places) n h positive =
 
 -- ---- no test on a range holds
 
-none_in_range : (test : ℕ → Bool) (from count k : ℕ) → list_any test (range_with_len from count) ≡ false
+pub none_in_range : (test : ℕ → Bool) (from count k : ℕ) → list_any test (range_with_len from count) ≡ false
     → from ≤ k → k < from + count → test k ≡ false
 none_in_range test from zero k h low high = absurd (omega arith)
 none_in_range test from (suc count) k h low high =

@@ -10,7 +10,7 @@ use crate::links::Timing;
 use crate::pairs::Pair;
 use crate::words::put_words;
 use journal::write_lines;
-use simulated_pair::{Journal, Octets, Schedule, simulate};
+use pair_world::{Journal, Octets, Schedule, run_pair};
 use std::alloc::{AllocError, Global};
 use std::process::Abort;
 use test_words::put_number;
@@ -269,7 +269,7 @@ fn journal_by(alloc: Global, run: &Run, schedule: &Schedule) -> Journal
     requires a { 1 ≤ length schedule.now.a.words.items }
     requires b { 1 ≤ length schedule.now.b.words.items }
 {
-    match simulate(alloc, run.a.as_slice(), run.b.as_slice(), schedule) {
+    match run_pair(alloc, run.a.as_slice(), run.b.as_slice(), schedule) {
         Ok(journal) => journal,
         Err(_) => Journal::new(alloc),
     }

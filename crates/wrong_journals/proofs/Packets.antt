@@ -9,11 +9,11 @@ use Rattle.journal_pdus.specs.link_model.Data.{is_empty}
 use Rattle.journal_pdus.specs.link_model.keyed_control.Keyed.{Keyed}
 use Rattle.journal_pdus.specs.journal_links.Begun.{LinkBegun, link_numbered}
 use Rattle.journal_pdus.specs.journal_packets.Belonging.{link_of_packet}
-use Rattle.journal_pdus.specs.journal_acks.Carried.{air_pdu, bits_of, carried_of, channel_entered}
+use Rattle.journal_pdus.specs.journal_acks.Carried.{IsLinkPacket, air_pdu, bits_of, carried_of, channel_entered}
 use Rattle.journal_pdus.specs.journal_acks.Exchange.{exchange_of}
-use Rattle.journal_pdus.specs.journal_controls.LineSteps.{keyed_on}
 use Rattle.journal_pdus.specs.journal_data.Delivered.{host_buffers}
 use Rattle.journal_pdus.specs.journal_data.Lines.{lines_of}
+use Rattle.journal_pdus.specs.journal_rules.Waiting.{TellsInWords, md_due}
 use Rattle.journal_pdus.specs.journal_sealing.SealedLines.{HasPayload, payload_carried}
 use Rattle.journal_pdus.specs.journal_sending.NextPdus.{IsNextPdu}
 use Rattle.journal_pdus.specs.journal_sending.Outgoing.{octets_wait, piece_by_lines}
@@ -30,31 +30,46 @@ octets_with number link front side channel md payload =
 pub some_is : {X : Type 0} (one other : X) → Some one ≡ Some other → one ≡ other
 some_is one other same = cc
 
--- a packet of this link has these octets, by its end as the PDU was fixed and as it is now
-pub octets_are : (words : Words) (front : List Entry) (side : Side) (channel : ℕ) (octets : List ℕ) (number : ℕ) (link : LinkBegun)
-    (fixing now : Keyed) (md : Bool)
+-- a packet of this link has these octets, where MD is due by its end as the turn began
+octets_by : (words : Words) (front : List Entry) (side : Side) (channel : ℕ) (octets : List ℕ) (number : ℕ) (link : LinkBegun)
+    (fixing : Keyed) (md : Bool) (due : ℕ → Keyed → Bool)
     → link_of_packet front side octets ≡ Some number → link_numbered number front ≡ Some link
-    → control_fixing words side number front ≡ Some fixing → keyed_on words side number front ≡ Some now
-    → tells_more (is_next_new number front side) fixing now (octets_wait number (lines_of host_buffers side front)) ≡ md
-    → (tells : TellsWhatWaits words front side channel octets)
-    → octets ≡ octets_with number link front side channel md tells.packet.payload
-octets_are words front side channel octets number link fixing now md belongs numbered is_fixing is_now is_md tells =
-    let packet = tells.packet in
+    → control_fixing words side number front ≡ Some fixing → due number fixing ≡ md
+    → (packet : IsLinkPacket front side channel octets) (found : Keyed) → control_fixing words side packet.number front ≡ Some found
+    → packet.md ≡ due packet.number found
+    → octets ≡ octets_with number link front side channel md packet.payload
+octets_by words front side channel octets number link fixing md due belongs numbered is_fixing is_md packet found is_found told =
     let same = some_is packet.number number (sym packet.belongs ∙ belongs) in
     let one = some_is packet.link link (sym packet.is_link ∙ ap (λ (n : ℕ). link_numbered n front) same ∙ numbered) in
-    let fixed = some_is tells.fixing fixing (sym tells.fixing_is ∙ ap (λ (n : ℕ). control_fixing words side n front) same ∙ is_fixing) in
-    let current = some_is tells.now now (sym tells.now_is ∙ ap (λ (n : ℕ). keyed_on words side n front) same ∙ is_now) in
-    let waits : ℕ → Bool = λ n. octets_wait n (lines_of host_buffers side front) in
-    let more =
-    tells.more
-    ∙ ap (λ (n : ℕ). tells_more (is_next_new n front side) tells.fixing tells.now (waits n)) same
-    ∙ ap (λ (k : Keyed). tells_more (is_next_new number front side) k tells.now (waits number)) fixed
-    ∙ ap (λ (k : Keyed). tells_more (is_next_new number front side) fixing k (waits number)) current
-    ∙ is_md in
+    let fixed = some_is found fixing (sym is_found ∙ ap (λ (n : ℕ). control_fixing words side n front) same ∙ is_fixing) in
+    let more = told ∙ ap (λ (n : ℕ). due n found) same ∙ ap (due number) fixed ∙ is_md in
     packet.carries
     ∙ ap (λ (n : ℕ). octets_with n packet.link front side channel packet.md packet.payload) same
     ∙ ap (λ (l : LinkBegun). octets_with number l front side channel packet.md packet.payload) one
     ∙ ap (λ (b : Bool). octets_with number link front side channel b packet.payload) more
+
+pub octets_are : (words : Words) (front : List Entry) (side : Side) (channel : ℕ) (octets : List ℕ) (number : ℕ) (link : LinkBegun)
+    (fixing : Keyed) (md : Bool)
+    → link_of_packet front side octets ≡ Some number → link_numbered number front ≡ Some link
+    → control_fixing words side number front ≡ Some fixing
+    → tells_more (is_next_new number front side) fixing (carried_of number front side) (octets_wait number (lines_of host_buffers side front)) ≡ md
+    → (tells : TellsWhatWaits words front side channel octets)
+    → octets ≡ octets_with number link front side channel md tells.packet.payload
+octets_are words front side channel octets number link fixing md belongs numbered is_fixing is_md tells =
+    octets_by words front side channel octets number link fixing md
+    (λ n k. tells_more (is_next_new n front side) k (carried_of n front side) (octets_wait n (lines_of host_buffers side front)))
+    belongs numbered is_fixing is_md tells.packet tells.fixing tells.fixing_is tells.more
+
+-- and so it has in the words of the standard
+pub octets_in_words : (words : Words) (front : List Entry) (side : Side) (channel : ℕ) (octets : List ℕ) (number : ℕ) (link : LinkBegun)
+    (fixing : Keyed) (md : Bool)
+    → link_of_packet front side octets ≡ Some number → link_numbered number front ≡ Some link
+    → control_fixing words side number front ≡ Some fixing → md_due number front side fixing ≡ md
+    → (tells : TellsInWords words front side channel octets)
+    → octets ≡ octets_with number link front side channel md tells.packet.payload
+octets_in_words words front side channel octets number link fixing md belongs numbered is_fixing is_md tells =
+    octets_by words front side channel octets number link fixing md (λ n k. md_due n front side k)
+    belongs numbered is_fixing is_md tells.packet tells.fixing tells.fixing_is tells.more
 
 -- and the payload that the lines give
 pub payload_is : (words : Words) (front : List Entry) (side : Side) (channel : ℕ) (octets : List ℕ) (number : ℕ) (link : LinkBegun)

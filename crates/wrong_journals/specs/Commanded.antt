@@ -10,11 +10,8 @@ use Rattle.journal.specs.declared.entries.Entry.TheVariants.{Air, Began, Done, E
 use Rattle.journal.specs.declared.entries.Mark.TheVariants.{Pass}
 use Rattle.journal_pdus.specs.journal_controls.Rows.{begun_on}
 use Rattle.journal_pdus.specs.link_model.Acknowledgement.{Pdu}
-use Rattle.journal_pdus.specs.link_model.Controls.{read_of}
-use Rattle.journal_pdus.specs.link_model.Facts.{no_response}
 use Rattle.journal_pdus.specs.link_model.keyed_control.Keyed.{Keyed}
-use Rattle.journal_pdus.specs.link_model.keyed_control.KeyedSteps.{Asks, Disconnects, Enters, Takes, keyed_after, keyed_after_all}
-use Rattle.journal_pdus.specs.link_model.phased_end.Taking.{drawn}
+use Rattle.journal_pdus.specs.link_model.keyed_control.KeyedSteps.{Asks, Disconnects, Enters, keyed_after, keyed_after_all}
 use Rattle.journal_pdus.specs.link_model.procedure_values.declared.asks.Ask.TheVariants.{Update as ask_update}
 use Rattle.journal_pdus.specs.journal_acks.Rows.{data_heard, host_packet, more_packet, more_reply, second_slot}
 use Rattle.journal_pdus.specs.journal_leaving.Rows.{terminate_packet, terminate_pdu}
@@ -104,12 +101,9 @@ version_to_answer =
     version_with [] ++ Sent B 1 1 own_version.llid own_version.body ∷ Air B 25 version_packet Pass Good
     ∷ Took A 1 1 own_version.llid own_version.body ∷ []
 
--- the peripheral before that and after
+-- the peripheral before that
 abbrev pub peripheral_entered : Keyed
 peripheral_entered = keyed_after (Enters 2) (begun_on Peripheral)
-
-abbrev pub version_queued : Keyed
-version_queued = keyed_after (Takes (read_of own_version) 3 (drawn no_response)) peripheral_entered
 
 -- its reply, an empty PDU with SN 1 and NESN 0, has MD 1 for the LL_VERSION_IND that it has queued just now
 abbrev pub reply_with_more : List ℕ

@@ -1,4 +1,5 @@
 -- The journals of this crate.
+pub mod Again
 pub mod Alike
 pub mod Answers
 pub mod Commanded
@@ -10,6 +11,7 @@ pub mod Held
 pub mod Flowing
 pub mod Hosts
 pub mod InEvent
+pub mod Latency
 pub mod Moves
 pub mod Resetting
 pub mod Shuts

@@ -2,6 +2,7 @@
 //! its law names. No code.
 #![tactic(auto)]
 
+mod again;
 mod alike;
 mod answers;
 mod commanded;
@@ -11,6 +12,7 @@ mod exchanges;
 mod hearings;
 mod held;
 mod hosts;
+mod latency;
 mod moves;
 mod orders;
 mod procedure_lines;
@@ -21,6 +23,7 @@ mod slots;
 mod turns;
 mod unanswered;
 
+pub use crate::again::wrong_more_bits_are_not_sent_again;
 pub use crate::alike::ends_that_differ_are_refused;
 pub use crate::answers::{missed_answers_are_refused, unopened_links_are_refused};
 pub use crate::commanded::{
@@ -38,6 +41,7 @@ pub use crate::hosts::{
     wrong_credits_are_refused, wrong_data_is_refused, wrong_flow_to_a_host_is_refused,
     wrong_orders_of_data_are_refused,
 };
+pub use crate::latency::events_by_the_latency_of_before_are_refused;
 pub use crate::moves::{
     misjudged_packets_are_refused, silent_sides_are_refused, wrong_moves_are_refused,
 };

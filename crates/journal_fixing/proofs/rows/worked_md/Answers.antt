@@ -13,5 +13,10 @@ returns c = record {
   part = refl;
   whole = refl;
   again = refl;
+  end_waits = refl;
+  data_again = refl;
   nothing = refl;
+  never_goes = refl;
+  not_unsaid = λ is. absurd cc;
+  all_gone = refl;
 }

@@ -12,6 +12,6 @@ returns c =
     let apart = c.searches_give_each_valid_address.ensures.distinct in record {
       new = λ words given before rest station channel octets hearings sent fixing are six gives contains at fixes acked.
           new_tells words whole understood taken nth apart given are six gives before rest station channel octets hearings (contains_in given.stations station contains) at sent fixing fixes acked;
-      again = λ words given before rest station channel octets hearings sent fixing now are six gives contains at fixes now_is unacked.
-          again_tells words whole understood taken nth apart given are six gives before rest station channel octets hearings (contains_in given.stations station contains) at sent fixing fixes now now_is unacked;
+      again = λ words given before rest station channel octets hearings sent fixing are six gives contains at fixes unacked.
+          again_tells words whole understood taken nth apart given are six gives before rest station channel octets hearings (contains_in given.stations station contains) at sent fixing fixes unacked;
     }

@@ -1,5 +1,5 @@
 -- Proof of `credits::each_complete_packet_is_reported_at_once`.
-use Rattle.journal_sending.proofs.journal_links.OfTwo.{are_distinct}
+use Rattle.journal_moves.proofs.journal_wants.journal_sending.journal_links.OfTwo.{are_distinct}
 use Rattle.journal_pdus.proofs.SettledEarly.{credited_at_once}
 use Rattle.journal_pdus.proofs.credits.each_complete_packet_is_reported_at_once.Goals as goal
 

@@ -5,17 +5,17 @@ use Rattle.ble_base.specs.declared.roles.Side.{Side}
 use Rattle.ble_base.specs.declared.roles.Side.TheVariants.{A, B}
 use Rattle.host_view.specs.declared.view.TheConstants.{MOST_LINKS}
 use Rattle.radio_replay.specs.Script.{Script}
-use Rattle.journal_sending.specs.run_model.Run.{history_of, run_of, setup_at}
-use Rattle.journal_sending.specs.run_model.Journal.{journal_of, side_of}
-use Rattle.journal_sending.specs.run_model.Pair.{given_of, pair_links as links_of_pair}
-use Rattle.journal_sending.proofs.run_model.LinkEnds.{pair_addresses}
-use Rattle.journal_sending.proofs.journal_data.FewLinks.{pair_links}
-use Rattle.journal_sending.proofs.journal_data.Law.{eight_of}
+use Rattle.journal_moves.specs.journal_wants.journal_sending.run_model.Run.{history_of, run_of, setup_at}
+use Rattle.journal_moves.specs.journal_wants.journal_sending.run_model.Journal.{journal_of, side_of}
+use Rattle.journal_moves.specs.journal_wants.journal_sending.run_model.Pair.{given_of, pair_links as links_of_pair}
+use Rattle.journal_moves.proofs.journal_wants.journal_sending.run_model.LinkEnds.{pair_addresses}
+use Rattle.journal_moves.proofs.journal_wants.journal_sending.journal_data.FewLinks.{pair_links}
+use Rattle.journal_moves.proofs.journal_wants.journal_sending.journal_data.Law.{eight_of}
 use Rattle.journal_seals.specs.journal_sealing.Mixed.{is_mixed}
-use Rattle.journal_sending.specs.journal_controls.journal_ends.GivenWords.{GivesWords}
-use Rattle.journal_sending.specs.journal_data.Followed.{Follows}
-use Rattle.journal_sending.specs.journal_due.ProcedureLines.{NoneIsDue}
-use Rattle.journal_sending.proofs.TakenInRuns.{eight_air}
+use Rattle.journal_moves.specs.journal_wants.journal_sending.journal_controls.journal_ends.GivenWords.{GivesWords}
+use Rattle.journal_moves.specs.journal_wants.journal_sending.journal_data.Followed.{Follows}
+use Rattle.journal_moves.specs.journal_wants.journal_sending.journal_due.ProcedureLines.{NoneIsDue}
+use Rattle.journal_moves.proofs.journal_wants.journal_sending.TakenInRuns.{eight_air}
 use Rattle.journal_moves.specs.Moves.{IsOwed, NothingIsOwed}
 use Rattle.journal_moves.specs.Owed.{MovesAreOwed}
 use Rattle.journal_moves.specs.Verdicts.{AllListenedForAreJudged}
@@ -52,7 +52,12 @@ returns-clause-lawful c = λ a b script six six_too.
       hears = λ before rest central peripheral ends number at one other is none.
           c.ends_hear_no_mixed_packet_while_their_journal_is_not_mixed.ensures words given before rest central peripheral ends number refl addresses gives at one other is none;
       front = c.a_mixed_journal_stays_mixed.ensures.front words;
-    } in record {
+    } in
+    let tells = c.each_packet_of_a_link_tells_what_waits.ensures.aired words given refl addresses gives (pair_links a b script).links (eight_of a b script) in
+    let next = c.each_new_pdu_is_next_by_the_lines.ensures words given refl addresses gives (pair_links a b script).links (eight_of a b script) in
+    let goes = c.the_line_of_each_new_pdu_is_just_before_its_packet.ensures.aired given refl addresses (pair_links a b script).links (eight_of a b script) in
+    let rests =
+    c.nothing_is_under_way_between_turns.ensures.before_a_turn words given refl addresses gives (pair_links a b script).links (eight_of a b script) (eight_air a b script) in record {
       follows = c.each_journal_follows_its_schedule.ensures.follows a b script;
       addresses = c.each_link_has_the_next_address.ensures a b script six six_too;
       opened = λ front rest side number handle role at. c.each_opened_line_names_its_link.ensures a b script front rest side number handle role six six_too at;
@@ -102,21 +107,18 @@ returns-clause-lawful c = λ a b script six six_too.
       };
       due = record {
         new = λ front rest side link count llid body at. c.each_sent_line_is_of_a_new_pdu.ensures a b script front rest side link count llid body six six_too at;
-        next = c.each_new_pdu_is_next_by_the_lines.ensures words given refl addresses gives
-            (pair_links a b script).links (eight_of a b script);
-        tell_what_waits = c.each_packet_of_a_link_tells_what_waits.ensures.aired words given refl addresses gives
-            (pair_links a b script).links (eight_of a b script);
-        go_out_at_once = c.the_line_of_each_new_pdu_is_just_before_its_packet.ensures.aired given refl addresses
-            (pair_links a b script).links (eight_of a b script);
+        next = next;
+        tell_what_waits = tells;
+        go_out_at_once = goes;
         taken_at_once = c.each_pdu_is_taken_at_once.ensures words given refl addresses gives
             (pair_links a b script).links (eight_of a b script) (eight_air a b script);
-        at_rest = c.nothing_is_under_way_between_turns.ensures.before_a_turn words given refl addresses gives
-            (pair_links a b script).links (eight_of a b script) (eight_air a b script);
+        at_rest = rests;
         settled = journal_settled c.packet_tells_its_pdu.ensures.heard c.a_pdu_is_understood.ensures.says c.connections_are_taken.ensures.taken
             c.searches_give_each_valid_address.ensures.valid c.searches_give_each_valid_address.ensures.distinct a b script six six_too;
         settled_as_shut = journal_settled_as_shut c.packet_tells_its_pdu.ensures.heard c.a_pdu_is_understood.ensures.says c.connections_are_taken.ensures.taken
             c.searches_give_each_valid_address.ensures.valid c.searches_give_each_valid_address.ensures.distinct a b script six six_too;
       };
+      in_words = c.each_journal_keeps_the_rules_in_words.ensures words a b script six six_too gives tells next goes rests;
       sealed = record {
         payloads = c.each_packet_has_the_payload_of_the_lines.ensures.lines words given refl addresses gives;
         again = λ front more rest side channel channel_too octets octets_too fate fate_too verdict verdict_too at off off_too.

@@ -1,5 +1,5 @@
 -- Proof of `links::a_reset_leaves_no_link`.
-use Rattle.journal_sending.proofs.journal_links.OfTwo.{are_distinct}
+use Rattle.journal_moves.proofs.journal_wants.journal_sending.journal_links.OfTwo.{are_distinct}
 use Rattle.journal_pdus.proofs.ResetsLeaveNone.{resets_leave_none}
 use Rattle.journal_pdus.proofs.links.a_reset_leaves_no_link.Goals as goal
 

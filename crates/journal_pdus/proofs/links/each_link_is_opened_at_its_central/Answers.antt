@@ -1,5 +1,5 @@
 -- Proof of `links::each_link_is_opened_at_its_central`.
-use Rattle.journal_sending.proofs.journal_links.OfTwo.{are_distinct}
+use Rattle.journal_moves.proofs.journal_wants.journal_sending.journal_links.OfTwo.{are_distinct}
 use Rattle.journal_pdus.proofs.CentralsOpen.{opened_last, opened_lines}
 use Rattle.journal_pdus.proofs.links.each_link_is_opened_at_its_central.Goals as goal
 

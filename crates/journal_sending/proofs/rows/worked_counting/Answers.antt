@@ -8,10 +8,13 @@ unfolding little_endian
 returns c = record {
   not_counted = refl;
   wrongly = λ wrong. absurd cc;
+  not_again = refl;
+  wrongly_again = λ wrong. absurd cc;
   counted = refl;
   ends = refl;
   ended = refl;
   no_data = refl;
   none_told = refl;
   again = refl;
+  not_untold = λ wrong. absurd cc;
 }

@@ -1,5 +1,6 @@
 -- Proof of `laws::control_pdus_go_before_data`.
-use Rattle.link_model.proofs.Fixing.{fixed_control, fixed_data, fixed_nothing, left_goes, more_data, more_nothing, nothing_else, piece_fits, stays}
+use Rattle.std.proofs.Common.{true, false}
+use Rattle.link_model.proofs.Fixing.{fixed_control, fixed_data, fixed_nothing, left_goes, more_again, more_data, more_nothing, nothing_else, piece_fits, stays}
 use Rattle.link_model.proofs.laws.control_pdus_go_before_data.Goals as goal
 
 pub returns-clause-stays : goal.returns-clause-stays
@@ -28,3 +29,9 @@ returns-clause-nothing c = fixed_nothing
 
 pub returns-clause-after_nothing : goal.returns-clause-after_nothing
 returns-clause-after_nothing c = more_nothing
+
+pub returns-clause-again : goal.returns-clause-again
+returns-clause-again c setup facts = more_again setup facts false
+
+pub returns-clause-again_at_end : goal.returns-clause-again_at_end
+returns-clause-again_at_end c setup facts = more_again setup facts true

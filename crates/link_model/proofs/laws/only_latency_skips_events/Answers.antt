@@ -1,6 +1,9 @@
 -- Proof of `laws::only_latency_skips_events`.
-use Rattle.link_model.proofs.Skipping.{central_wants, control_wants, data_wants, indication_wants, no_latency_wants, procedure_wants, unacknowledged_wants}
+use Rattle.link_model.proofs.Skipping.{central_wants, control_wants, data_wants, in_force, indication_wants, no_latency_wants, procedure_wants, unacknowledged_wants}
 use Rattle.link_model.proofs.laws.only_latency_skips_events.Goals as goal
+
+pub returns-clause-in_force : goal.returns-clause-in_force
+returns-clause-in_force c = in_force
 
 pub returns-clause-central : goal.returns-clause-central
 returns-clause-central c = central_wants

@@ -1,7 +1,7 @@
 -- Answers of `access::first_valid`.
-use Rattle.std.proofs.Common.{ℕ, ◌+◌, Some, true, false, sym, ap, ◌∙◌, arith}
-use Rattle.scan_init.specs.Access.{is_valid_access}
-use Rattle.scan_init.proofs.Searches.{search_step, search_end}
+use Rattle.std.proofs.Common.{ℕ, ◌+◌, Some, true, sym, ap, ◌∙◌, arith}
+use Rattle.scan_init.specs.Access.{access_at, is_valid_access}
+use Rattle.scan_init.proofs.Searches.{search_end, search_over, search_step}
 use Rattle.scan_init.proofs.access.first_valid.Goals as goal
 
 pub returns-then-is_valid_access : goal.returns-then-is_valid_access
@@ -13,8 +13,11 @@ returns-then-is_valid_access c =
 
 pub loop-travel-preserved : goal.loop-travel-preserved
 loop-travel-preserved c =
-    let not_valid = ap is_valid_access (sym c.access_at-access.ensures) ∙ sym c.if-is_valid_access.ensures in
-    sym (search_step c.args.cursor c.loop-travel.travel false (omega arith) not_valid)
+    let not_valid = sym c.if-is_valid_access.ensures in
+    sym (search_over c.args.cursor c.loop-travel.travel c.step_over-travel.result
+    (λ t from below. c.step_over-travel.ensures.none not_valid (access_at c.args.cursor t)
+    (omega (arith, c.access_at-access.ensures, c.step_over-travel.ensures.within))
+    (omega (arith, c.access_at-access.ensures, c.step_over-travel.ensures.within))))
     ∙ c.loop-travel.invariant
 
 pub returns : goal.returns

@@ -28,7 +28,7 @@ use Rattle.journal_pdus.specs.journal_sending.journal_fixing.OnLines.{fixing_kep
 use Rattle.journal_pdus.specs.journal_sending.journal_fixing.Rows.{version_begun}
 use Rattle.journal_pdus.specs.journal_slots.Rows.{next_packet}
 use Rattle.run_model.specs.Rows.{first_packet}
-use Rattle.wrong_journals.specs.Commanded.{event_after, peripheral_entered, reply_with_more, version_asked, version_queued, version_to_answer, version_with}
+use Rattle.wrong_journals.specs.Commanded.{event_after, peripheral_entered, reply_with_more, version_asked, version_to_answer, version_with}
 use Rattle.wrong_journals.proofs.Differing.{numbers_differ, truths_differ}
 use Rattle.wrong_journals.proofs.Packets.{none_waits, octets_are}
 use Rattle.wrong_journals.proofs.commanded.wrong_more_bits_are_refused.Goals as goal
@@ -38,7 +38,7 @@ unfolding fixing_kept keyed_on ctrl_of length_of makers command_of layout_of lay
 returns-clause-counted c words lawful =
     numbers_differ 0x48 0x58 refl
     (ap (λ (octets : List ℕ). get_or octets 4 0)
-    (octets_are words version_to_answer A 25 reply_with_more 1 one_link peripheral_entered version_queued false refl refl refl refl refl
+    (octets_are words version_to_answer A 25 reply_with_more 1 one_link peripheral_entered false refl refl refl refl
     (lawful version_to_answer [] A 25 reply_with_more Pass Good refl refl)))
 
 pub returns-clause-untold : goal.returns-clause-untold
@@ -47,7 +47,7 @@ returns-clause-untold c words lawful =
     let front = event_after (version_asked []) (Began B 1 Version ∷ []) in
     numbers_differ 0x50 0x40 refl
     (ap (λ (octets : List ℕ). get_or octets 4 0)
-    (octets_are words front B 25 first_packet 1 one_link version_begun version_begun true refl refl refl refl refl
+    (octets_are words front B 25 first_packet 1 one_link version_begun true refl refl refl refl
     (lawful front [] B 25 first_packet Pass Good refl refl)))
 
 pub returns-clause-empty : goal.returns-clause-empty

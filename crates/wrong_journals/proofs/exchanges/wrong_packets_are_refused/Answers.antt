@@ -44,14 +44,14 @@ unfolding fixing_kept keyed_on ctrl_of length_of makers channel_entered lines_of
 returns-clause-number c words lawful =
     numbers_differ 0x53 0x5F refl
     (ap (λ (octets : List ℕ). get_or octets 4 0)
-    (octets_are words data_sent B 25 data_as_first 1 one_link central_entered central_entered false refl refl refl refl refl (lawful data_sent [] B 25 data_as_first Pass Good refl refl)))
+    (octets_are words data_sent B 25 data_as_first 1 one_link central_entered false refl refl refl refl (lawful data_sent [] B 25 data_as_first Pass Good refl refl)))
 
 pub returns-clause-no_line : goal.returns-clause-no_line
 unfolding fixing_kept keyed_on ctrl_of length_of makers channel_entered lines_of frames exchange_of sent_line_of link_of_packet is_answer links_begun pdu_heard heard_in read_of kept_bits crc crc_octets crc_of_bits remainder mask_of next_mask whitening_bit whitening_of little_endian data_channels used_channels reversed_octet perm mam stage prn channel_of command_of layout_of layouts
 returns-clause-no_line c words lawful =
     numbers_differ 0x5F 0x4C refl
     (ap (λ (octets : List ℕ). get_or octets 4 0)
-    (octets_are words second_slot B 25 data_packet 1 one_link central_entered central_entered true refl refl refl refl refl (lawful second_slot [] B 25 data_packet Pass Good refl refl)))
+    (octets_are words second_slot B 25 data_packet 1 one_link central_entered true refl refl refl refl (lawful second_slot [] B 25 data_packet Pass Good refl refl)))
 
 pub returns-clause-otherwise : goal.returns-clause-otherwise
 unfolding sealed_line_of fixing_kept keyed_on ctrl_of length_of makers channel_entered lines_of frames exchange_of sent_line_of link_of_packet is_answer links_begun pdu_heard heard_in read_of kept_bits crc crc_octets crc_of_bits remainder mask_of next_mask whitening_bit whitening_of little_endian data_channels used_channels reversed_octet perm mam stage prn channel_of command_of layout_of layouts
@@ -65,14 +65,14 @@ unfolding fixing_kept keyed_on ctrl_of length_of makers channel_entered lines_of
 returns-clause-more c words lawful =
     numbers_differ 0x4F 0x5F refl
     (ap (λ (octets : List ℕ). get_or octets 4 0)
-    (octets_are words data_sent B 25 data_with_more 1 one_link central_entered central_entered false refl refl refl refl refl (lawful data_sent [] B 25 data_with_more Pass Good refl refl)))
+    (octets_are words data_sent B 25 data_with_more 1 one_link central_entered false refl refl refl refl (lawful data_sent [] B 25 data_with_more Pass Good refl refl)))
 
 pub returns-clause-less : goal.returns-clause-less
 unfolding fixing_kept keyed_on ctrl_of length_of makers channel_entered lines_of frames exchange_of sent_line_of link_of_packet is_answer links_begun pdu_heard heard_in read_of kept_bits crc crc_octets crc_of_bits remainder mask_of next_mask whitening_bit whitening_of little_endian data_channels used_channels reversed_octet perm mam stage prn channel_of command_of layout_of layouts
 returns-clause-less c words lawful =
     numbers_differ 0x5F 0x4F refl
     (ap (λ (octets : List ℕ). get_or octets 4 0)
-    (octets_are words two_submitted B 25 data_packet 1 one_link central_entered central_entered true refl refl refl refl refl (lawful two_submitted [] B 25 data_packet Pass Good refl refl)))
+    (octets_are words two_submitted B 25 data_packet 1 one_link central_entered true refl refl refl refl (lawful two_submitted [] B 25 data_packet Pass Good refl refl)))
 
 pub returns-clause-channel : goal.returns-clause-channel
 unfolding fixing_kept keyed_on ctrl_of length_of makers channel_entered lines_of frames exchange_of sent_line_of link_of_packet is_answer links_begun pdu_heard heard_in read_of kept_bits crc crc_octets crc_of_bits remainder mask_of next_mask whitening_bit whitening_of little_endian data_channels used_channels reversed_octet perm mam stage prn channel_of command_of layout_of layouts

@@ -32,4 +32,4 @@ use Rattle.wrong_journals.proofs.right.worked_first_runs.Goals as goal
 
 pub returns : goal.returns
 unfolding ctrl_of length_of makers facts_of result_of frames little_endian command_of layout_of layouts view_after status_of use_of fates_used packet_received packets_on_air turns_begun after_opening after_phase after_phases after_turn run_of journal_of verdict_of pdu_heard heard_in read_of kept_bits crc crc_octets crc_of_bits remainder mask_of next_mask whitening_bit whitening_of begins_link bit_count is_valid_access next_access_of view_noted data_channels used_channels end_facts effect_of kept_effect_of replies_of draws_of acked_of given_of kept_given_of packet_sent good_pdu is_forged whole_pdu end_verdict reversed_octet perm mam stage prn channel_of
-returns c = record { reset = refl; advertisement = refl; lost = refl; opens = refl; event = refl }
+returns c = record { reset = refl; advertisement = refl; lost = refl; opens = refl; latency = refl; event = refl }

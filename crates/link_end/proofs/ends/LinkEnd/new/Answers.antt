@@ -56,6 +56,7 @@ returns-clause-knows c =
       fixed = c.empty-2.ensures i;
       fixes_control = false;
       more = false;
+      more_again = false;
       sent = 0;
       taken = 0;
       last_good = None;

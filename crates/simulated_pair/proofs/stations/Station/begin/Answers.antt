@@ -1,5 +1,0 @@
--- Proof of `stations::Station::begin`.
-use Rattle.simulated_pair.proofs.stations.Station.begin.Goals as goal
-
-pub returns-clause-begun : goal.returns-clause-begun
-returns-clause-begun c = c.begin_turn.ensures.begun
