@@ -91,6 +91,7 @@ class End:
     """One end of a link, with the PDU that is out."""
 
     role: str
+    handle: int
     long_term_key: bytes = b""
     session: Session = None
     seals: bool = False
@@ -114,6 +115,7 @@ class Link:
 class Reader:
     def __init__(self):
         self.fed = {"a": b"", "b": b""}
+        self.keys = {"a": [], "b": []}  # the commands that give a key and are not answered yet
         self.links = {}
         self.address = ""
         self.sealed = 0
@@ -128,21 +130,25 @@ class Reader:
             if len(packet) < length:
                 return
             self.fed[side] = packet[length:]
-            if packet[0] == 1:
-                self.command(side, int.from_bytes(packet[1:3], "little"), packet[4:length])
+            if packet[0] == 1 and int.from_bytes(packet[1:3], "little") in (ENABLE_ENCRYPTION, KEY_REPLY):
+                self.keys[side].append(packet[:length])
 
-    def command(self, side, opcode, parameters):
-        if opcode not in (ENABLE_ENCRYPTION, KEY_REPLY):
-            return
-        for link in self.links.values():
-            if side in link.ends:
-                link.ends[side].long_term_key = parameters[-16:]
+    def up(self, side, octets):
+        """An answer to a command that gives a key: a refused one changes nothing."""
+        octets = bytes.fromhex(octets)
+        opcode, status = (octets[4:6], octets[6:7]) if octets[1] == 0x0E else (octets[5:7], octets[3:4])
+        if octets[:2] in (b"\x04\x0e", b"\x04\x0f") and self.keys[side] and self.keys[side][0][1:3] == opcode:
+            command = self.keys[side].pop(0)
+            for link in self.links.values():
+                end = link.ends.get(side)
+                if status == b"\0" and end and end.handle == int.from_bytes(command[4:6], "little"):
+                    end.long_term_key = command[-16:]
 
     # ---- the links
 
-    def open(self, side, number, _handle, role):
+    def open(self, side, number, handle, role):
         link = self.links.setdefault(number, Link(self.address))
-        link.ends[side] = End(role)
+        link.ends[side] = End(role, int(handle))
 
     def shut(self, side, number, _reason):
         del self.links[number].ends[side]
@@ -202,6 +208,7 @@ class Reader:
         kind, *words = text.split(" ")
         steps = {
             "in": self.feed,
+            "up": self.up,
             "air": self.air,
             "open": self.open,
             "sent": self.sent,

@@ -11,10 +11,11 @@ JOURNAL is a file with a journal; without one, those of all examples are looked 
   handle, of an open link;
 - each side enters the events 0, 1, 2, .. of a link, each once;
 - a link is shut with 3E six intervals after its CONNECT_IND, where its side heard nothing good on it; with 08 as the
-  supervision timeout has passed since the last good packet; with 00 where its host completes a Reset; with 16 where its
-  side sent LL_TERMINATE_IND; with 28 where it took an indication whose Instant has passed; with 3D where it judged a packet
-  forged; and with the code of an LL_TERMINATE_IND that it took, once it has sent a packet after that. None that is overdue
-  is open after that turn;
+  supervision timeout has passed since the last good packet; with 00 where its host completes a Reset; with 16 where
+  its side sent LL_TERMINATE_IND, or its host ended the link, or had no key for it, a supervision timeout before; with
+  28 where it took an indication whose Instant has passed; with 3D where it judged a packet forged; and with the code
+  of an LL_TERMINATE_IND that it took, once it has sent a packet after that. None that is overdue is open after that
+  turn;
 - a side runs one control procedure of its own at a time, and what is done or refused is the one that it began, or a
   version exchange that it has not begun;
 - an indication comes into force just before the event of its Instant, or the one after that at a peripheral that took it
@@ -28,6 +29,8 @@ import glob
 import os
 import sys
 
+DISCONNECT = b"\x06\x04"
+NO_KEY = b"\x1b\x20"
 HERE = os.path.dirname(os.path.abspath(__file__))
 OTHER = {"a": "b", "b": "a"}
 
@@ -66,15 +69,19 @@ def packet_address(packet):
     return packet[:4].hex()
 
 
+def completed(octets, since):
+    """The commands that end in these octets of a host, after the first `since` of them."""
+    at = 0
+    while at + 4 <= len(octets):
+        size = 4 + octets[at + 3] if octets[at] == 1 else 5 + number(octets[at + 3 : at + 5])
+        if octets[at] == 1 and since < at + size <= len(octets):
+            yield octets[at : at + size]
+        at += size
+
+
 def completes_reset(octets, since):
     """Whether a Reset ends in these octets of a host, after the first `since` of them."""
-    at = 0
-    while at < len(octets):
-        size = 4 + octets[at + 3] if octets[at] == 1 else 5 + number(octets[at + 3 : at + 5])
-        if octets[at : at + size] == b"\x01\x03\x0c\x00" and at + size > since:
-            return True
-        at += size
-    return False
+    return b"\x01\x03\x0c\x00" in completed(octets, since)
 
 
 class Side:
@@ -91,6 +98,8 @@ class Side:
         self.next_event = {}
         self.running = {}
         self.terminates = set()
+        self.leaving = []  # the commands that end a link and are not answered yet
+        self.left = {}  # since when a link is to end
         self.peer_code = {}
         self.passed = set()
         self.forged = set()
@@ -127,16 +136,28 @@ class Reader:
         side = self.sides[side]
         side.since = len(side.fed)
         side.fed += bytes.fromhex(octets)
+        side.leaving += [it for it in completed(side.fed, side.since) if it[1:3] in (DISCONNECT, NO_KEY)]
 
     def up(self, side, octets):
         octets = bytes.fromhex(octets)
         handles = self.sides[side].open.values()
+        self.answered(self.sides[side], octets)
         if octets[0] == 2:
             if number(octets[1:3]) & 0xFFF not in handles or number(octets[3:5]) != len(octets) - 5:
                 raise Fault("data of no open link, or of another length")
         if octets[:2] == b"\x04\x13":
             if octets[2:4] != b"\x05\x01" or len(octets) != 8 or number(octets[4:6]) not in handles:
                 raise Fault("complete packets of no open link, or of several handles")
+
+    def answered(self, side, octets):
+        """An answer to a command that ends a link."""
+        opcode, status = (octets[4:6], octets[6:7]) if octets[1] == 0x0E else (octets[5:7], octets[3:4])
+        if octets[:2] not in (b"\x04\x0e", b"\x04\x0f") or opcode not in (DISCONNECT, NO_KEY) or not side.leaving:
+            return
+        handle = number(side.leaving.pop(0)[4:6])
+        for link, own in side.open.items():
+            if status == b"\0" and own == handle:
+                side.left.setdefault(link, self.slot)
 
     def air(self, side, channel, octets, _fate, verdict):
         packet = bytes.fromhex(octets)
@@ -229,14 +250,14 @@ class Reader:
             "3e": link in side.overdue and not heard,
             "08": link in side.overdue and heard,
             "00": completes_reset(side.fed, side.since),
-            "16": link in side.terminates,
+            "16": link in side.terminates or self.slot - side.left.get(link, self.slot) >= side.times[link][1],
             "28": link in side.passed,
             "3d": link in side.forged,
         }
         if not due.get(reason, False) and side.ends.get(link) != reason:
             raise Fault("a link that is shut without this reason")
         side.overdue.discard(link)
-        for kept in (side.open, side.running, side.peer_code):
+        for kept in (side.open, side.running, side.peer_code, side.left):
             kept.pop(link, None)
 
     def line(self, text):

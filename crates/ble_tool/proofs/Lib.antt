@@ -2,3 +2,4 @@
 mod CountedLinks
 mod CountedOctets
 mod Lawful
+mod NoneUnseen

@@ -2,3 +2,4 @@
 pub mod Counts
 pub mod Lawful
 pub mod Ending
+pub mod Short

@@ -1,8 +1,10 @@
 //! A call of the program: from its words to its status.
-ghost use Rattle.std.specs.Prelude.{◌≡◌, ◌↔◌, ◌⊎◌, Some, IsNone, map, string_bytes};
+ghost use Rattle.std.specs.Prelude.{◌≡◌, ◌≢◌, ◌↔◌, ◌⊎◌, ℕ, List, Some, IsNone, map, string_bytes};
 ghost use Rattle.ble_tool.specs.Ending.{IsEnding};
+ghost use Rattle.ble_tool.specs.Short.{IsShortText};
 ghost use Rattle.program.specs.Commands.{command_of};
 ghost use Rattle.program.specs.Ending.{CanPerform, NoneHasRisen, IsReliable};
+ghost use Rattle.program.specs.PairFiles.{PairFiles};
 ghost use Rattle.program.specs.Puts.{Says};
 ghost use Rattle.program.specs.World.{world_of, reads_of, writes_of};
 ghost use Rattle.program.specs.declared.commands.Command.{Command};
@@ -38,6 +40,9 @@ use std::alloc::Global;
 /// PDU goes out and is taken as it is due; after each of its lines what one host receives of a link
 /// is the first octets of what the other submitted, and no packet is reported as complete that the
 /// other side did not accept whole (Core 5.2, volume 4 part E, section 4.1).
+///
+/// Over a schedule each of whose damages changes at most 24 consecutive bits of PDU and CRC, the
+/// status is never 6.
 pub fn ble_tool<F: Files, O: Sink, E: Sink>(
     alloc: Global,
     words: &Vec<String>,
@@ -66,6 +71,13 @@ pub fn ble_tool<F: Files, O: Sink, E: Sink>(
         command_of given ≡ Some command → CanPerform command world.reads
         → IsReliable command world → (result ≡ 0) ⊎ (result ≡ 5) }
 
+    // Over a schedule whose damages are all short, no packet that was changed is judged good.
+    ensures short { (names : PairFiles) (text : List ℕ)
+        → let given = map string_bytes words.now.items in
+        let reads = reads_of F.content F.is_reliable F.faults files.old files.new in
+        command_of given ≡ Some (Command.Pair names) → reads.content names.schedule ≡ Some text
+        → IsShortText text → result ≢ 6 }
+
     // Every call has an ending: its status, what holds then, and what was written to `err`.
     ensures ending { let given = map string_bytes words.now.items in
         let world = world_of
@@ -74,5 +86,6 @@ pub fn ble_tool<F: Files, O: Sink, E: Sink>(
         IsEnding given world (Says E.written E.faults E.wants_memory err.old err.new) result }
 {
     journal_pdus::each_journal_is_lawful();
+    short_damage::short_damage_never_ends_a_run();
     run_words(alloc, words, files, out, err)
 }
